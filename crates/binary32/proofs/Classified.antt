@@ -1,0 +1,142 @@
+-- The class of a pattern stands for the value that the pattern decodes to, within bounds; and a flipped sign bit negates. Assumes nothing.
+use mathlib.Core.Path.{_≡_, refl, sym, ap, ap₂, _∙_, subst}
+use mathlib.Core.Logic.{_⊎_, inl, inr}
+use mathlib.Core.Bool.{Bool, true, false, not, cond}
+use Prim.Native.Nat.{ℕ, zero, suc, _+_, _-_, _*_, _/_, _%_, _^_, _≤_, _<_}
+use native.Mathlib.Nat.{mul-one, lt-irrefl, mod-lt}
+use native.Mathlib.Decide.{decLe}
+use native.Mathlib.Omega.{arith}
+use borrow.Author.Tests.{lt-leb, le-leb, lt-ltb, le-ltb, eq-eqb, ne-eqb}
+use lib.Dec.{leb, ltb, eqb}
+use lib.Pow.{pow-pos, mod-mod-pow}
+use Rattle.rounding.specs.Format.{binary32, infinity}
+use Rattle.rounding.specs.Value.{Value, nan, infinite, finite, fields, magnitude, unsigned, decode}
+use Rattle.rounding.proofs.Compare.{tri}
+use Rattle.rounding.proofs.Codec.{unsigned-finite, unsigned-infinite, unsigned-nan}
+use Rattle.binary32.specs.declared.class.Class.{Class}
+use Rattle.binary32.specs.declared.class.Class.the-variants.{Finite, Infinite, NotANumber}
+use Rattle.binary32.specs.Exact.{negate}
+use Rattle.binary32.specs.Classes.{byField, classOf, valueOf, flip, Operand, Bounded}
+
+-- ---- the four cases
+module _ (s : Bool) (m : ℕ) where
+  field-zero : (E : ℕ) → E ≡ 0 → byField s E m ≡ Finite s m 0
+  field-zero E e = rw e
+
+  field-normal : (E : ℕ) → 1 ≤ E → E ≤ 254 → byField s E m ≡ Finite s (2 ^ 23 + m) (E - 1)
+  field-normal zero l h = absurd (lt-irrefl 0 l)
+  field-normal (suc e) l h = rw (ne-eqb (suc e) 255 (λ (q : suc e ≡ 255). omega arith)) (ap (Finite s (2 ^ 23 + m)) (omega arith))
+
+  field-infinite : (E : ℕ) → E ≡ 255 → m ≡ 0 → byField s E m ≡ Infinite s
+  field-infinite E e z = rw (e, z)
+
+  field-nan : (E : ℕ) → E ≡ 255 → (m ≡ 0 → ⊥) → byField s E m ≡ NotANumber
+  field-nan E e n = rw (e, ne-eqb m 0 n)
+
+module _ (x : ℕ) where
+  pub class-zero : x % 2 ^ 31 / 2 ^ 23 ≡ 0 → Finite (leb (2 ^ 31) x) (x % 2 ^ 23) 0 ≡ classOf x
+  unfolding classOf
+  class-zero e = sym (field-zero (leb (2 ^ 31) x) (x % 2 ^ 23) (x % 2 ^ 31 / 2 ^ 23) e)
+
+  pub class-normal : 1 ≤ x % 2 ^ 31 / 2 ^ 23 → x % 2 ^ 31 / 2 ^ 23 ≤ 254 → Finite (leb (2 ^ 31) x) (2 ^ 23 + x % 2 ^ 23) (x % 2 ^ 31 / 2 ^ 23 - 1) ≡ classOf x
+  unfolding classOf
+  class-normal l h = sym (field-normal (leb (2 ^ 31) x) (x % 2 ^ 23) (x % 2 ^ 31 / 2 ^ 23) l h)
+
+  pub class-infinite : 254 < x % 2 ^ 31 / 2 ^ 23 → x % 2 ^ 23 ≡ 0 → Infinite (leb (2 ^ 31) x) ≡ classOf x
+  unfolding classOf
+  class-infinite l z = sym (field-infinite (leb (2 ^ 31) x) (x % 2 ^ 23) (x % 2 ^ 31 / 2 ^ 23) (omega arith) z)
+
+  pub class-nan : 254 < x % 2 ^ 31 / 2 ^ 23 → (x % 2 ^ 23 ≡ 0 → ⊥) → NotANumber ≡ classOf x
+  unfolding classOf
+  class-nan l n = sym (field-nan (leb (2 ^ 31) x) (x % 2 ^ 23) (x % 2 ^ 31 / 2 ^ 23) (omega arith) n)
+
+-- ---- the value
+module _ (s : Bool) (c : ℕ) where
+  value-zero : c / 2 ^ 23 ≡ 0 → finite s (c % 2 ^ 23 * 2 ^ 0) ≡ unsigned binary32 s c
+  unfolding magnitude fields
+  value-zero e =
+      let v : magnitude 23 c ≡ c % 2 ^ 23 = rw e in
+      sym (unsigned-finite binary32 s c (omega arith) ∙ ap (finite s) (v ∙ sym (mul-one (c % 2 ^ 23))))
+
+  value-normal : (E : ℕ) → c / 2 ^ 23 ≡ E → 1 ≤ E → E ≤ 254 → finite s ((2 ^ 23 + c % 2 ^ 23) * 2 ^ (E - 1)) ≡ unsigned binary32 s c
+  unfolding magnitude fields
+  value-normal zero e l h = absurd (lt-irrefl 0 l)
+  value-normal (suc d) e l h =
+      let v : magnitude 23 c ≡ (2 ^ 23 + c % 2 ^ 23) * 2 ^ d = rw e in
+      let w : suc d - 1 ≡ d = omega arith in
+      sym (unsigned-finite binary32 s c (omega arith) ∙ ap (finite s) (v ∙ ap (λ (k : ℕ). (2 ^ 23 + c % 2 ^ 23) * 2 ^ k) (sym w)))
+
+pub value-class : (x : ℕ) → valueOf (classOf x) ≡ decode binary32 x
+unfolding valueOf decode
+value-class x =
+    let s = leb (2 ^ 31) x in
+    let c = x % 2 ^ 31 in
+    let m : c % 2 ^ 23 ≡ x % 2 ^ 23 = mod-mod-pow x 8 23 in
+    elim (tri (c / 2 ^ 23) 0) [
+      | inl h ↦ absurd (omega arith)
+      | inr o ↦ elim o [
+        | inl e ↦ ap valueOf (sym (class-zero x e)) ∙ ap (λ (k : ℕ). finite s (k * 2 ^ 0)) (sym m) ∙ value-zero s c e
+        | inr p ↦ elim (decLe (c / 2 ^ 23) 254) [
+          | yes h ↦ ap valueOf (sym (class-normal x p h)) ∙ ap (λ (k : ℕ). finite s ((2 ^ 23 + k) * 2 ^ (c / 2 ^ 23 - 1))) (sym m) ∙ value-normal s c (c / 2 ^ 23) refl p h
+          | no h ↦ elim (tri (x % 2 ^ 23) 0) [
+            | inl g ↦ absurd (omega arith)
+            | inr q ↦ elim q [
+              | inl z ↦ ap valueOf (sym (class-infinite x (omega arith) z)) ∙ sym (unsigned-infinite binary32 s c (omega arith))
+              | inr z ↦ ap valueOf (sym (class-nan x (omega arith) (λ (g : x % 2 ^ 23 ≡ 0). omega arith))) ∙ sym (unsigned-nan binary32 s c (omega arith))
+            ]
+          ]
+        ]
+      ]
+    ]
+
+-- ---- the bounds
+byField-bounded : (s : Bool) (E m : ℕ) → m < 2 ^ 23 → E ≤ 255 → Bounded Operand (byField s E m)
+byField-bounded s E m h l =
+    elim (tri E 0) [
+      | inl g ↦ absurd (omega arith)
+      | inr o ↦ elim o [
+        | inl e ↦ rw (field-zero s m E e) (record { sig = omega arith; exp = omega arith; leads = λ g. absurd (lt-irrefl 0 g) })
+        | inr p ↦ elim (decLe E 254) [
+          | yes g ↦ rw (field-normal s m E p g) (record { sig = omega arith; exp = omega arith; leads = λ k. omega arith })
+          | no g ↦ elim (tri m 0) [
+            | inl k ↦ absurd (omega arith)
+            | inr q ↦ elim q [
+              | inl z ↦ rw (field-infinite s m E (omega arith) z) tt
+              | inr z ↦ rw (field-nan s m E (omega arith) (λ (k : m ≡ 0). omega arith)) tt
+            ]
+          ]
+        ]
+      ]
+    ]
+
+pub class-bounded : (x : ℕ) → Bounded Operand (classOf x)
+unfolding classOf
+class-bounded x = byField-bounded (leb (2 ^ 31) x) (x % 2 ^ 31 / 2 ^ 23) (x % 2 ^ 23) (omega arith) (omega arith)
+
+-- ---- the sign bit
+negate-unsigned : (s : Bool) (c : ℕ) → unsigned binary32 (not s) c ≡ negate (unsigned binary32 s c)
+unfolding negate
+negate-unsigned s c =
+    elim (tri c (infinity binary32)) [
+      | inl h ↦ unsigned-finite binary32 (not s) c h ∙ sym (ap negate (unsigned-finite binary32 s c h))
+      | inr o ↦ elim o [
+        | inl e ↦ unsigned-infinite binary32 (not s) c e ∙ sym (ap negate (unsigned-infinite binary32 s c e))
+        | inr h ↦ unsigned-nan binary32 (not s) c h ∙ sym (ap negate (unsigned-nan binary32 s c h))
+      ]
+    ]
+
+pub decode-flip : (x : ℕ) → x < 2 ^ 32 → decode binary32 (flip x) ≡ negate (decode binary32 x)
+unfolding decode
+decode-flip x h =
+    elim (decLe (2 ^ 31) x) [
+      | yes g ↦
+          let a : leb (2 ^ 31) x ≡ true = le-leb (2 ^ 31) x g in
+          let b : leb (2 ^ 31) (x - 2 ^ 31) ≡ false = lt-leb (2 ^ 31) (x - 2 ^ 31) (omega arith) in
+          let m : (x - 2 ^ 31) % 2 ^ 31 ≡ x % 2 ^ 31 = omega arith in
+          rw (a, b, m) (negate-unsigned true (x % 2 ^ 31))
+      | no g ↦
+          let a : leb (2 ^ 31) x ≡ false = lt-leb (2 ^ 31) x (omega arith) in
+          let b : leb (2 ^ 31) (x + 2 ^ 31) ≡ true = le-leb (2 ^ 31) (x + 2 ^ 31) (omega arith) in
+          let m : (x + 2 ^ 31) % 2 ^ 31 ≡ x % 2 ^ 31 = omega arith in
+          rw (a, b, m) (negate-unsigned false (x % 2 ^ 31))
+    ]

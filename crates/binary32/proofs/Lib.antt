@@ -1,0 +1,6 @@
+pub mod Result
+pub mod Classified
+pub mod Sums
+pub mod Special
+pub mod Near
+pub mod Far

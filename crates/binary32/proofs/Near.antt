@@ -1,0 +1,49 @@
+-- The sum of two operands whose exponents are near: both at the lower exponent, exactly; and the pattern of an operand. Assumes nothing.
+use mathlib.Core.Path.{_≡_, refl, sym, ap, ap₂, _∙_}
+use mathlib.Core.Bool.{Bool, true, false}
+use Prim.Native.Nat.{ℕ, suc, _+_, _-_, _*_, _%_, _^_, _≤_, _<_}
+use native.Mathlib.Nat.{le-trans, le-of-eq, lt-of-lt-of-le, mul-assoc, mod-eq-of-lt, sub-add-cancel, mul-lt-mul-of-pos-right, pow-succ'}
+use native.Mathlib.Omega.{arith}
+use lib.Pow.{pow-add, pow-pos, pow-mono, shl-lt}
+use Rattle.rounding.specs.declared.Ties.the-variants.{ToEven}
+use Rattle.rounding.specs.Format.{binary32, low}
+use Rattle.rounding.specs.Value.{Value, finite, encode, signed, bits, roundFinite, round}
+use Rattle.rounding.proofs.Bits.{bits-at}
+use Rattle.binary32.specs.Exact.{plusFinite, plus, finer}
+use Rattle.binary32.specs.Steps.{addValue}
+use Rattle.binary32.specs.Classes.{Operand}
+use Rattle.binary32.proofs.Sums.{sum-swap, sum-scale, finer-sum}
+
+pub joined : (m i j k : ℕ) → i + j ≡ k → m * 2 ^ i * 2 ^ j ≡ m * 2 ^ k
+joined m i j k e = mul-assoc m (2 ^ i) (2 ^ j) ∙ ap (λ (x : ℕ). m * x) (sym (pow-add 2 i j) ∙ ap (λ (x : ℕ). 2 ^ x) e)
+
+-- a significand of w digits moved up by g places stays below 2 ^ 63
+pub moved : (m w g : ℕ) → m < 2 ^ w → w + g ≤ 63 → (m * 2 ^ g % 2 ^ 64 ≡ m * 2 ^ g) × (m * 2 ^ g < 2 ^ 63)
+moved m w g h l =
+    let b : m * 2 ^ g < 2 ^ 63 = lt-of-lt-of-le (shl-lt w g h) (pow-mono {j = 63} l) in
+    (mod-eq-of-lt (omega arith), b)
+
+-- rounding of a sum of magnitudes at one exponent
+pub round-sum-is : (s : Bool) (a : ℕ) (t : Bool) (b k : ℕ) (r : Bool) (c : ℕ) → plusFinite s a t b ≡ finite r c
+    → encode binary32 (roundFinite ToEven binary32 r (c * 2 ^ k)) ≡ encode binary32 (round ToEven binary32 (plusFinite s (a * 2 ^ k) t (b * 2 ^ k)))
+unfolding round
+round-sum-is s a t b k r c e = ap (λ (v : Value). encode binary32 (round ToEven binary32 v)) (sym (sum-scale s a t b (2 ^ k) (pow-pos k) r c e))
+
+-- the addends exchanged
+pub add-swap : (s : Bool) (a : ℕ) (t : Bool) (b : ℕ) → addValue binary32 (finite t b) (finite s a) ≡ addValue binary32 (finite s a) (finite t b)
+unfolding addValue plus
+add-swap s a t b = ap (λ (v : Value). round ToEven binary32 (finer binary32 v)) (sum-swap s a t b)
+
+pub near-sum : (s : Bool) (m e : ℕ) (t : Bool) (n d : ℕ) → m < 2 ^ 24 → d ≤ e → e - d ≤ 31
+    → encode binary32 (round ToEven binary32 (plusFinite s (m * 2 ^ (e - d) % 2 ^ 64 * 2 ^ (d + 149)) t (n * 2 ^ (d + 149)))) ≡ encode binary32 (addValue binary32 (finite s (m * 2 ^ e)) (finite t (n * 2 ^ d)))
+unfolding addValue plus
+near-sum s m e t n d h l g =
+    let x : m * 2 ^ (e - d) % 2 ^ 64 * 2 ^ (d + 149) ≡ m * 2 ^ e * 2 ^ 149 =
+    ap (λ (y : ℕ). y * 2 ^ (d + 149)) (moved m 24 (e - d) h (omega arith) .0) ∙ joined m (e - d) (d + 149) (e + 149) (omega arith) ∙ sym (joined m e 149 (e + 149) refl)
+    in
+    let y : n * 2 ^ (d + 149) ≡ n * 2 ^ d * 2 ^ 149 = sym (joined n d 149 (d + 149) refl) in
+    ap (λ (v : Value). encode binary32 (round ToEven binary32 v)) (ap₂ (λ (p q : ℕ). plusFinite s p t q) x y ∙ sym (finer-sum binary32 s (m * 2 ^ e) t (n * 2 ^ d)))
+
+-- the pattern of an operand
+pub operand-bits : (m e : ℕ) → Operand m e → bits 23 (m * 2 ^ e) ≡ e * 2 ^ 23 + m
+operand-bits m e o = bits-at 23 e m (omega (arith, o .sig)) (o .leads)

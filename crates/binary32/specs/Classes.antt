@@ -1,0 +1,44 @@
+-- The class of a pattern by its exponent field, as the code holds it, and the value that a class stands for. Assumes nothing.
+use Prim.Native.Nat.{ℕ, zero, suc, _+_, _-_, _*_, _/_, _%_, _^_, _≤_, _<_}
+use mathlib.Core.Path.{_≡_}
+use mathlib.Core.Bool.{Bool, cond}
+use lib.Dec.{leb, eqb}
+use Rattle.rounding.specs.Value.{Value, nan, infinite, finite}
+use Rattle.binary32.specs.declared.class.Class.{Class}
+use Rattle.binary32.specs.declared.class.Class.the-variants.{Finite, Infinite, NotANumber}
+
+-- by exponent field and fraction: "Exponent field 0 is zero or subnormal, 1 to 254 normal, 255 infinite or NaN."
+abbrev pub byField : Bool → ℕ → ℕ → Class
+byField s zero m = Finite s m 0
+byField s (suc e) m = cond (eqb (suc e) 255) (cond (eqb m 0) (Infinite s) NotANumber) (Finite s (2 ^ 23 + m) e)
+
+unfoldable pub classOf : ℕ → Class
+classOf x = byField (leb (2 ^ 31) x) (x % 2 ^ 31 / 2 ^ 23) (x % 2 ^ 23)
+
+-- the value that a class stands for
+unfoldable pub valueOf : Class → Value
+valueOf (Finite s m e) = finite s (m * 2 ^ e)
+valueOf (Infinite s) = infinite s
+valueOf NotANumber = nan
+
+-- the pattern with its sign bit flipped
+abbrev pub flip : ℕ → ℕ
+flip x = cond (leb (2 ^ 31) x) (x - 2 ^ 31) (x + 2 ^ 31)
+
+-- ---- bounds of the significands and exponents that the code holds
+-- of an operand: 24 digits at most, and all of them where the exponent could be lower
+pub record Operand (m e : ℕ) : Type 0 where
+  pub sig : m < 2 ^ 24
+  pub exp : e ≤ 253
+  pub leads : 0 < e → 2 ^ 23 ≤ m
+
+-- of a product of two operands
+pub record Product (m e : ℕ) : Type 0 where
+  pub sig : m < 2 ^ 48
+  pub exp : e ≤ 506
+  pub leads : 0 < e → 0 < m → 2 ^ 23 ≤ m
+
+abbrev pub Bounded : (ℕ → ℕ → Type 0) → Class → Type 0
+Bounded P (Finite s m e) = P m e
+Bounded P (Infinite s) = Unit {0}
+Bounded P NotANumber = Unit {0}

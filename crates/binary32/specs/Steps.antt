@@ -1,0 +1,50 @@
+-- The four rounding steps (document 01, "Steps"): the exact result, and one rounding with ties to even. Assumes nothing.
+use Prim.Native.Nat.{ℕ}
+use mathlib.Core.List.{List, [], _∷_}
+use Rattle.rounding.specs.declared.Ties.the-variants.{ToEven}
+use Rattle.rounding.specs.Format.{Format, binary32}
+use Rattle.rounding.specs.Value.{Value, nan, infinite, finite, decode, nanOf, encode, round}
+use Rattle.binary32.specs.Exact.{negate, plus, times, finer}
+
+-- ---- on values, in any format
+unfoldable pub addValue : Format → Value → Value → Value
+unfolding round plus finer
+addValue F x y = round ToEven F (finer F (plus x y))
+
+unfoldable pub subValue : Format → Value → Value → Value
+unfolding addValue negate
+subValue F x y = addValue F x (negate y)
+
+unfoldable pub mulValue : Format → Value → Value → Value
+unfolding round times
+mulValue F x y = round ToEven F (times x y)
+
+-- "one rounding of product plus third operand"
+unfoldable pub fmaValue : Format → Value → Value → Value → Value
+unfolding round plus times finer
+fmaValue F x y z = round ToEven F (plus (times x y) (finer F z))
+
+-- ---- on patterns of binary32
+
+-- The pattern of a result. A NaN result is a matter of the operands: `nanOf` alone decides it.
+unfoldable pub result : List ℕ → Value → ℕ
+unfolding encode
+result operands nan = nanOf binary32 operands
+result operands (infinite s) = encode binary32 (infinite s)
+result operands (finite s a) = encode binary32 (finite s a)
+
+unfoldable pub addStep : ℕ → ℕ → ℕ
+unfolding result addValue decode
+addStep x y = result (x ∷ y ∷ []) (addValue binary32 (decode binary32 x) (decode binary32 y))
+
+unfoldable pub subStep : ℕ → ℕ → ℕ
+unfolding result subValue decode
+subStep x y = result (x ∷ y ∷ []) (subValue binary32 (decode binary32 x) (decode binary32 y))
+
+unfoldable pub mulStep : ℕ → ℕ → ℕ
+unfolding result mulValue decode
+mulStep x y = result (x ∷ y ∷ []) (mulValue binary32 (decode binary32 x) (decode binary32 y))
+
+unfoldable pub fmaStep : ℕ → ℕ → ℕ → ℕ
+unfolding result fmaValue decode
+fmaStep x y z = result (x ∷ y ∷ z ∷ []) (fmaValue binary32 (decode binary32 x) (decode binary32 y) (decode binary32 z))

@@ -1,0 +1,51 @@
+// The class of a pattern: its sign, significand and exponent, or what stands in their place.
+ghost use mathlib.Core.Path.{_≡_};
+ghost use Rattle.binary32.specs.Classes.{classOf, flip};
+
+// A finite number is sig * 2^exp units of 2^-149, or of 2^-298 for a product.
+pub enum Class {
+    Finite { sign: bool, sig: u64, exp: u16 },
+    Infinite(bool),
+    NotANumber,
+}
+
+// Every NaN result.
+pub const NAN: u32 = 0x7fc0_0000;
+
+pub fn classify(x: u32) -> Class
+    ensures { λ r. ⌜ r ≡ classOf x ⌝ }
+{
+    let sign = x >= 0x8000_0000;
+    let field = x % 0x8000_0000 / 0x80_0000;
+    let fraction = x % 0x80_0000;
+    match field {
+        0 => Class::Finite {
+            sign,
+            sig: fraction as u64,
+            exp: 0,
+        },
+        1..=254 => Class::Finite {
+            sign,
+            sig: (0x80_0000 + fraction) as u64,
+            exp: (field - 1) as u16,
+        },
+        _ => {
+            if fraction == 0 {
+                Class::Infinite(sign)
+            } else {
+                Class::NotANumber
+            }
+        }
+    }
+}
+
+// The pattern with its sign bit flipped.
+pub fn flipped(x: u32) -> u32
+    ensures { λ r. ⌜ r ≡ flip x ⌝ }
+{
+    if x >= 0x8000_0000 {
+        x - 0x8000_0000
+    } else {
+        x + 0x8000_0000
+    }
+}

@@ -1,0 +1,133 @@
+// Sums of two classes, rounded once.
+use rounding::Ties;
+use crate::class::Class;
+use crate::class::NAN;
+ghost use mathlib.Core.Path.{_≡_};
+ghost use Prim.Native.Nat.{_+_, _*_, _^_, _≤_, _<_};
+ghost use Rattle.rounding.specs.declared.Ties.the-variants.{ToEven};
+ghost use Rattle.rounding.specs.Format.{binary32};
+ghost use Rattle.rounding.specs.Value.{infinite, finite, encode, round};
+ghost use Rattle.binary32.specs.Exact.{plusFinite, plus};
+ghost use Rattle.binary32.specs.Steps.{addValue};
+ghost use Rattle.binary32.specs.Classes.{valueOf, Operand, Bounded};
+
+// The sum of two operands.
+pub fn plus(a: Class, b: Class) -> u32
+    requires { ⌜ Bounded Operand a ⌝ }
+    requires { ⌜ Bounded Operand b ⌝ }
+    ensures { λ r. ⌜ r ≡ encode binary32 (addValue binary32 (valueOf a) (valueOf b)) ⌝ }
+{
+    match a {
+        Class::NotANumber => NAN,
+        Class::Infinite(s) => infinite_plus(s, b),
+        Class::Finite {
+            sign: s,
+            sig: m,
+            exp: e,
+        } => finite_plus(s, m, e, b),
+    }
+}
+
+// An infinity and an operand, which need no rounding.
+pub fn infinite_plus(s: bool, b: Class) -> u32
+    ensures { λ r. ⌜ r ≡ encode binary32 (plus (infinite s) (valueOf b)) ⌝ }
+{
+    match b {
+        Class::NotANumber => NAN,
+        Class::Infinite(t) => { if s == t { infinity(s) } else { NAN } }
+        Class::Finite {
+            sign: _,
+            sig: _,
+            exp: _,
+        } => infinity(s),
+    }
+}
+
+pub fn infinity(sign: bool) -> u32
+    ensures { λ r. ⌜ r ≡ encode binary32 (infinite sign) ⌝ }
+{
+    if sign { 0xff80_0000 } else { 0x7f80_0000 }
+}
+
+fn finite_plus(s: bool, m: u64, e: u16, b: Class) -> u32
+    requires { ⌜ Operand m e ⌝ }
+    requires { ⌜ Bounded Operand b ⌝ }
+    ensures { λ r. ⌜ r ≡ encode binary32 (addValue binary32 (finite s (m * 2 ^ e)) (valueOf b)) ⌝ }
+{
+    match b {
+        Class::NotANumber => NAN,
+        Class::Infinite(t) => infinity(t),
+        Class::Finite {
+            sign: t,
+            sig: n,
+            exp: d,
+        } => finite_sum(s, m, e, t, n, d),
+    }
+}
+
+fn finite_sum(s: bool, m: u64, e: u16, t: bool, n: u64, d: u16) -> u32
+    requires { ⌜ Operand m e ⌝ }
+    requires { ⌜ Operand n d ⌝ }
+    ensures { λ r. ⌜ r ≡ encode binary32 (addValue binary32 (finite s (m * 2 ^ e)) (finite t (n * 2 ^ d))) ⌝ }
+{
+    if d <= e {
+        ordered_sum(s, m, e, t, n, d)
+    } else {
+        ordered_sum(t, n, d, s, m, e)
+    }
+}
+
+// The first exponent is not below the second. Beyond 31 places apart the second does not reach a quarter of the first's last place.
+fn ordered_sum(s: bool, m: u64, e: u16, t: bool, n: u64, d: u16) -> u32
+    requires { ⌜ d ≤ e ⌝ }
+    requires { ⌜ Operand m e ⌝ }
+    requires { ⌜ Operand n d ⌝ }
+    ensures { λ r. ⌜ r ≡ encode binary32 (addValue binary32 (finite s (m * 2 ^ e)) (finite t (n * 2 ^ d))) ⌝ }
+{
+    let gap = e - d;
+    if gap > 31 {
+        return packed(s, m, e);
+    }
+    round_sum(s, m << gap, t, n, d + 149)
+}
+
+// The pattern of an operand: exponent and significand side by side.
+fn packed(sign: bool, sig: u64, exp: u16) -> u32
+    requires { ⌜ Operand sig exp ⌝ }
+    ensures { λ r. ⌜ r ≡ encode binary32 (finite sign (sig * 2 ^ exp)) ⌝ }
+{
+    let c = (exp as u32) * 0x80_0000 + (sig as u32);
+    if sign { 0x8000_0000 + c } else { c }
+}
+
+// ±a * 2^exp and ±b * 2^exp units of 2^-298.
+pub fn round_sum(s: bool, a: u64, t: bool, b: u64, exp: u16) -> u32
+    requires { ⌜ (a < 2 ^ 63) × (b < 2 ^ 63) ⌝ }
+    ensures { λ r. ⌜ r ≡ encode binary32 (round ToEven binary32 (plusFinite s (a * 2 ^ exp) t (b * 2 ^ exp))) ⌝ }
+{
+    let sum = signed_sum(s, a, t, b);
+    rounding::round(Ties::ToEven, sum.sign, sum.sig, exp)
+}
+
+// A magnitude with its sign.
+pub struct Signed {
+    pub sign: bool,
+    pub sig: u64,
+}
+
+// ±a ± b, exactly.
+fn signed_sum(s: bool, a: u64, t: bool, b: u64) -> Signed
+    requires { ⌜ (a < 2 ^ 63) × (b < 2 ^ 63) ⌝ }
+    ensures { λ r. ⌜ plusFinite s a t b ≡ finite (r .sign) (r .sig) ⌝ }
+{
+    if s == t {
+        return Signed { sign: s, sig: a + b };
+    }
+    if b < a {
+        return Signed { sign: s, sig: a - b };
+    }
+    if a < b {
+        return Signed { sign: t, sig: b - a };
+    }
+    Signed { sign: false, sig: 0 }
+}

@@ -1,0 +1,5 @@
+pub mod Format
+pub mod Round
+pub mod Nearest
+pub mod Value
+pub mod Theorems

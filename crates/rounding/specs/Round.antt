@@ -1,0 +1,36 @@
+-- Rounding to nearest (document 01, "Patterns and rounding"), with no upper bound on the exponent. Assumes nothing.
+-- f fraction bits are kept behind the leading one. A magnitude N is a whole number of some unit, in which u is 2 ^ L:
+-- L is 0 where N counts u, and 149 where N counts 2 ^ -298, the unit of products and totals, in binary32.
+use Prim.Native.Nat.{ℕ, suc, _+_, _-_, _*_, _/_, _%_, _^_, max, compare, Ordering, Ordering·lt, Ordering·eq, Ordering·gt}
+use lib.Ieee.{size}
+use Rattle.rounding.specs.declared.Ties.{Ties}
+use Rattle.rounding.specs.declared.Ties.the-variants.{ToEven, ToZero}
+
+-- Halfway between q and suc q. RNe: "ties to the even last bit"; RN0: "ties to the smaller magnitude".
+abbrev pub tied : Ties → ℕ → ℕ
+tied ToEven q = q + q % 2
+tied ToZero q = q
+
+-- q or suc q, whichever is nearer, by how twice the remainder compares with the divisor
+abbrev pub nearest : Ties → ℕ → Ordering → ℕ
+nearest t q Ordering·lt = q
+nearest t q Ordering·eq = tied t q
+nearest t q Ordering·gt = suc q
+
+-- N / 2 ^ k to the nearest whole number
+unfoldable pub keep : Ties → ℕ → ℕ → ℕ
+keep t k N = nearest t (N / 2 ^ k) (compare (2 * (N % 2 ^ k)) (2 ^ k))
+
+-- The exponent of N's last place: suc f digits are kept, and none below u. `size` counts binary digits.
+unfoldable pub ulp : ℕ → ℕ → ℕ → ℕ
+ulp f L N = max L (size N - suc f)
+
+-- N rounded to the nearest number of the format, in units of u
+unfoldable pub rounded : Ties → ℕ → ℕ → ℕ → ℕ
+rounded t f L N = keep t (ulp f L N) N * 2 ^ (ulp f L N - L)
+
+-- ---- of the code
+-- what is added to a remainder, so that more than half a unit means up: a tie goes up from an odd quotient under RNe alone
+abbrev pub tieBit : Ties → ℕ → ℕ
+tieBit ToEven q = q % 2
+tieBit ToZero q = 0

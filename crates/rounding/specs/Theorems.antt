@@ -1,0 +1,85 @@
+-- What is proved of patterns and rounding. Each name is a statement; `proofs/Theorems.antt` has its proof. Assumes nothing.
+use mathlib.Core.Path.{_≡_}
+use mathlib.Core.Logic.{_⊎_, _≢_}
+use mathlib.Core.Bool.{Bool}
+use Prim.Native.Nat.{ℕ, suc, _+_, _*_, _%_, _^_, _≤_, _<_}
+use Rattle.rounding.specs.declared.Ties.{Ties}
+use Rattle.rounding.specs.declared.Ties.the-variants.{ToEven, ToZero}
+use Rattle.rounding.specs.Format.{Format, Proper, low, edge, signBit}
+use Rattle.rounding.specs.Round.{rounded}
+use Rattle.rounding.specs.Nearest.{dist, Rep, Near, Near0}
+use Rattle.rounding.specs.Value.{Value, nan, infinite, finite, Fits, decode, bits, encode, roundFinite, round}
+
+-- ---- nearest, for every precision and every lowest exponent
+-- the rounded number is representable, and no representable number is nearer
+abbrev pub Nearest : Type 0
+Nearest = (t : Ties) (f L N : ℕ) → Near (suc f) L N (rounded t f L N * 2 ^ L)
+
+-- RN0: of two that are equally near, the smaller magnitude
+abbrev pub TieToZero : Type 0
+TieToZero = (f L N : ℕ) → Near0 (suc f) L N (rounded ToZero f L N * 2 ^ L)
+
+-- RNe: where another representable number is equally near, the last bit of the result's pattern is 0
+abbrev pub TieToEven : Type 0
+TieToEven =
+    (f L N m : ℕ) → 0 < f → Rep (suc f) L m → (m ≡ rounded ToEven f L N * 2 ^ L → ⊥) → dist m N ≡ dist (rounded ToEven f L N * 2 ^ L) N
+    → bits f (rounded ToEven f L N) % 2 ≡ 0
+
+-- the two rules differ only at a tie, which lies halfway between their results, and there RNe went up
+abbrev pub RulesDiffer : Type 0
+RulesDiffer =
+    (f L N : ℕ) → (rounded ToEven f L N ≡ rounded ToZero f L N)
+    ⊎ ((N < rounded ToEven f L N * 2 ^ L) × (rounded ToZero f L N * 2 ^ L + rounded ToEven f L N * 2 ^ L ≡ 2 * N))
+
+-- ---- exact, monotone, scaled, and after rounding to odd
+abbrev pub Exact : Type 0
+Exact = (t : Ties) (f L N : ℕ) → Rep (suc f) L N → rounded t f L N * 2 ^ L ≡ N
+
+abbrev pub Monotone : Type 0
+Monotone = (t : Ties) (f L N M : ℕ) → N ≤ M → rounded t f L N ≤ rounded t f L M
+
+abbrev pub Scaling : Type 0
+Scaling = (t : Ties) (f L s N : ℕ) → rounded t f (L + s) (N * 2 ^ s) ≡ rounded t f L N
+
+-- a number that lies inside the unit 2 ^ suc h above A units rounds as the odd number of half units in its middle
+abbrev pub RoundToOdd : Type 0
+RoundToOdd =
+    (t : Ties) (f L h A N : ℕ) → 2 ^ suc f ≤ A → A * 2 ^ suc h < N → N < A * 2 ^ suc h + 2 ^ suc h → rounded t f L N ≡ rounded t f L ((2 * A + 1) * 2 ^ h)
+
+-- ---- overflow: from the edge on for RNe, strictly above it for RN0
+abbrev pub OverflowToEven : Type 0
+OverflowToEven =
+    (F : Format) → Proper F → (s : Bool) (N : ℕ)
+    → (edge F ≤ N → roundFinite ToEven F s N ≡ infinite s) × (N < edge F → roundFinite ToEven F s N ≡ finite s (rounded ToEven (F .fraction) (low F) N))
+
+abbrev pub OverflowToZero : Type 0
+OverflowToZero =
+    (F : Format) → Proper F → (s : Bool) (N : ℕ)
+    → (edge F < N → roundFinite ToZero F s N ≡ infinite s) × (N ≤ edge F → roundFinite ToZero F s N ≡ finite s (rounded ToZero (F .fraction) (low F) N))
+
+-- ---- the same over all patterns: no finite pattern is nearer, and for RN0 none that is equally near is smaller
+abbrev pub NearestPattern : Type 0
+NearestPattern =
+    (t : Ties) (F : Format) → Proper F → (s : Bool) (N a : ℕ) → roundFinite t F s N ≡ finite s a → (x : ℕ) (r : Bool) (b : ℕ) → decode F x ≡ finite r b
+    → dist (a * 2 ^ low F) N ≤ dist (b * 2 ^ low F) N
+
+abbrev pub TieToZeroPattern : Type 0
+TieToZeroPattern =
+    (F : Format) → Proper F → (s : Bool) (N a : ℕ) → roundFinite ToZero F s N ≡ finite s a → (x : ℕ) (r : Bool) (b : ℕ) → decode F x ≡ finite r b
+    → dist (b * 2 ^ low F) N ≡ dist (a * 2 ^ low F) N → a ≤ b
+
+-- ---- patterns and values
+-- a value of the format is read back from its pattern
+abbrev pub DecodeEncode : Type 0
+DecodeEncode = (F : Format) → Proper F → (v : Value) → Fits F v → decode F (encode F v) ≡ v
+
+-- a pattern is read back from its value, if it is no NaN's
+abbrev pub EncodeDecode : Type 0
+EncodeDecode = (F : Format) (x : ℕ) → x < 2 * signBit F → decode F x ≢ nan → encode F (decode F x) ≡ x
+
+-- what a pattern stands for, and what is rounded, is a value of the format
+abbrev pub DecodeFits : Type 0
+DecodeFits = (F : Format) → Proper F → (x : ℕ) → Fits F (decode F x)
+
+abbrev pub RoundFits : Type 0
+RoundFits = (t : Ties) (F : Format) (v : Value) → Fits F (round t F v)

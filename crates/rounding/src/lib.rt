@@ -1,0 +1,95 @@
+// Rounding of an exact magnitude to binary32: the one place where any operation rounds.
+ghost use mathlib.Core.Path.{_≡_};
+ghost use Prim.Native.Nat.{_+_, _-_, _*_, _^_, _≤_, _<_, min, max};
+ghost use Rattle.rounding.specs.Format.{binary32, infinity};
+ghost use Rattle.rounding.specs.Round.{tieBit, keep};
+ghost use Rattle.rounding.specs.Value.{signed, encode, roundFinite};
+
+// What a tie does: to the even last bit (RNe), or to the smaller magnitude (RN0).
+pub enum Ties {
+    ToEven,
+    ToZero,
+}
+
+const INFINITY: u64 = 0x7f80_0000;
+
+// Rounds sig * 2^exp, counted in 2^-298. The leading zeros give the shift and the result's exponent.
+pub fn round(ties: Ties, sign: bool, sig: u64, exp: u16) -> u32
+    ensures { λ r. ⌜ r ≡ encode binary32 (roundFinite ties binary32 sign (sig * 2 ^ exp)) ⌝ }
+{
+    if sig == 0 {
+        return pack(sign, 0);
+    }
+    let zeros = u64::leading_zeros(sig) as u64;
+    let digits = (exp as u64) + 64 - zeros;
+    let place = last_place(digits);
+    pack(sign, assemble(place - 149, kept(ties, sig << zeros, place + 64 - digits)))
+}
+
+// The exponent of the last place of a number with so many digits: 24 are kept, and none below 2^-149.
+fn last_place(digits: u64) -> u64
+    ensures { λ r. ⌜ r ≡ max 149 (digits - 24) ⌝ }
+{
+    if digits <= 173 { 149 } else { digits - 24 }
+}
+
+// n / 2^shift to the nearest whole number.
+fn kept(ties: Ties, n: u64, shift: u64) -> u64
+    requires { ⌜ 0 < shift ⌝ }
+    ensures { λ r. ⌜ r ≡ keep ties shift n ⌝ }
+{
+    if shift > 63 {
+        return kept_far(ties, n, shift);
+    }
+    let q = n >> shift;
+    let rest = n - (q << shift);
+    if rest + tie_bit(ties, q) > 1 << (shift - 1) {
+        q + 1
+    } else {
+        q
+    }
+}
+
+// All digits are dropped; a half that is exactly met goes to 0, which is even, under either rule.
+fn kept_far(ties: Ties, n: u64, shift: u64) -> u64
+    requires { ⌜ 64 ≤ shift ⌝ }
+    ensures { λ r. ⌜ r ≡ keep ties shift n ⌝ }
+{
+    if shift > 64 {
+        return 0;
+    }
+    if n > 0x8000_0000_0000_0000 {
+        return 1;
+    }
+    0
+}
+
+// What is added to the remainder, so that more than a half means up.
+fn tie_bit(ties: Ties, q: u64) -> u64
+    ensures { λ r. ⌜ r ≡ tieBit ties q ⌝ }
+{
+    match ties {
+        Ties::ToEven => q % 2,
+        Ties::ToZero => 0,
+    }
+}
+
+// Exponent field and fraction side by side. A carry out of the fraction runs into the field by itself.
+fn assemble(field: u64, q: u64) -> u32
+    requires { ⌜ (field ≤ 0x1_0000) × (q ≤ 0x100_0000) ⌝ }
+    ensures { λ r. ⌜ r ≡ min (infinity binary32) (field * 2 ^ 23 + q) ⌝ }
+{
+    let c = field * 0x80_0000 + q;
+    if c < INFINITY {
+        c as u32
+    } else {
+        INFINITY as u32
+    }
+}
+
+fn pack(sign: bool, c: u32) -> u32
+    requires { ⌜ c ≤ infinity binary32 ⌝ }
+    ensures { λ r. ⌜ r ≡ signed binary32 sign c ⌝ }
+{
+    if sign { 0x8000_0000 + c } else { c }
+}

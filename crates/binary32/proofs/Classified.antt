@@ -66,7 +66,7 @@ module _ (s : Bool) (c : ℕ) where
       let w : suc d - 1 ≡ d = omega arith in
       sym (unsigned-finite binary32 s c (omega arith) ∙ ap (finite s) (v ∙ ap (λ (k : ℕ). (2 ^ 23 + c % 2 ^ 23) * 2 ^ k) (sym w)))
 
-pub value-class : (x : ℕ) → valueOf (classOf x) ≡ decode binary32 x
+value-class : (x : ℕ) → valueOf (classOf x) ≡ decode binary32 x
 unfolding valueOf decode
 value-class x =
     let s = leb (2 ^ 31) x in
@@ -89,6 +89,10 @@ value-class x =
       ]
     ]
 
+-- what a call of `classify` tells its caller
+pub class-value : (x : ℕ) (r : Class) → r ≡ classOf x → valueOf r ≡ decode binary32 x
+class-value x r e = ap valueOf e ∙ value-class x
+
 -- ---- the bounds
 byField-bounded : (s : Bool) (E m : ℕ) → m < 2 ^ 23 → E ≤ 255 → Bounded Operand (byField s E m)
 byField-bounded s E m h l =
@@ -109,9 +113,12 @@ byField-bounded s E m h l =
       ]
     ]
 
-pub class-bounded : (x : ℕ) → Bounded Operand (classOf x)
+class-bounded : (x : ℕ) → Bounded Operand (classOf x)
 unfolding classOf
 class-bounded x = byField-bounded (leb (2 ^ 31) x) (x % 2 ^ 31 / 2 ^ 23) (x % 2 ^ 23) (omega arith) (omega arith)
+
+pub class-operand : (x : ℕ) (r : Class) → r ≡ classOf x → Bounded Operand r
+class-operand x r e = rw e (class-bounded x)
 
 -- ---- the sign bit
 negate-unsigned : (s : Bool) (c : ℕ) → unsigned binary32 (not s) c ≡ negate (unsigned binary32 s c)

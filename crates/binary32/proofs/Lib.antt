@@ -4,3 +4,5 @@ pub mod Sums
 pub mod Special
 pub mod Near
 pub mod Far
+pub mod Jam
+pub mod Products

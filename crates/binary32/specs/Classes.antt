@@ -1,6 +1,7 @@
 -- The class of a pattern by its exponent field, as the code holds it, and the value that a class stands for. Assumes nothing.
 use Prim.Native.Nat.{ℕ, zero, suc, _+_, _-_, _*_, _/_, _%_, _^_, _≤_, _<_}
 use mathlib.Core.Path.{_≡_}
+use mathlib.Core.Logic.{_⊎_}
 use mathlib.Core.Bool.{Bool, cond}
 use lib.Dec.{leb, eqb}
 use Rattle.rounding.specs.Value.{Value, nan, infinite, finite}
@@ -42,3 +43,33 @@ abbrev pub Bounded : (ℕ → ℕ → Type 0) → Class → Type 0
 Bounded P (Finite s m e) = P m e
 Bounded P (Infinite s) = Unit {0}
 Bounded P NotANumber = Unit {0}
+
+-- r is the exact product v
+pub record ProductIs (v : Value) (r : Class) : Type 0 where
+  pub is : v ≡ valueOf r
+  pub bounded : Bounded Product r
+
+-- ---- parts of a fused sum
+-- c * 2 ^ j again, with all 24 digits
+pub record Raised (c j a k : ℕ) : Type 0 where
+  pub value : a * 2 ^ k ≡ c * 2 ^ j
+  pub low : 2 ^ 23 ≤ a
+  pub high : a < 2 ^ 24
+  pub exp : 126 ≤ k
+  pub below : k ≤ j
+
+-- the first significand can go up by `room` places, and where that is not the whole way it then stands far above the second
+pub record Reaches (a i b j room : ℕ) : Type 0 where
+  pub steps : (0 < room) × (room ≤ 38)
+  pub high : a * 2 ^ room < 2 ^ 63
+  pub second : (0 < b) × (b < 2 ^ 48)
+  pub first : room < i - j → 2 * b + 2 ^ 26 ≤ a * 2 ^ room
+
+-- r is b / 2 ^ g, or b is no multiple of 2 ^ g, and r is odd and less than 1 away from b / 2 ^ g
+pub record Odd (b g r : ℕ) : Type 0 where
+  pub odd : r % 2 ≡ 1
+  pub over : b < (r + 1) * 2 ^ g
+  pub under : r * 2 ^ g < b + 2 ^ g
+
+abbrev pub Jammed : ℕ → ℕ → ℕ → Type 0
+Jammed b g r = (r * 2 ^ g ≡ b) ⊎ Odd b g r

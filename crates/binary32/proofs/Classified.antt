@@ -3,7 +3,7 @@ use mathlib.Core.Path.{_≡_, refl, sym, ap, ap₂, _∙_, subst}
 use mathlib.Core.Logic.{_⊎_, inl, inr}
 use mathlib.Core.Bool.{Bool, true, false, not, cond}
 use Prim.Native.Nat.{ℕ, zero, suc, _+_, _-_, _*_, _/_, _%_, _^_, _≤_, _<_}
-use native.Mathlib.Nat.{mul-one, lt-irrefl, mod-lt}
+use native.Mathlib.Nat.{le-refl, le-of-lt, mul-one, lt-irrefl, mod-lt}
 use native.Mathlib.Decide.{decLe}
 use native.Mathlib.Omega.{arith}
 use borrow.Author.Tests.{lt-leb, le-leb, lt-ltb, le-ltb, eq-eqb, ne-eqb}
@@ -16,7 +16,7 @@ use Rattle.rounding.proofs.Codec.{unsigned-finite, unsigned-infinite, unsigned-
 use Rattle.binary32.specs.declared.class.Class.{Class}
 use Rattle.binary32.specs.declared.class.Class.the-variants.{Finite, Infinite, NotANumber}
 use Rattle.binary32.specs.Exact.{negate}
-use Rattle.binary32.specs.Classes.{byField, classOf, valueOf, flip, Operand, Bounded}
+use Rattle.binary32.specs.Classes.{byField, classOf, valueOf, flip, Operand, Bounded, Below, Descending}
 
 -- ---- the four cases
 module _ (s : Bool) (m : ℕ) where
@@ -119,6 +119,39 @@ class-bounded x = byField-bounded (leb (2 ^ 31) x) (x % 2 ^ 31 / 2 ^ 23) (x % 2 
 
 pub class-operand : (x : ℕ) (r : Class) → r ≡ classOf x → Bounded Operand r
 class-operand x r e = rw e (class-bounded x)
+
+-- ---- the order of magnitudes is that of exponents
+-- between two finite classes; a class that is not finite is below none and above all
+descend : (s : Bool) (E m : ℕ) (t : Bool) (D n : ℕ) → D ≤ E → Descending (byField s E m) (byField t D n)
+descend s zero m t zero n h = le-refl 0
+descend s zero m t (suc d) n h = absurd (omega arith)
+descend s (suc e) m t D n h = first (eqb (suc e) 255) (eqb m 0)
+  where
+    zero-below : (D : ℕ) → D ≤ suc e → Below e (byField t D n)
+    zero-below zero h = omega arith
+    zero-below (suc d) h = second (eqb (suc d) 255) (eqb n 0)
+      where
+        second : (b c : Bool) → Below e (cond b (cond c (Infinite t) NotANumber) (Finite t (2 ^ 23 + n) d))
+        second true true = tt
+        second true false = tt
+        second false c = omega arith
+
+    first : (b c : Bool) → Descending (cond b (cond c (Infinite s) NotANumber) (Finite s (2 ^ 23 + m) e)) (byField t D n)
+    first true true = tt
+    first true false = tt
+    first false c = zero-below D h
+
+class-descending : (x y : ℕ) → y % 2 ^ 31 ≤ x % 2 ^ 31 → Descending (classOf x) (classOf y)
+unfolding classOf
+class-descending x y h = descend (leb (2 ^ 31) x) (x % 2 ^ 31 / 2 ^ 23) (x % 2 ^ 23) (leb (2 ^ 31) y) (y % 2 ^ 31 / 2 ^ 23) (y % 2 ^ 23) (omega arith)
+
+-- the patterns as they are picked, the larger magnitude first
+pub picked-descending : (x y : ℕ) → Descending (classOf (cond (ltb (x % 2 ^ 31) (y % 2 ^ 31)) y x)) (classOf (cond (ltb (x % 2 ^ 31) (y % 2 ^ 31)) x y))
+picked-descending x y =
+    elim (decLe (y % 2 ^ 31) (x % 2 ^ 31)) [
+      | yes h ↦ rw (le-ltb (x % 2 ^ 31) (y % 2 ^ 31) h) (class-descending x y h)
+      | no h ↦ let l : x % 2 ^ 31 < y % 2 ^ 31 = omega arith in rw (lt-ltb (x % 2 ^ 31) (y % 2 ^ 31) l) (class-descending y x (le-of-lt l))
+    ]
 
 -- ---- the sign bit
 negate-unsigned : (s : Bool) (c : ℕ) → unsigned binary32 (not s) c ≡ negate (unsigned binary32 s c)

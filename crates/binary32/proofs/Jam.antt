@@ -1,15 +1,19 @@
 -- A fused sum: the smaller addend brought to the larger one's exponent, made odd where something is cut off, rounds alike. Assumes nothing.
 use mathlib.Core.Path.{_≡_, refl, ap, ap₂, _∙_, sym, subst}
 use mathlib.Core.Logic.{_⊎_, inl, inr}
-use mathlib.Core.Bool.{Bool}
+use mathlib.Core.Bool.{Bool, cond}
 use Prim.Native.Nat.{ℕ, zero, suc, _+_, _-_, _*_, _/_, _%_, _^_, _≤_, _<_}
-use native.Mathlib.Nat.{le-refl, le-trans, le-of-eq, lt-of-lt-of-le, lt-of-le-of-lt, one-mul, mul-one, add-mul, mul-assoc, mul-le-mul-left, mul-le-mul-right, mul-lt-mul-of-pos-right, pow-succ', mod-eq-of-lt, mod-lt, div-add-mod', div-mul-le-self, sub-add-cancel}
+use native.Mathlib.Nat.{le-refl, le-trans, le-of-eq, lt-of-lt-of-le, lt-of-le-of-lt, one-mul, mul-one, add-mul, mul-assoc, mul-le-mul-left, mul-le-mul-right, mul-lt-mul-of-pos-right, pow-succ', mod-eq-of-lt, mod-lt, div-add-mod', div-eq-of-lt, zero-mul, eq-zero-or-pos, sub-add-cancel}
+use native.Mathlib.Decide.{decLe, ℕ-discrete}
 use native.Mathlib.Omega.{arith}
+use borrow.Author.Tests.{lt-ltb, le-ltb, lt-leb, le-leb, eq-eqb, ne-eqb}
+use lib.Dec.{ltb, leb, eqb}
 use lib.Pow.{pow-add, pow-pos, pow-mono}
 use Rattle.rounding.specs.declared.Ties.the-variants.{ToEven}
 use Rattle.rounding.specs.Format.{binary32}
 use Rattle.rounding.specs.Round.{rounded}
 use Rattle.rounding.specs.Value.{Value, finite, encode, roundFinite, round}
+use Rattle.rounding.proofs.Remainder.{shifted-back}
 use Rattle.rounding.proofs.Sticky.{odd}
 use Rattle.binary32.specs.Exact.{plusFinite}
 use Rattle.binary32.specs.Classes.{Reaches, Odd, Jammed}
@@ -18,20 +22,29 @@ use Rattle.binary32.proofs.Near.{joined}
 
 -- ---- what the code makes of b / 2 ^ g
 module _ (b g : ℕ) where
-  pub jam-far : 0 < b → b < 2 ^ 64 → 64 ≤ g → Jammed b g 1
-  jam-far p h l = let big : 2 ^ 64 ≤ 2 ^ g = pow-mono {i = 64} l in inr (record { odd = refl; over = omega arith; under = omega arith })
+  jam-far : 0 < b → b ≤ 2 ^ g → Jammed b g 1
+  jam-far p h = let q = pow-pos g in inr (record { odd = refl; over = omega arith; under = omega arith })
 
-  pub jam-up : (b / 2 ^ g * 2 ^ g ≡ b → ⊥) → b / 2 ^ g % 2 ≡ 0 → Jammed b g (b / 2 ^ g + 1)
-  jam-up n e =
+  jam-odd : (b / 2 ^ g * 2 ^ g ≡ b → ⊥) → Jammed b g (b / 2 ^ g - b / 2 ^ g % 2 + 1)
+  jam-odd n =
       let s = div-add-mod' b (2 ^ g) in
       let l = mod-lt b (pow-pos g) in
-      inr (record { odd = omega arith; over = omega arith; under = omega arith })
+      elim (decLe 1 (b / 2 ^ g % 2)) [
+        | yes e ↦
+            let q : b / 2 ^ g - b / 2 ^ g % 2 + 1 ≡ b / 2 ^ g = omega arith in
+            rw q (inr (record { odd = omega arith; over = omega arith; under = omega arith }))
+        | no e ↦
+            let q : b / 2 ^ g - b / 2 ^ g % 2 + 1 ≡ b / 2 ^ g + 1 = omega arith in
+            rw q (inr (record { odd = omega arith; over = omega arith; under = omega arith }))
+      ]
 
-  pub jam-at : (b / 2 ^ g * 2 ^ g ≡ b → ⊥) → (b / 2 ^ g % 2 ≡ 0 → ⊥) → Jammed b g (b / 2 ^ g)
-  jam-at n e =
-      let s = div-add-mod' b (2 ^ g) in
-      let l = mod-lt b (pow-pos g) in
-      inr (record { odd = omega arith; over = omega arith; under = omega arith })
+  -- shifted in a word, and made odd unless the shift back gives b again
+  near-jam : b < 2 ^ 64 → Jammed b g (cond (eqb (b / 2 ^ g * 2 ^ g % 2 ^ 64) b) (b / 2 ^ g) (b / 2 ^ g - b / 2 ^ g % 2 + 1))
+  near-jam h =
+      elim (ℕ-discrete (b / 2 ^ g * 2 ^ g % 2 ^ 64) b) [
+        | yes e ↦ rw (eq-eqb (b / 2 ^ g * 2 ^ g % 2 ^ 64) b e) (inl (sym (shifted-back b g h) ∙ e))
+        | no n ↦ rw (ne-eqb (b / 2 ^ g * 2 ^ g % 2 ^ 64) b n) (jam-odd (λ (e : b / 2 ^ g * 2 ^ g ≡ b). n (shifted-back b g h ∙ e)))
+      ]
 
   -- it is no larger than b
   pub jam-le : (r : ℕ) → Jammed b g r → r ≤ b
@@ -42,6 +55,35 @@ module _ (b g : ℕ) where
       let v : r * 2 ^ g ≡ p * 2 ^ g + 1 * 2 ^ g = ap (λ (x : ℕ). x * 2 ^ g) e ∙ add-mul p 1 (2 ^ g) in
       let m : p * 1 ≤ p * 2 ^ g = mul-le-mul-left p (pow-pos g) in
       omega (arith, o .under)
+
+-- nothing is cut off by no shift
+jam-none : (b r : ℕ) → Jammed b 0 r → r ≡ b
+jam-none b r (inl e) = sym (mul-one r) ∙ e
+jam-none b r (inr o) = let x = o .over in let y = o .under in omega arith
+
+-- beyond 48 places it is as at 48: nothing is left but whether b is 0
+far-jam : (b g : ℕ) → b < 2 ^ 48 → 48 ≤ g → Jammed b g (cond (eqb (b / 2 ^ 48 * 2 ^ 48 % 2 ^ 64) b) (b / 2 ^ 48) (b / 2 ^ 48 - b / 2 ^ 48 % 2 + 1))
+far-jam b g h l =
+    let big : 2 ^ 48 ≤ 2 ^ g = pow-mono {i = 48} l in
+    elim (eq-zero-or-pos b) [
+      | inl e ↦ rw e (inl (zero-mul (2 ^ g)))
+      | inr p ↦ rw (div-eq-of-lt h, ne-eqb (0 * 2 ^ 48 % 2 ^ 64) b (λ (e : 0 * 2 ^ 48 % 2 ^ 64 ≡ b). omega arith)) (jam-far b g p (omega arith))
+    ]
+
+-- the shift of the code
+pub jam-shift : (g h : ℕ) → h ≡ cond (ltb 48 g) 48 g → h < 64
+jam-shift g h at =
+    elim (decLe g 48) [
+      | yes l ↦ let e : h ≡ g = at ∙ rw (le-ltb 48 g l) in omega arith
+      | no l ↦ let e : h ≡ 48 = at ∙ rw (lt-ltb 48 g (let z : 48 < g = omega arith in z)) in omega arith
+    ]
+
+pub jam-is : (b g h r : ℕ) → b < 2 ^ 48 → h ≡ cond (ltb 48 g) 48 g → r ≡ cond (eqb (b / 2 ^ h * 2 ^ h % 2 ^ 64) b) (b / 2 ^ h) (b / 2 ^ h - b / 2 ^ h % 2 + 1) → Jammed b g r
+jam-is b g h r small at is =
+    elim (decLe g 48) [
+      | yes l ↦ let e : h ≡ g = at ∙ rw (le-ltb 48 g l) in rw (is, e) (near-jam b g (omega arith))
+      | no l ↦ let e : h ≡ 48 = at ∙ rw (lt-ltb 48 g (let z : 48 < g = omega arith in z)) in rw (is, e) (far-jam b g small (omega arith))
+    ]
 
 -- ---- a number near an odd one rounds as that one
 halves : (a r : ℕ) → a % 2 ≡ 0 → r % 2 ≡ 1 → r ≤ a → (2 * ((a + r) / 2) + 1 ≡ a + r) × (2 * ((a - r) / 2) + 1 + r ≡ a)
@@ -105,20 +147,45 @@ even-shift a w h =
     let q : a * 2 ^ w ≡ 2 * (a * 2 ^ (w - 1)) = ap (λ (x : ℕ). a * x) p ∙ omega arith in
     omega arith
 
-module _ (s : Bool) (a i : ℕ) (t : Bool) (b j room : ℕ) (le : j ≤ i) (o : Reaches a i b j room) where
+module _ (s : Bool) (a i : ℕ) (t : Bool) (b j room : ℕ) (o : Reaches a i b j room) where
   -- a left shift in a word, by at most `room`
-  pub shifted : (w : ℕ) → w ≤ room → (a * 2 ^ w % 2 ^ 64 ≡ a * 2 ^ w) × (a * 2 ^ w < 2 ^ 63)
+  shifted : (w : ℕ) → w ≤ room → (a * 2 ^ w % 2 ^ 64 ≡ a * 2 ^ w) × (a * 2 ^ w < 2 ^ 63)
   shifted w h =
       let l : a * 2 ^ w < 2 ^ 63 = lt-of-le-of-lt (mul-le-mul-left a (pow-mono h)) (o .high) in
       (mod-eq-of-lt (omega arith), l)
 
-  pub whole-way : i - j ≤ room → rounds s (a * 2 ^ (i - j) % 2 ^ 64 * 2 ^ j) t (b * 2 ^ j) ≡ rounds s (a * 2 ^ i) t (b * 2 ^ j)
-  whole-way h = ap (λ (x : ℕ). rounds s x t (b * 2 ^ j)) (ap (λ (x : ℕ). x * 2 ^ j) (shifted (i - j) h .0) ∙ joined a (i - j) j i (sub-add-cancel le))
+  whole-way : (r : ℕ) → Jammed b 0 r → rounds s (a * 2 ^ (i - j) * 2 ^ j) t (r * 2 ^ j) ≡ rounds s (a * 2 ^ i) t (b * 2 ^ j)
+  whole-way r jam = ap₂ (λ (x y : ℕ). rounds s x t y) (joined a (i - j) j i (sub-add-cancel (o .order))) (ap (λ (x : ℕ). x * 2 ^ j) (jam-none b r jam))
 
-  pub some-way : (r : ℕ) → room < i - j → Jammed b (i - j - room) r → rounds s (a * 2 ^ room % 2 ^ 64 * 2 ^ (i - room)) t (r * 2 ^ (i - room)) ≡ rounds s (a * 2 ^ i) t (b * 2 ^ j)
+  some-way : (r : ℕ) → room < i - j → Jammed b (i - j - room) r → rounds s (a * 2 ^ room * 2 ^ (i - room)) t (r * 2 ^ (i - room)) ≡ rounds s (a * 2 ^ i) t (b * 2 ^ j)
   some-way r h jam =
-      let A = a * 2 ^ room in
       let k = i - room in
-      ap (λ (x : ℕ). rounds s (x * 2 ^ k) t (r * 2 ^ k)) (shifted room (le-refl room) .0)
-      ∙ jammed-sum s A k t b (i - j - room) j r (omega arith) (even-shift a room (o .steps .0)) (o .first h) jam
+      jammed-sum s (a * 2 ^ room) k t b (i - j - room) j r (omega arith) (even-shift a room (o .steps .0)) (o .first h) jam
       ∙ ap (λ (x : ℕ). rounds s x t (b * 2 ^ j)) (joined a room k i (omega arith))
+
+  -- by how many places the first goes up, and what comes of it
+  module _ (up : ℕ) (is : up ≡ cond (leb (i - j) room) (i - j) room) where
+    up-cases : ((i - j ≤ room) × (up ≡ i - j)) ⊎ ((room < i - j) × (up ≡ room))
+    up-cases =
+        elim (decLe (i - j) room) [
+          | yes h ↦ inl (h, is ∙ rw (le-leb (i - j) room h))
+          | no h ↦ let l : room < i - j = omega arith in inr (l, is ∙ rw (lt-leb (i - j) room l))
+        ]
+
+    pub up-le : (up ≤ room) × (up ≤ i - j)
+    up-le = elim up-cases [ inl c ↦ omega (arith, c .0, c .1) | inr c ↦ omega (arith, c .0, c .1) ]
+
+    pub first-fits : a * 2 ^ up % 2 ^ 64 < 2 ^ 63
+    first-fits = rw (shifted up (up-le .0) .0) (shifted up (up-le .0) .1)
+
+    pub aligned-sum : (r : ℕ) → Jammed b (i - j - up) r → rounds s (a * 2 ^ up % 2 ^ 64 * 2 ^ (i - up)) t (r * 2 ^ (i - up)) ≡ rounds s (a * 2 ^ i) t (b * 2 ^ j)
+    aligned-sum r jam =
+        ap (λ (x : ℕ). rounds s (x * 2 ^ (i - up)) t (r * 2 ^ (i - up))) (shifted up (up-le .0) .0)
+        ∙ elim up-cases [
+          | inl c ↦
+              let z : i - j - up ≡ 0 = omega (arith, c .1) in
+              let k : i - up ≡ j = omega (arith, c .1, o .order) in
+              ap₂ (λ (x y : ℕ). rounds s (a * 2 ^ x * 2 ^ y) t (r * 2 ^ y)) (c .1) k ∙ whole-way r (subst (λ (x : ℕ). Jammed b x r) z jam)
+          | inr c ↦
+              ap (λ (x : ℕ). rounds s (a * 2 ^ x * 2 ^ (i - x)) t (r * 2 ^ (i - x))) (c .1) ∙ some-way r (c .0) (subst (λ (x : ℕ). Jammed b (i - j - x) r) (c .1) jam)
+        ]

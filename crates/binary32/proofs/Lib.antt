@@ -6,3 +6,4 @@ pub mod Near
 pub mod Far
 pub mod Jam
 pub mod Products
+pub mod Placing

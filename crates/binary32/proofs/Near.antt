@@ -1,18 +1,19 @@
 -- The sum of two operands whose exponents are near: both at the lower exponent, exactly; and the pattern of an operand. Assumes nothing.
 use mathlib.Core.Path.{_≡_, refl, sym, ap, ap₂, _∙_}
-use mathlib.Core.Bool.{Bool, true, false}
+use mathlib.Core.Bool.{Bool, true, false, cond}
 use Prim.Native.Nat.{ℕ, suc, _+_, _-_, _*_, _%_, _^_, _≤_, _<_}
 use native.Mathlib.Nat.{le-trans, le-of-eq, lt-of-lt-of-le, mul-assoc, mod-eq-of-lt, sub-add-cancel, mul-lt-mul-of-pos-right, pow-succ'}
 use native.Mathlib.Omega.{arith}
 use lib.Pow.{pow-add, pow-pos, pow-mono, shl-lt}
 use Rattle.rounding.specs.declared.Ties.the-variants.{ToEven}
 use Rattle.rounding.specs.Format.{binary32, low}
-use Rattle.rounding.specs.Value.{Value, finite, encode, signed, bits, roundFinite, round}
+use Rattle.rounding.specs.Value.{Value, finite, decode, encode, bits, roundFinite, round}
 use Rattle.rounding.proofs.Bits.{bits-at}
 use Rattle.binary32.specs.Exact.{plusFinite, plus, finer}
 use Rattle.binary32.specs.Steps.{addValue}
 use Rattle.binary32.specs.Classes.{Operand}
-use Rattle.binary32.proofs.Sums.{sum-swap, sum-scale, finer-sum}
+use Rattle.binary32.proofs.Sums.{sum-scale, finer-sum}
+use Rattle.binary32.proofs.Special.{plus-comm}
 
 pub joined : (m i j k : ℕ) → i + j ≡ k → m * 2 ^ i * 2 ^ j ≡ m * 2 ^ k
 joined m i j k e = mul-assoc m (2 ^ i) (2 ^ j) ∙ ap (λ (x : ℕ). m * x) (sym (pow-add 2 i j) ∙ ap (λ (x : ℕ). 2 ^ x) e)
@@ -30,9 +31,13 @@ unfolding round
 round-sum-is s a t b k r c e = ap (λ (v : Value). encode binary32 (round ToEven binary32 v)) (sym (sum-scale s a t b (2 ^ k) (pow-pos k) r c e))
 
 -- the addends exchanged
-pub add-swap : (s : Bool) (a : ℕ) (t : Bool) (b : ℕ) → addValue binary32 (finite t b) (finite s a) ≡ addValue binary32 (finite s a) (finite t b)
-unfolding addValue plus
-add-swap s a t b = ap (λ (v : Value). round ToEven binary32 (finer binary32 v)) (sum-swap s a t b)
+pub add-comm : (u v : Value) → addValue binary32 v u ≡ addValue binary32 u v
+unfolding addValue
+add-comm u v = ap (λ (w : Value). round ToEven binary32 (finer binary32 w)) (plus-comm u v)
+
+pub add-picked : (w : Bool) (x y : ℕ) → addValue binary32 (decode binary32 (cond w y x)) (decode binary32 (cond w x y)) ≡ addValue binary32 (decode binary32 x) (decode binary32 y)
+add-picked true x y = add-comm (decode binary32 x) (decode binary32 y)
+add-picked false x y = refl
 
 pub near-sum : (s : Bool) (m e : ℕ) (t : Bool) (n d : ℕ) → m < 2 ^ 24 → d ≤ e → e - d ≤ 31
     → encode binary32 (round ToEven binary32 (plusFinite s (m * 2 ^ (e - d) % 2 ^ 64 * 2 ^ (d + 149)) t (n * 2 ^ (d + 149)))) ≡ encode binary32 (addValue binary32 (finite s (m * 2 ^ e)) (finite t (n * 2 ^ d)))

@@ -63,12 +63,17 @@ module _ (c j : ℕ) (pos : 0 < c) (high : c < 2 ^ 24) (le : 149 ≤ j) where
 pub vanished : (n e d : ℕ) → n ≡ 0 → 0 * 2 ^ e ≡ n * 2 ^ d
 vanished n e d q = zero-mul (2 ^ e) ∙ sym (zero-mul (2 ^ d)) ∙ ap (λ (x : ℕ). x * 2 ^ d) (sym q)
 
--- ---- a product goes up by 15 places: then it stands far above an operand
-pub product-reaches : (p i c k : ℕ) → Product p i → 0 < p → 2 ^ 23 ≤ c → c < 2 ^ 24 → Reaches p i c k 15
-product-reaches p i c k o pos low high =
+-- ---- a product goes up by 15 places, an operand by 38: then it stands far above the other
+pub product-reaches : (p i c k : ℕ) → Product p i → 0 < p → 2 ^ 23 ≤ c → c < 2 ^ 24 → k ≤ i → Reaches p i c k 15
+product-reaches p i c k o pos low high le =
     record {
+      order = le;
       steps = (omega arith, omega arith);
       high = omega (arith, o .sig);
-      second = (omega arith, omega arith);
+      second = omega arith;
       first = λ h. let l = o .leads (omega arith) pos in omega arith;
     }
+
+pub operand-reaches : (c k p i : ℕ) → Product p i → 2 ^ 23 ≤ c → c < 2 ^ 24 → i ≤ k → Reaches c k p i 38
+operand-reaches c k p i o low high le =
+    record { order = le; steps = (omega arith, omega arith); high = omega arith; second = omega (arith, o .sig); first = λ h. omega (arith, o .sig) }

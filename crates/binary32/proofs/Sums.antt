@@ -1,10 +1,12 @@
 -- Sums of magnitudes with signs: the four cases, exchange of the addends, and a common factor. Assumes nothing.
 use mathlib.Core.Path.{_≡_, refl, ap, ap₂, _∙_, sym}
 use mathlib.Core.Logic.{_⊎_, inl, inr}
-use mathlib.Core.Bool.{Bool, true, false, Bool·beq}
-use Prim.Native.Nat.{ℕ, _+_, _-_, _*_, _^_, _<_}
-use native.Mathlib.Nat.{add-comm, add-mul, zero-mul, mul-lt-mul-of-pos-right}
+use mathlib.Core.Bool.{Bool, true, false, Bool·beq, cond}
+use Prim.Native.Nat.{ℕ, _+_, _-_, _*_, _^_, _≤_, _<_}
+use native.Mathlib.Nat.{le-of-lt, le-of-eq, add-comm, add-mul, zero-mul, mul-lt-mul-of-pos-right}
+use native.Mathlib.Decide.{decLe}
 use native.Mathlib.Omega.{arith}
+use lib.Dec.{ltb}
 use lib.Pow.{pow-pos}
 use borrow.Author.Tests.{lt-ltb, le-ltb}
 use Rattle.rounding.specs.Format.{Format, low}
@@ -62,6 +64,50 @@ sum-swap s a t b =
               | inr h ↦ sum-right t b s a e' h ∙ sym (sum-left s a t b e h)
             ]
           ]
+    ]
+
+-- ---- as the code picks it: the larger magnitude first
+module _ (a b : ℕ) where
+  abbrev pub high : ℕ
+  high = cond (ltb b a) a b
+
+  abbrev pub low-one : ℕ
+  low-one = cond (ltb b a) b a
+
+  pub picked-order : (low-one ≤ high) × ((high ≤ a + b) × (high + low-one ≡ a + b))
+  picked-order =
+      elim (decLe a b) [
+        | yes h ↦ rw (le-ltb b a h) (omega arith)
+        | no h ↦ let l : b < a = omega arith in rw (lt-ltb b a l) (omega arith)
+      ]
+
+common-same : (s t : Bool) → Bool·beq s t ≡ true → cond s t false ≡ s
+common-same true t e = like-eq t true (like-swap true t ∙ e)
+common-same false t e = refl
+
+common-other : (s t : Bool) → Bool·beq s t ≡ false → cond s t false ≡ false
+common-other true true e = e
+common-other true false e = refl
+common-other false t e = refl
+
+pub sum-picked : (s : Bool) (a : ℕ) (t : Bool) (b : ℕ)
+    → plusFinite s a t b ≡ finite (cond (ltb b a) s (cond (ltb a b) t (cond s t false))) (cond (Bool·beq s t) (high a b + low-one a b) (high a b - low-one a b))
+sum-picked s a t b =
+    elim (tri a b) [
+      | inl h ↦ rw (le-ltb b a (le-of-lt h), lt-ltb a b h)
+          (elim (like? s t) [
+            | inl e ↦ rw e (sum-same s a t b e ∙ ap₂ finite (like-eq s t e) (add-comm a b))
+            | inr e ↦ rw e (sum-right s a t b e h)
+          ])
+      | inr o ↦ elim o [
+        | inl h ↦ rw (le-ltb b a (le-of-eq h), le-ltb a b (le-of-eq (sym h)))
+            (elim (like? s t) [
+              | inl e ↦ rw e (sum-same s a t b e ∙ ap₂ finite (sym (common-same s t e)) (add-comm a b))
+              | inr e ↦ rw e (sum-none s a t b e h ∙ ap₂ finite (sym (common-other s t e)) (omega arith))
+            ])
+        | inr h ↦ rw (lt-ltb b a h)
+            (elim (like? s t) [ inl e ↦ rw e (sum-same s a t b e) | inr e ↦ rw e (sum-left s a t b e h) ])
+      ]
     ]
 
 -- ---- both magnitudes counted in a finer unit

@@ -6,6 +6,7 @@ use mathlib.Core.Bool.{Bool, cond}
 use lib.Dec.{leb, eqb}
 use Rattle.rounding.specs.Value.{Value, nan, infinite, finite}
 use Rattle.binary32.specs.declared.class.Class.{Class}
+use Rattle.binary32.specs.declared.fused.Addends.{Addends}
 use Rattle.binary32.specs.declared.class.Class.the-variants.{Finite, Infinite, NotANumber}
 
 -- by exponent field and fraction: "Exponent field 0 is zero or subnormal, 1 to 254 normal, 255 infinite or NaN."
@@ -44,6 +45,17 @@ Bounded P (Finite s m e) = P m e
 Bounded P (Infinite s) = Unit {0}
 Bounded P NotANumber = Unit {0}
 
+-- the exponent of a second addend is not above that of the first
+abbrev pub Below : ℕ → Class → Type 0
+Below e (Finite t n d) = d ≤ e
+Below e (Infinite t) = Unit {0}
+Below e NotANumber = Unit {0}
+
+abbrev pub Descending : Class → Class → Type 0
+Descending (Finite s m e) b = Below e b
+Descending (Infinite s) b = Unit {0}
+Descending NotANumber b = Unit {0}
+
 -- r is the exact product v
 pub record ProductIs (v : Value) (r : Class) : Type 0 where
   pub is : v ≡ valueOf r
@@ -58,11 +70,17 @@ pub record Raised (c j a k : ℕ) : Type 0 where
   pub exp : 126 ≤ k
   pub below : k ≤ j
 
+-- by which of the exponents is the higher one
+pub data Placed (s : Bool) (p i : ℕ) (t : Bool) (z k : ℕ) (r : Addends) : Type 0 where
+  product-first : k ≤ i → r ≡ record { s = s; a = p; i = i; t = t; b = z; j = k; room = 15 } → Placed s p i t z k r
+  operand-first : i < k → r ≡ record { s = t; a = z; i = k; t = s; b = p; j = i; room = 38 } → Placed s p i t z k r
+
 -- the first significand can go up by `room` places, and where that is not the whole way it then stands far above the second
 pub record Reaches (a i b j room : ℕ) : Type 0 where
+  pub order : j ≤ i
   pub steps : (0 < room) × (room ≤ 38)
   pub high : a * 2 ^ room < 2 ^ 63
-  pub second : (0 < b) × (b < 2 ^ 48)
+  pub second : b < 2 ^ 48
   pub first : room < i - j → 2 * b + 2 ^ 26 ≤ a * 2 ^ room
 
 -- r is b / 2 ^ g, or b is no multiple of 2 ^ g, and r is odd and less than 1 away from b / 2 ^ g

@@ -1,6 +1,7 @@
 // The four rounding steps on binary32 patterns: the exact result on integers, and one rounding.
 pub mod class;
 mod fused;
+mod pick;
 mod product;
 mod sum;
 
@@ -10,13 +11,13 @@ ghost use Rattle.binary32.specs.Steps.{addStep, subStep, mulStep, fmaSte
 pub fn add(x: u32, y: u32) -> u32
     ensures { λ r. ⌜ r ≡ addStep x y ⌝ }
 {
-    sum::plus(class::classify(x), class::classify(y))
+    sum::of_patterns(x, y)
 }
 
 pub fn sub(x: u32, y: u32) -> u32
     ensures { λ r. ⌜ r ≡ subStep x y ⌝ }
 {
-    sum::plus(class::classify(x), class::classify(class::flipped(y)))
+    sum::of_patterns(x, class::flipped(y))
 }
 
 pub fn mul(x: u32, y: u32) -> u32

@@ -1,10 +1,10 @@
 // Products of two classes, alone or with a third operand, rounded once.
-use rounding::Ties;
 use crate::class::Class;
 use crate::class::NAN;
+use crate::fused::fused_sum;
 use crate::sum::infinite_plus;
 use crate::sum::infinity;
-use crate::fused::fused_sum;
+use rounding::Ties;
 ghost use mathlib.Core.Path.{_≡_};
 ghost use Prim.Native.Nat.{_*_, _^_};
 ghost use Rattle.rounding.specs.declared.Ties.the-variants.{ToEven};

@@ -1,20 +1,35 @@
 // Sums of two classes, rounded once.
-use rounding::Ties;
 use crate::class::Class;
 use crate::class::NAN;
+use crate::class::classify;
+use crate::pick::pick;
+use crate::pick::pick_pattern;
+use crate::pick::pick_sign;
+use rounding::Ties;
 ghost use mathlib.Core.Path.{_≡_};
 ghost use Prim.Native.Nat.{_+_, _*_, _^_, _≤_, _<_};
 ghost use Rattle.rounding.specs.declared.Ties.the-variants.{ToEven};
 ghost use Rattle.rounding.specs.Format.{binary32};
-ghost use Rattle.rounding.specs.Value.{infinite, finite, encode, round};
+ghost use Rattle.rounding.specs.Value.{infinite, finite, decode, encode, round};
 ghost use Rattle.binary32.specs.Exact.{plusFinite, plus};
 ghost use Rattle.binary32.specs.Steps.{addValue};
-ghost use Rattle.binary32.specs.Classes.{valueOf, Operand, Bounded};
+ghost use Rattle.binary32.specs.Classes.{valueOf, Operand, Bounded, Below, Descending};
 
-// The sum of two operands.
-pub fn plus(a: Class, b: Class) -> u32
+// The sum of two patterns. The larger magnitude comes first, whose exponent then is not below the other's.
+pub fn of_patterns(x: u32, y: u32) -> u32
+    ensures { λ r. ⌜ r ≡ encode binary32 (addValue binary32 (decode binary32 x) (decode binary32 y)) ⌝ }
+{
+    let swap = x % 0x8000_0000 < y % 0x8000_0000;
+    plus(
+        classify(pick_pattern(swap, y, x)),
+        classify(pick_pattern(swap, x, y)),
+    )
+}
+
+fn plus(a: Class, b: Class) -> u32
     requires { ⌜ Bounded Operand a ⌝ }
     requires { ⌜ Bounded Operand b ⌝ }
+    requires { ⌜ Descending a b ⌝ }
     ensures { λ r. ⌜ r ≡ encode binary32 (addValue binary32 (valueOf a) (valueOf b)) ⌝ }
 {
     match a {
@@ -52,6 +67,7 @@ pub fn infinity(sign: bool) -> u32
 fn finite_plus(s: bool, m: u64, e: u16, b: Class) -> u32
     requires { ⌜ Operand m e ⌝ }
     requires { ⌜ Bounded Operand b ⌝ }
+    requires { ⌜ Below e b ⌝ }
     ensures { λ r. ⌜ r ≡ encode binary32 (addValue binary32 (finite s (m * 2 ^ e)) (valueOf b)) ⌝ }
 {
     match b {
@@ -65,20 +81,8 @@ fn finite_plus(s: bool, m: u64, e: u16, b: Class) -> u32
     }
 }
 
+// Beyond 31 places apart the second operand does not reach a quarter of the first one's last place.
 fn finite_sum(s: bool, m: u64, e: u16, t: bool, n: u64, d: u16) -> u32
-    requires { ⌜ Operand m e ⌝ }
-    requires { ⌜ Operand n d ⌝ }
-    ensures { λ r. ⌜ r ≡ encode binary32 (addValue binary32 (finite s (m * 2 ^ e)) (finite t (n * 2 ^ d))) ⌝ }
-{
-    if d <= e {
-        ordered_sum(s, m, e, t, n, d)
-    } else {
-        ordered_sum(t, n, d, s, m, e)
-    }
-}
-
-// The first exponent is not below the second. Beyond 31 places apart the second does not reach a quarter of the first's last place.
-fn ordered_sum(s: bool, m: u64, e: u16, t: bool, n: u64, d: u16) -> u32
     requires { ⌜ d ≤ e ⌝ }
     requires { ⌜ Operand m e ⌝ }
     requires { ⌜ Operand n d ⌝ }
@@ -115,19 +119,17 @@ pub struct Signed {
     pub sig: u64,
 }
 
-// ±a ± b, exactly.
+// ±a ± b, exactly. Signs are as good as random, so nothing branches on them.
 fn signed_sum(s: bool, a: u64, t: bool, b: u64) -> Signed
     requires { ⌜ (a < 2 ^ 63) × (b < 2 ^ 63) ⌝ }
     ensures { λ r. ⌜ plusFinite s a t b ≡ finite (r .sign) (r .sig) ⌝ }
 {
-    if s == t {
-        return Signed { sign: s, sig: a + b };
+    let above = b < a;
+    let high = pick(above, a, b);
+    let low = pick(above, b, a);
+    let common = pick_sign(s, t, false);
+    Signed {
+        sign: pick_sign(above, s, pick_sign(a < b, t, common)),
+        sig: pick(s == t, high + low, high - low),
     }
-    if b < a {
-        return Signed { sign: s, sig: a - b };
-    }
-    if a < b {
-        return Signed { sign: t, sig: b - a };
-    }
-    Signed { sign: false, sig: 0 }
 }

@@ -23,7 +23,10 @@ pub fn round(ties: Ties, sign: bool, sig: u64, exp: u16) -> u32
     let zeros = u64::leading_zeros(sig) as u64;
     let digits = (exp as u64) + 64 - zeros;
     let place = last_place(digits);
-    pack(sign, assemble(place - 149, kept(ties, sig << zeros, place + 64 - digits)))
+    pack(
+        sign,
+        assemble(place - 149, kept(ties, sig << zeros, place + 64 - digits)),
+    )
 }
 
 // The exponent of the last place of a number with so many digits: 24 are kept, and none below 2^-149.

@@ -1,13 +1,11 @@
 use borrow.Author.Needs.{needs}
 use mathlib.Core.Path.{sym, ap, _∙_}
-use Prim.Native.Nat.{ℕ, _*_, _^_}
 use native.Mathlib.Omega.{arith}
 use Rattle.rounding.specs.declared.Ties.the-variants.{ToEven}
 use Rattle.rounding.specs.Format.{binary32}
-use Rattle.rounding.specs.Value.{encode, round}
-use Rattle.binary32.specs.Exact.{plusFinite}
-use Rattle.binary32.proofs.Sums.{sum-swap}
-use Rattle.binary32.proofs.Products.{vanished, product-reaches}
+use Rattle.rounding.specs.Value.{Value, encode, round}
+use Rattle.binary32.proofs.Products.{vanished}
+use Rattle.binary32.proofs.Placing.{placed-reaches, placed-sum}
 use Rattle.binary32.proofs.fused.fused_sum.Statement.{statement}
 use Rattle.binary32.proofs.fused.fused_sum.Tie as tie
 
@@ -26,20 +24,17 @@ returns-2 c = let a = c .before .before .before .args in rw (← vanished (a .p)
 raised-requires : tie.Need-raised-requires
 raised-requires c κs = search needs
 
+placed-requires : tie.Need-placed-requires
+placed-requires c κs = search needs
+
 aligned-requires : tie.Need-aligned-requires
 aligned-requires c κs =
     let b = c .before .before .before .before in
     let z = c .before .raised .ensures in
-    (omega arith, product-reaches (b .args .p) (b .args .i) _ _ (b .pre .0) (omega arith) (z .low) (z .high))
-
-aligned-requires-2 : tie.Need-aligned-requires-2
-aligned-requires-2 c κs = search needs
+    placed-reaches _ (b .args .p) (b .args .i) _ _ _ _ (c .placed .ensures) (b .pre .0) (omega arith) (z .low) (z .high)
 
 returns-3 : tie.Need-returns-3
-returns-3 c = rw (← c .before .before .raised .ensures .value) (c .aligned .ensures)
-
-returns-4 : tie.Need-returns-4
-returns-4 c = rw (← c .before .before .raised .ensures .value) (c .aligned2 .ensures ∙ ap (λ v. encode binary32 (round ToEven binary32 v)) (sum-swap _ _ _ _))
+returns-3 c = rw (← c .before .before .raised .ensures .value) (c .aligned .ensures ∙ ap (λ (v : Value). encode binary32 (round ToEven binary32 v)) (placed-sum _ _ _ _ _ _ _ (c .before .placed .ensures)))
 
 pub fused-sum-spec : {M : Type 1} → statement M
 fused-sum-spec =
@@ -50,7 +45,6 @@ fused-sum-spec =
     round-sum-requires-2
     returns-2
     raised-requires
+    placed-requires
     aligned-requires
-    aligned-requires-2
-    returns-3
-    returns-4)
+    returns-3)

@@ -20,7 +20,7 @@ enum-known-b-2 : tie.Need-enum-known-b-2
 enum-known-b-2 c = search needs
 
 finite-sum-requires : tie.Need-finite-sum-requires
-finite-sum-requires c κs = let b = c .before .before .before in (b .pre .0, rw (c .before .b2 .given .1) at (b .pre .1))
+finite-sum-requires c κs = let b = c .before .before .before in (rw (c .before .b2 .given .1) at (b .pre .1 .1), (b .pre .0, rw (c .before .b2 .given .1) at (b .pre .1 .0)))
 
 returns : tie.Need-returns
 unfolding valueOf addValue plus finer round encode

@@ -1,23 +1,54 @@
 use borrow.Author.Needs.{needs}
-use mathlib.Core.Path.{ap, _∙_}
+use mathlib.Core.Path.{sym, ap, _∙_}
+use Prim.Native.Nat.{_-_}
+use native.Mathlib.Omega.{arith}
 use Rattle.rounding.specs.Format.{binary32}
 use Rattle.rounding.specs.Value.{encode}
-use Rattle.binary32.proofs.Near.{add-swap}
+use Rattle.binary32.proofs.Near.{moved, near-sum}
+use Rattle.binary32.proofs.Far.{far-sum}
 use Rattle.binary32.proofs.sum.finite_sum.Statement.{statement}
 use Rattle.binary32.proofs.sum.finite_sum.Tie as tie
 
-ordered-sum-requires : tie.Need-ordered-sum-requires
-ordered-sum-requires c κs = search needs
+sub-gap : tie.Need-sub-gap
+sub-gap c = search needs
 
-ordered-sum-requires-2 : tie.Need-ordered-sum-requires-2
-ordered-sum-requires-2 c κs = search needs
+packed-requires : tie.Need-packed-requires
+packed-requires c κs = search needs
 
 returns : tie.Need-returns
-returns c = search needs
+returns c =
+    let b = c .before .before in
+    c .packed .ensures ∙ ap (encode binary32) (sym (far-sum _ (b .args .m) (b .args .e) _ (b .args .n) (b .args .d) (b .pre .1 .0) (b .pre .1 .1) (omega arith)))
+
+cast-round-sum : tie.Need-cast-round-sum
+cast-round-sum c = search needs
+
+shl-round-sum : tie.Need-shl-round-sum
+shl-round-sum c = search needs
+
+add-round-sum : tie.Need-add-round-sum
+add-round-sum c = search needs
+
+round-sum-requires : tie.Need-round-sum-requires
+round-sum-requires c κs =
+    let b = c .before in
+    let m = moved (b .args .m) 24 (b .args .e - b .args .d) (b .pre .1 .0 .sig) (omega arith) in
+    (rw (m .0) (m .1), omega arith)
 
 returns-2 : tie.Need-returns-2
-returns-2 c = c .ordered-sum2 .ensures ∙ ap (encode binary32) (add-swap _ _ _ _)
+returns-2 c =
+    let b = c .before .before in
+    c .round-sum .ensures ∙ near-sum _ (b .args .m) (b .args .e) _ (b .args .n) (b .args .d) (b .pre .1 .0 .sig) (b .pre .0) (c .before .if1 .left)
 
 pub finite-sum-spec : {M : Type 1} → statement M
 finite-sum-spec =
-    tie.close (tie.spec ordered-sum-requires ordered-sum-requires-2 returns returns-2)
+    tie.close
+    (tie.spec
+    sub-gap
+    packed-requires
+    returns
+    cast-round-sum
+    shl-round-sum
+    add-round-sum
+    round-sum-requires
+    returns-2)

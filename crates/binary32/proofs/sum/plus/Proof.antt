@@ -22,7 +22,7 @@ enum-known-a-2 : tie.Need-enum-known-a-2
 enum-known-a-2 c = search needs
 
 finite-plus-requires : tie.Need-finite-plus-requires
-finite-plus-requires c κs = let b = c .before .before .before in (rw (c .before .a2 .given .1) at (b .pre .0), b .pre .1)
+finite-plus-requires c κs = let b = c .before .before .before in (rw (c .before .a2 .given .1) at (b .pre .0), (b .pre .1 .0, rw (c .before .a2 .given .1) at (b .pre .1 .1)))
 
 returns : tie.Need-returns
 unfolding valueOf addValue plus finer round encode

@@ -1,0 +1,48 @@
+//! What is tested: the steps of the static library.
+use crate::step::{Question, Step};
+
+mod exported {
+    // The archive that `rt staticlib exports` makes defines these.
+    extern "C" {
+        pub fn jirmeklo_add(x: u32, y: u32) -> u32;
+        pub fn jirmeklo_sub(x: u32, y: u32) -> u32;
+        pub fn jirmeklo_mul(x: u32, y: u32) -> u32;
+        pub fn jirmeklo_fma(x: u32, y: u32, z: u32) -> u32;
+    }
+}
+
+// SAFETY, for the four: the functions take and return plain numbers, are proved for every pattern,
+// and touch no memory of the caller's.
+pub fn add(x: u32, y: u32) -> u32 {
+    unsafe { exported::jirmeklo_add(x, y) }
+}
+
+pub fn sub(x: u32, y: u32) -> u32 {
+    unsafe { exported::jirmeklo_sub(x, y) }
+}
+
+pub fn mul(x: u32, y: u32) -> u32 {
+    unsafe { exported::jirmeklo_mul(x, y) }
+}
+
+pub fn fma(x: u32, y: u32, z: u32) -> u32 {
+    unsafe { exported::jirmeklo_fma(x, y, z) }
+}
+
+/// Whatever answers questions: the library, or the library with a planted fault.
+pub trait Subject: Sync {
+    fn answer(&self, step: Step, q: Question) -> u32;
+}
+
+pub struct Library;
+
+impl Subject for Library {
+    fn answer(&self, step: Step, q: Question) -> u32 {
+        match step {
+            Step::Add => add(q.x, q.y),
+            Step::Sub => sub(q.x, q.y),
+            Step::Mul => mul(q.x, q.y),
+            Step::Fma => fma(q.x, q.y, q.z),
+        }
+    }
+}

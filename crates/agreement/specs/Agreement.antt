@@ -1,15 +1,15 @@
 -- The steps on patterns agree with lib.Ieee, the toolchain's own account of IEEE 754. Each name is a statement;
 -- `proofs/Agreement.antt` has its proof. Assumes nothing.
 use mathlib.Core.Path.{_≡_}
-use Prim.Native.Nat.{ℕ, _^_, _<_}
+use Prim.Native.Nat.{ℕ}
 use lib.Ieee.{binary32, ofBits, toBits, add, sub, mul}
 use Rattle.binary32.specs.Steps.{addStep, subStep, mulStep}
 
 abbrev pub AddAgrees : Type 0
-AddAgrees = (x y : ℕ) → x < 2 ^ 32 → y < 2 ^ 32 → addStep x y ≡ toBits binary32 (add binary32 (ofBits binary32 x) (ofBits binary32 y))
+AddAgrees = (x y : ℕ) → addStep x y ≡ toBits binary32 (add binary32 (ofBits binary32 x) (ofBits binary32 y))
 
 abbrev pub SubAgrees : Type 0
-SubAgrees = (x y : ℕ) → x < 2 ^ 32 → y < 2 ^ 32 → subStep x y ≡ toBits binary32 (sub binary32 (ofBits binary32 x) (ofBits binary32 y))
+SubAgrees = (x y : ℕ) → subStep x y ≡ toBits binary32 (sub binary32 (ofBits binary32 x) (ofBits binary32 y))
 
 abbrev pub MulAgrees : Type 0
-MulAgrees = (x y : ℕ) → x < 2 ^ 32 → y < 2 ^ 32 → mulStep x y ≡ toBits binary32 (mul binary32 (ofBits binary32 x) (ofBits binary32 y))
+MulAgrees = (x y : ℕ) → mulStep x y ≡ toBits binary32 (mul binary32 (ofBits binary32 x) (ofBits binary32 y))

@@ -66,7 +66,7 @@ module _ (s : Bool) (c : ℕ) where
       let w : suc d - 1 ≡ d = omega arith in
       sym (unsigned-finite binary32 s c (omega arith) ∙ ap (finite s) (v ∙ ap (λ (k : ℕ). (2 ^ 23 + c % 2 ^ 23) * 2 ^ k) (sym w)))
 
-value-class : (x : ℕ) → valueOf (classOf x) ≡ decode binary32 x
+pub value-class : (x : ℕ) → valueOf (classOf x) ≡ decode binary32 x
 unfolding valueOf decode
 value-class x =
     let s = leb (2 ^ 31) x in

@@ -7,3 +7,4 @@ pub mod Far
 pub mod Jam
 pub mod Products
 pub mod Placing
+pub mod Theorems

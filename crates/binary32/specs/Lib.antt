@@ -1,3 +1,4 @@
 pub mod Exact
 pub mod Steps
 pub mod Classes
+pub mod Theorems

@@ -1,13 +1,13 @@
 -- The theorems of `specs/Theorems.antt`. Assumes nothing.
-use mathlib.Core.Path.{_≡_, sym, subst}
+use mathlib.Core.Path.{_≡_, refl, subst}
 use Prim.Native.Nat.{ℕ, suc, _*_, _^_, _≤_}
 use native.Mathlib.Nat.{zero-add, le-of-mul-le-mul-right}
 use mathlib.Core.Bool.{Bool}
 use lib.Pow.{pow-pos}
-use Rattle.rounding.specs.Format.{Format, Proper, low}
+use Rattle.rounding.specs.Format.{Format, Proper, low, limit, edge}
 use Rattle.rounding.specs.Nearest.{Rep}
 use Rattle.rounding.specs.Value.{finite, Fits, decode}
-use Rattle.rounding.specs.Theorems.{Nearest, TieToZero, TieToEven, RulesDiffer, Exact, Monotone, Scaling, RoundToOdd, OverflowToEven, OverflowToZero, NearestPattern, TieToZeroPattern, DecodeEncode, EncodeDecode, DecodeFits, RoundFits}
+use Rattle.rounding.specs.Theorems.{Binary32Numbers, Nearest, TieToZero, TieToEven, RulesDiffer, Exact, Monotone, Scaling, RoundToOdd, OverflowToEven, OverflowToZero, NearestPattern, TieToZeroPattern, DecodeEncode, EncodeDecode, DecodeFits, RoundFits}
 use Rattle.rounding.specs.declared.Ties.the-variants.{ToEven, ToZero}
 use Rattle.rounding.proofs.Rounded.{rounded-near, rounded-near0, rounded-differ, rounded-exact, rounded-mono, rounded-scale}
 use Rattle.rounding.proofs.Even.{rounded-even}
@@ -15,6 +15,10 @@ use Rattle.rounding.proofs.Sticky.{odd}
 use Rattle.rounding.proofs.Scaled.{rep-up}
 use Rattle.rounding.proofs.Codec.{decode-encode, encode-decode, decode-fits}
 use Rattle.rounding.proofs.RoundValue.{round-below, round-above, round-finite, round-fits, under-edge, over-edge, even-at-edge, zero-at-edge}
+
+pub binary32-numbers : Binary32Numbers
+unfolding limit edge
+binary32-numbers = (refl, refl, refl, λ operands. refl, refl, refl)
 
 pub nearest : Nearest
 nearest = rounded-near

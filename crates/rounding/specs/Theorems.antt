@@ -2,13 +2,20 @@
 use mathlib.Core.Path.{_≡_}
 use mathlib.Core.Logic.{_⊎_, _≢_}
 use mathlib.Core.Bool.{Bool}
-use Prim.Native.Nat.{ℕ, suc, _+_, _*_, _%_, _^_, _≤_, _<_}
+use mathlib.Core.List.{List}
+use Prim.Native.Nat.{ℕ, suc, _+_, _-_, _*_, _%_, _^_, _≤_, _<_}
 use Rattle.rounding.specs.declared.Ties.{Ties}
 use Rattle.rounding.specs.declared.Ties.the-variants.{ToEven, ToZero}
-use Rattle.rounding.specs.Format.{Format, Proper, low, edge, signBit}
+use Rattle.rounding.specs.Format.{Format, binary32, Proper, low, limit, edge, infinity, signBit}
 use Rattle.rounding.specs.Round.{rounded}
 use Rattle.rounding.specs.Nearest.{dist, Rep, Near, Near0}
-use Rattle.rounding.specs.Value.{Value, nan, infinite, finite, Fits, decode, bits, encode, roundFinite, round}
+use Rattle.rounding.specs.Value.{Value, nan, infinite, finite, Fits, decode, nanOf, bits, encode, roundFinite, round}
+
+-- ---- document 01's numbers of binary32: u = 2 ^ -149, +infinity, the sign bit, the NaN, 2 ^ 128, and the edge 2 ^ 128 - 2 ^ 103
+abbrev pub Binary32Numbers : Type 0
+Binary32Numbers =
+    (low binary32 ≡ 149) × (infinity binary32 ≡ 0x7f80_0000) × (signBit binary32 ≡ 0x8000_0000) × ((operands : List ℕ) → nanOf binary32 operands ≡ 0x7fc0_0000)
+    × (limit binary32 ≡ 2 ^ 128 * 2 ^ 149) × (edge binary32 ≡ (2 ^ 128 - 2 ^ 103) * 2 ^ 298)
 
 -- ---- nearest, for every precision and every lowest exponent
 -- the rounded number is representable, and no representable number is nearer

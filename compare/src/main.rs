@@ -1,4 +1,4 @@
-//! `compare check` compares the library with the processor; `compare bench` times it.
+//! `compare check` compares the library with the processor, `compare bench` times it, `compare step` asks it one question.
 mod bench;
 mod edges;
 mod fused;
@@ -18,10 +18,11 @@ use processor::Processor;
 use questions::{Source, SHAPES};
 use std::process::ExitCode;
 use std::time::Instant;
-use step::STEPS;
-use subject::Library;
+use step::{Question, Step, STEPS};
+use subject::{Library, Subject};
 
-const USAGE: &str = "usage: compare check [--seed N] [--count N] | compare bench [--seed N]
+const USAGE: &str = "usage: compare check [--seed N] [--count N] | compare bench [--seed N] | compare step STEP PATTERN PATTERN [PATTERN]
+    STEP        add, sub, mul or fma, which takes three patterns; a pattern is eight upper-case hexadecimal digits
     --seed N    the seed of the random questions (default 1)
     --count N   random questions a step, shared by the shapes (default 24000000)";
 
@@ -35,6 +36,9 @@ fn main() -> ExitCode {
     let Some((command, rest)) = words.split_first() else {
         return wrong_usage();
     };
+    if command == "step" {
+        return one_step(rest);
+    }
     let Some(options) = options(rest) else {
         return wrong_usage();
     };
@@ -53,6 +57,24 @@ fn main() -> ExitCode {
 fn wrong_usage() -> ExitCode {
     eprintln!("{USAGE}");
     ExitCode::from(2)
+}
+
+/// Asks the library one question and prints the answer's pattern.
+fn one_step(words: &[String]) -> ExitCode {
+    let Some((name, patterns)) = words.split_first() else {
+        return wrong_usage();
+    };
+    let Some(step) = STEPS.into_iter().find(|step| step.name() == name) else {
+        return wrong_usage();
+    };
+    let patterns: Option<Vec<u32>> = patterns.iter().map(|word| pattern::read(word)).collect();
+    let question = match (step, patterns.as_deref()) {
+        (Step::Fma, Some(&[x, y, z])) => Question::three(x, y, z),
+        (Step::Add | Step::Sub | Step::Mul, Some(&[x, y])) => Question::two(x, y),
+        _ => return wrong_usage(),
+    };
+    println!("{:08X}", Library.answer(step, question));
+    ExitCode::SUCCESS
 }
 
 fn options(words: &[String]) -> Option<Options> {

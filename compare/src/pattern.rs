@@ -7,6 +7,16 @@ pub const SMALLEST_NORMAL: u32 = 0x0080_0000;
 pub const FRACTION: u32 = 0x007F_FFFF;
 pub const NAN: u32 = 0x7FC0_0000;
 
+/// A pattern as it is written: eight upper-case hexadecimal digits.
+pub fn read(word: &str) -> Option<u32> {
+    let digits = word.len() == 8 && word.bytes().all(|b| matches!(b, b'0'..=b'9' | b'A'..=b'F'));
+    if digits {
+        u32::from_str_radix(word, 16).ok()
+    } else {
+        None
+    }
+}
+
 /// The pattern of 2^exponent, for a normal power of two.
 pub const fn power(exponent: i32) -> u32 {
     ((exponent + 127) as u32) << 23

@@ -13,9 +13,9 @@ use lib.Ieee.Nearest.{closest, closest-same, div-same}
 use lib.Ieee.Scale.{round-same}
 use Rattle.rounding.specs.declared.Ties.the-variants.{ToEven}
 use Rattle.rounding.specs.Format.{limit}
-use Rattle.rounding.specs.Round.{nearest, keep, ulp, rounded}
+use Rattle.rounding.specs.Round.{nearest, keep, lastPlace, rounded}
 use Rattle.rounding.specs.Value.{infinite, finite, roundFinite}
-use Rattle.rounding.proofs.LastPlace.{ulp-is}
+use Rattle.rounding.proofs.LastPlace.{place-is}
 use Rattle.agreement.proofs.Fraction.{Counts}
 use Rattle.agreement.proofs.Same.{ours, low-is, digits-is, both-inf, Agree, odd-same}
 
@@ -31,7 +31,7 @@ keep-is k N = rw (mul-comm 2 (N % 2 ^ k)) (even (N / 2 ^ k) (compare (N % 2 ^ k 
 
 -- ---- its exponent: of the digits of the whole units k are dropped
 module _ (g L N k : ℕ) (is : size (N / 2 ^ L) - suc g ≡ k) where
-  last-place : ulp g L N ≡ L + k
+  last-place : lastPlace g L N ≡ L + k
   last-place =
       let n = N / 2 ^ L in
       let up : N < 2 ^ (suc g + (L + k)) = lt-of-lt-of-le (div-lt-iff-lt-mul (pow-pos L) .0 (size-lt n)) (rw (← pow-add 2 (size n) L) (pow-mono (omega arith))) in
@@ -39,7 +39,7 @@ module _ (g L N k : ℕ) (is : size (N / 2 ^ L) - suc g ≡ k) where
       let e : g + (L + k) ≡ g + k + L = omega arith in
       rw (e, pow-add 2 (g + k) L) (le-div-iff-mul-le (pow-pos L) .0 (size-reaches n (g + k) (omega arith)))
       in
-      ulp-is g L (L + k) N (omega arith) up down
+      place-is g L (L + k) N (omega arith) up down
 
   rounded-is : rounded ToEven g L N ≡ closest N (2 ^ (L + k)) * 2 ^ k
   unfolding rounded

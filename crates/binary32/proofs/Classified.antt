@@ -1,16 +1,16 @@
 -- The class of a pattern stands for the value that the pattern decodes to, within bounds; and a flipped sign bit negates. Assumes nothing.
-use mathlib.Core.Path.{_≡_, refl, sym, ap, ap₂, _∙_, subst}
-use mathlib.Core.Logic.{_⊎_, inl, inr}
+use mathlib.Core.Path.{_≡_, refl, sym, ap, _∙_}
+use mathlib.Core.Logic.{inl, inr}
 use mathlib.Core.Bool.{Bool, true, false, not, cond}
 use Prim.Native.Nat.{ℕ, zero, suc, _+_, _-_, _*_, _/_, _%_, _^_, _≤_, _<_}
-use native.Mathlib.Nat.{le-refl, le-of-lt, mul-one, lt-irrefl, mod-lt}
+use native.Mathlib.Nat.{le-refl, le-of-lt, mul-one, lt-irrefl}
 use native.Mathlib.Decide.{decLe}
 use native.Mathlib.Omega.{arith}
-use borrow.Author.Tests.{lt-leb, le-leb, lt-ltb, le-ltb, eq-eqb, ne-eqb}
+use borrow.Author.Tests.{lt-leb, le-leb, lt-ltb, le-ltb, ne-eqb}
 use lib.Dec.{leb, ltb, eqb}
-use lib.Pow.{pow-pos, mod-mod-pow}
+use lib.Pow.{mod-mod-pow}
 use Rattle.rounding.specs.Format.{binary32, infinity}
-use Rattle.rounding.specs.Value.{Value, nan, infinite, finite, fields, magnitude, unsigned, decode}
+use Rattle.rounding.specs.Value.{finite, fields, magnitude, unsigned, decode}
 use Rattle.rounding.proofs.Compare.{tri}
 use Rattle.rounding.proofs.Codec.{unsigned-finite, unsigned-infinite, unsigned-nan}
 use Rattle.binary32.specs.declared.class.Class.{Class}

@@ -1,28 +1,24 @@
 -- The sum of two operands whose exponents are far apart is the larger one. Assumes nothing.
-use mathlib.Core.Path.{_≡_, refl, sym, ap, _∙_, subst}
-use mathlib.Core.Logic.{_⊎_, inl, inr}
-use mathlib.Core.Bool.{Bool, true, false}
+use mathlib.Core.Path.{_≡_, refl, sym, ap, _∙_}
+use mathlib.Core.Logic.{inl, inr}
+use mathlib.Core.Bool.{Bool}
 use Prim.Native.Nat.{ℕ, suc, _+_, _-_, _*_, _^_, _≤_, _<_}
-use native.Mathlib.Nat.{le-trans, le-of-eq, lt-of-lt-of-le, add-mul, mul-assoc, mul-le-mul-left, mul-le-mul-right, mul-lt-mul-of-pos-right, eq-of-mul-eq-mul-right}
+use native.Mathlib.Nat.{le-trans, le-of-eq, lt-of-lt-of-le, add-mul, mul-le-mul-right, mul-lt-mul-of-pos-right, eq-of-mul-eq-mul-right}
 use native.Mathlib.Omega.{arith}
 use lib.Pow.{pow-add, pow-pos, pow-mono}
 use Rattle.rounding.specs.declared.Ties.the-variants.{ToEven}
-use Rattle.rounding.specs.Format.{binary32, low, limit}
+use Rattle.rounding.specs.Format.{binary32, limit}
 use Rattle.rounding.specs.Round.{rounded}
 use Rattle.rounding.specs.Nearest.{dist}
 use Rattle.rounding.specs.Value.{Value, finite, roundFinite, round}
-use Rattle.rounding.proofs.Multiple.{sub-mul}
+use Rattle.rounding.proofs.Multiple.{joined, sub-mul}
 use Rattle.rounding.proofs.Rounded.{rounded-near}
 use Rattle.rounding.proofs.RoundValue.{round-below}
 use Rattle.rounding.proofs.Spacing.{near-spaced}
-use Rattle.binary32.specs.Exact.{plusFinite, plus, finer}
+use Rattle.binary32.specs.Exact.{plus, finer}
 use Rattle.binary32.specs.Steps.{addValue}
 use Rattle.binary32.specs.Classes.{Operand}
 use Rattle.binary32.proofs.Sums.{like?, sum-same, sum-left}
-
--- the exponents are kept as variables: L for 149
-joined : (m i j k : ℕ) → i + j ≡ k → m * 2 ^ i * 2 ^ j ≡ m * 2 ^ k
-joined m i j k e = mul-assoc m (2 ^ i) (2 ^ j) ∙ ap (λ (x : ℕ). m * x) (sym (pow-add 2 i j) ∙ ap (λ (x : ℕ). 2 ^ x) e)
 
 -- n * 2 ^ d is below a quarter of 2 ^ e
 quarter : (n d e L : ℕ) → n < 2 ^ 24 → d + 26 ≤ e → 2 ≤ L → n * 2 ^ d * 2 ^ L < 2 ^ (e + (L - 2))

@@ -2,13 +2,13 @@
 use mathlib.Core.Path.{_≡_, refl, ap, ap₂, _∙_, sym, subst}
 use mathlib.Core.Logic.{_⊎_, inl, inr}
 use mathlib.Core.Bool.{Bool, cond}
-use Prim.Native.Nat.{ℕ, zero, suc, _+_, _-_, _*_, _/_, _%_, _^_, _≤_, _<_}
-use native.Mathlib.Nat.{le-refl, le-trans, le-of-eq, lt-of-lt-of-le, lt-of-le-of-lt, one-mul, mul-one, add-mul, mul-assoc, mul-le-mul-left, mul-le-mul-right, mul-lt-mul-of-pos-right, pow-succ', mod-eq-of-lt, mod-lt, div-add-mod', div-eq-of-lt, zero-mul, eq-zero-or-pos, sub-add-cancel}
+use Prim.Native.Nat.{ℕ, suc, _+_, _-_, _*_, _/_, _%_, _^_, _≤_, _<_}
+use native.Mathlib.Nat.{le-trans, le-of-eq, lt-of-le-of-lt, mul-one, add-mul, mul-le-mul-left, mul-le-mul-right, mul-lt-mul-of-pos-right, pow-succ', mod-eq-of-lt, mod-lt, div-add-mod', div-eq-of-lt, zero-mul, eq-zero-or-pos, sub-add-cancel}
 use native.Mathlib.Decide.{decLe, ℕ-discrete}
 use native.Mathlib.Omega.{arith}
 use borrow.Author.Tests.{lt-ltb, le-ltb, lt-leb, le-leb, eq-eqb, ne-eqb}
 use lib.Dec.{ltb, leb, eqb}
-use lib.Pow.{pow-add, pow-pos, pow-mono}
+use lib.Pow.{pow-pos, pow-mono}
 use Rattle.rounding.specs.declared.Ties.the-variants.{ToEven}
 use Rattle.rounding.specs.Format.{binary32}
 use Rattle.rounding.specs.Round.{rounded}
@@ -16,9 +16,9 @@ use Rattle.rounding.specs.Value.{Value, finite, encode, roundFinite, round}
 use Rattle.rounding.proofs.Remainder.{shifted-back}
 use Rattle.rounding.proofs.Sticky.{odd}
 use Rattle.binary32.specs.Exact.{plusFinite}
-use Rattle.binary32.specs.Classes.{Reaches, Odd, Jammed}
+use Rattle.binary32.specs.Classes.{Reaches, Jammed}
 use Rattle.binary32.proofs.Sums.{like?, sum-same, sum-left}
-use Rattle.binary32.proofs.Near.{joined}
+use Rattle.rounding.proofs.Multiple.{joined}
 
 -- ---- what the code makes of b / 2 ^ g
 module _ (b g : ℕ) where

@@ -6,5 +6,6 @@ pub mod Near
 pub mod Far
 pub mod Jam
 pub mod Products
-pub mod Placing
+pub mod Ordering
 pub mod Theorems
+pub mod Integers

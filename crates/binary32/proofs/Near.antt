@@ -1,22 +1,20 @@
 -- The sum of two operands whose exponents are near: both at the lower exponent, exactly; and the pattern of an operand. Assumes nothing.
 use mathlib.Core.Path.{_≡_, refl, sym, ap, ap₂, _∙_}
 use mathlib.Core.Bool.{Bool, true, false, cond}
-use Prim.Native.Nat.{ℕ, suc, _+_, _-_, _*_, _%_, _^_, _≤_, _<_}
-use native.Mathlib.Nat.{le-trans, le-of-eq, lt-of-lt-of-le, mul-assoc, mod-eq-of-lt, sub-add-cancel, mul-lt-mul-of-pos-right, pow-succ'}
+use Prim.Native.Nat.{ℕ, _+_, _-_, _*_, _%_, _^_, _≤_, _<_}
+use native.Mathlib.Nat.{lt-of-lt-of-le, mod-eq-of-lt}
 use native.Mathlib.Omega.{arith}
-use lib.Pow.{pow-add, pow-pos, pow-mono, shl-lt}
+use lib.Pow.{pow-pos, pow-mono, shl-lt}
 use Rattle.rounding.specs.declared.Ties.the-variants.{ToEven}
-use Rattle.rounding.specs.Format.{binary32, low}
+use Rattle.rounding.specs.Format.{binary32}
 use Rattle.rounding.specs.Value.{Value, finite, decode, encode, bits, roundFinite, round}
+use Rattle.rounding.proofs.Multiple.{joined}
 use Rattle.rounding.proofs.Bits.{bits-at}
 use Rattle.binary32.specs.Exact.{plusFinite, plus, finer}
 use Rattle.binary32.specs.Steps.{addValue}
 use Rattle.binary32.specs.Classes.{Operand}
 use Rattle.binary32.proofs.Sums.{sum-scale, finer-sum}
 use Rattle.binary32.proofs.Special.{plus-comm}
-
-pub joined : (m i j k : ℕ) → i + j ≡ k → m * 2 ^ i * 2 ^ j ≡ m * 2 ^ k
-joined m i j k e = mul-assoc m (2 ^ i) (2 ^ j) ∙ ap (λ (x : ℕ). m * x) (sym (pow-add 2 i j) ∙ ap (λ (x : ℕ). 2 ^ x) e)
 
 -- a significand of w digits moved up by g places stays below 2 ^ 63
 pub moved : (m w g : ℕ) → m < 2 ^ w → w + g ≤ 63 → (m * 2 ^ g % 2 ^ 64 ≡ m * 2 ^ g) × (m * 2 ^ g < 2 ^ 63)

@@ -1,7 +1,7 @@
 -- Exact products of operands: their value and their bounds; a third operand brought to 24 digits. Assumes nothing.
-use mathlib.Core.Path.{_≡_, refl, ap, _∙_, sym}
-use mathlib.Core.Logic.{_⊎_, inl, inr}
-use mathlib.Core.Bool.{Bool, true, false}
+use mathlib.Core.Path.{_≡_, ap, _∙_, sym}
+use mathlib.Core.Logic.{inl, inr}
+use mathlib.Core.Bool.{true, false}
 use Prim.Native.Nat.{ℕ, suc, _+_, _-_, _*_, _%_, _^_, _≤_, _<_}
 use native.Mathlib.Nat.{zero-mul, mul-pos, pos-of-ne-zero, mul-mul-mul-comm, mul-le-mul-left, mul-le-mul-right, mul-lt-mul-of-pos-right, lt-of-le-of-lt, lt-of-lt-of-le, le-of-lt, le-of-eq, le-trans, le-mul-of-pos-right, lt-of-not-le, not-le-of-lt, mod-eq-of-lt, mul-comm, eq-zero-or-pos}
 use native.Mathlib.Omega.{arith}
@@ -9,8 +9,8 @@ use lib.Count.{leadingZeros, leading-top}
 use lib.Dec.{eqb}
 use lib.Pow.{pow-add, pow-pos, pow-mono, shl-lt}
 use borrow.Author.Tests.{eq-eqb, ne-eqb}
-use Rattle.binary32.specs.Classes.{Operand, Product, Raised, Reaches}
-use Rattle.binary32.proofs.Near.{joined}
+use Rattle.binary32.specs.Classes.{Operand, Product, Normal, Reaches}
+use Rattle.rounding.proofs.Multiple.{joined}
 
 -- ---- zero or not
 pub none : (n d : ℕ) → n ≡ 0 → eqb (n * 2 ^ d) 0 ≡ true
@@ -49,8 +49,8 @@ module _ (c j : ℕ) (pos : 0 < c) (high : c < 2 ^ 24) (le : 149 ≤ j) where
       let j : top .0 < 24 = lt-of-not-le (λ (g : 24 ≤ top .0). not-le-of-lt high (le-trans (pow-mono {i = 24} g) (top .2))) in
       omega arith
 
-  pub raised-is : Raised c j (c * 2 ^ (leadingZeros 64 c - 40) % 2 ^ 64) (j - (leadingZeros 64 c - 40))
-  raised-is =
+  pub normalised-is : Normal c j (c * 2 ^ (leadingZeros 64 c - 40) % 2 ^ 64) (j - (leadingZeros 64 c - 40))
+  normalised-is =
       let top = leading-top 64 c pos (omega arith) in
       let u = leadingZeros 64 c - 40 in
       let z = zeros-ge in

@@ -1,7 +1,6 @@
 -- Steps with NaN and infinities need no rounding, and addends may be exchanged. Assumes nothing.
-use mathlib.Core.Path.{_≡_, refl, sym, ap, _∙_}
+use mathlib.Core.Path.{_≡_, refl, ap, _∙_}
 use mathlib.Core.Bool.{Bool, true, false, Bool·beq, cond}
-use Prim.Native.Nat.{ℕ}
 use Rattle.rounding.specs.declared.Ties.{Ties}
 use Rattle.rounding.specs.Format.{Format}
 use Rattle.rounding.specs.Value.{Value, nan, infinite, finite, round}

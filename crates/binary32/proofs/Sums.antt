@@ -10,7 +10,7 @@ use lib.Dec.{ltb}
 use lib.Pow.{pow-pos}
 use borrow.Author.Tests.{lt-ltb, le-ltb}
 use Rattle.rounding.specs.Format.{Format, low}
-use Rattle.rounding.specs.Value.{Value, finite}
+use Rattle.rounding.specs.Value.{finite}
 use Rattle.rounding.proofs.Compare.{tri}
 use Rattle.rounding.proofs.Multiple.{sub-mul}
 use Rattle.binary32.specs.Exact.{plusFinite, finer}

@@ -62,8 +62,8 @@ pub record ProductIs (v : Value) (r : Class) : Type 0 where
   pub bounded : Bounded Product r
 
 -- ---- parts of a fused sum
--- c * 2 ^ j again, with all 24 digits
-pub record Raised (c j a k : ℕ) : Type 0 where
+-- a * 2 ^ k is c * 2 ^ j, with all 24 digits
+pub record Normal (c j a k : ℕ) : Type 0 where
   pub value : a * 2 ^ k ≡ c * 2 ^ j
   pub low : 2 ^ 23 ≤ a
   pub high : a < 2 ^ 24
@@ -71,9 +71,9 @@ pub record Raised (c j a k : ℕ) : Type 0 where
   pub below : k ≤ j
 
 -- by which of the exponents is the higher one
-pub data Placed (s : Bool) (p i : ℕ) (t : Bool) (z k : ℕ) (r : Addends) : Type 0 where
-  product-first : k ≤ i → r ≡ record { s = s; a = p; i = i; t = t; b = z; j = k; room = 15 } → Placed s p i t z k r
-  operand-first : i < k → r ≡ record { s = t; a = z; i = k; t = s; b = p; j = i; room = 38 } → Placed s p i t z k r
+pub data Ordered (s : Bool) (p i : ℕ) (t : Bool) (z k : ℕ) (r : Addends) : Type 0 where
+  product-first : k ≤ i → r ≡ record { s = s; a = p; i = i; t = t; b = z; j = k; room = 15 } → Ordered s p i t z k r
+  operand-first : i < k → r ≡ record { s = t; a = z; i = k; t = s; b = p; j = i; room = 38 } → Ordered s p i t z k r
 
 -- the first significand can go up by `room` places, and where that is not the whole way it then stands far above the second
 pub record Reaches (a i b j room : ℕ) : Type 0 where
@@ -83,11 +83,12 @@ pub record Reaches (a i b j room : ℕ) : Type 0 where
   pub second : b < 2 ^ 48
   pub first : room < i - j → 2 * b + 2 ^ 26 ≤ a * 2 ^ room
 
--- r is b / 2 ^ g, or b is no multiple of 2 ^ g, and r is odd and less than 1 away from b / 2 ^ g
+-- r is odd and less than 1 away from b / 2 ^ g
 pub record Odd (b g r : ℕ) : Type 0 where
   pub odd : r % 2 ≡ 1
   pub over : b < (r + 1) * 2 ^ g
   pub under : r * 2 ^ g < b + 2 ^ g
 
+-- r is b / 2 ^ g itself, or such an odd number
 abbrev pub Jammed : ℕ → ℕ → ℕ → Type 0
 Jammed b g r = (r * 2 ^ g ≡ b) ⊎ Odd b g r

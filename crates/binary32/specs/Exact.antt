@@ -4,6 +4,7 @@ use Prim.Native.Nat.{ℕ, _+_, _-_, _*_, _^_}
 use mathlib.Core.Bool.{Bool, true, false, not, Bool·beq, cond}
 use lib.Dec.{ltb, eqb}
 use lib.Ieee.{unlike}
+use lib.IntN.{ℤ, pos, negℤ}
 use Rattle.rounding.specs.Format.{Format, low}
 use Rattle.rounding.specs.Value.{Value, nan, infinite, finite}
 
@@ -12,11 +13,11 @@ negate nan = nan
 negate (infinite s) = infinite (not s)
 negate (finite s a) = finite (not s) a
 
--- "An exact zero from add, subtract or fused takes the common sign of the two addends, else +0."
+-- "An exact zero from add, subtract or fused takes the common sign of the two addends .. else +0."
 unfoldable pub plusFinite : Bool → ℕ → Bool → ℕ → Value
 plusFinite s a t b = cond (Bool·beq s t) (finite s (a + b)) (cond (ltb b a) (finite s (a - b)) (cond (ltb a b) (finite t (b - a)) (finite false 0)))
 
--- "infinities as in IEEE 754-2019": the difference of two equal infinities is NaN
+-- "infinities as in IEEE 754-2019": the sum of opposite infinities is NaN
 unfoldable pub plus : Value → Value → Value
 unfolding plusFinite
 plus nan y = nan
@@ -36,6 +37,11 @@ times (infinite s) (finite t b) = cond (eqb b 0) nan (infinite (unlike s t))
 times (finite s a) nan = nan
 times (finite s a) (infinite t) = cond (eqb a 0) nan (infinite (unlike s t))
 times (finite s a) (finite t b) = finite (unlike s t) (a * b)
+
+-- a whole number by its sign and magnitude
+abbrev pub int : Bool → ℕ → ℤ
+int false a = pos a
+int true a = negℤ (pos a)
 
 -- the same value, counted in u * u
 unfoldable pub finer : Format → Value → Value

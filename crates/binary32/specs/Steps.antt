@@ -11,6 +11,7 @@ unfoldable pub addValue : Format → Value → Value → Value
 unfolding round plus finer
 addValue F x y = round ToEven F (finer F (plus x y))
 
+-- "for subtract, the second flipped"
 unfoldable pub subValue : Format → Value → Value → Value
 unfolding addValue negate
 subValue F x y = addValue F x (negate y)
@@ -26,7 +27,7 @@ fmaValue F x y z = round ToEven F (plus (times x y) (finer F z))
 
 -- ---- on patterns of binary32
 
--- The pattern of a result. A NaN result is a matter of the operands: `nanOf` alone decides it.
+-- The pattern of a result: `encode`, with the operands at hand for `nanOf`, which today does not look at them.
 unfoldable pub result : List ℕ → Value → ℕ
 unfolding encode
 result operands nan = nanOf binary32 operands

@@ -29,6 +29,7 @@ pub fn classify(x: u32) -> Class
             sig: (0x80_0000 + fraction) as u64,
             exp: (field - 1) as u16,
         },
+        // 255
         _ => {
             if fraction == 0 {
                 Class::Infinite(sign)

@@ -9,7 +9,7 @@ ghost use Rattle.rounding.specs.declared.Ties.the-variants.{ToEven};
 ghost use Rattle.rounding.specs.Format.{binary32};
 ghost use Rattle.rounding.specs.Value.{encode, round};
 ghost use Rattle.binary32.specs.Exact.{plusFinite};
-ghost use Rattle.binary32.specs.Classes.{Product, Raised, Placed, Reaches, Jammed};
+ghost use Rattle.binary32.specs.Classes.{Product, Normal, Ordered, Reaches, Jammed};
 
 // A product of up to 48 digits and an operand of up to 24.
 pub fn fused_sum(s: bool, p: u64, i: u16, t: bool, c: u64, j: u16) -> u32
@@ -23,8 +23,8 @@ pub fn fused_sum(s: bool, p: u64, i: u16, t: bool, c: u64, j: u16) -> u32
     if p == 0 {
         return round_sum(s, 0, t, c, j);
     }
-    let z = raised(c, j);
-    aligned(placed(s, p, i, t, z.sig, z.exp))
+    let z = normalised(c, j);
+    aligned(ordered(s, p, i, t, z.sig, z.exp))
 }
 
 // A significand and its exponent.
@@ -34,9 +34,9 @@ pub struct Scaled {
 }
 
 // The same number with a significand of 24 digits.
-fn raised(c: u64, j: u16) -> Scaled
+fn normalised(c: u64, j: u16) -> Scaled
     requires { ⌜ (0 < c) × (c < 2 ^ 24) × (149 ≤ j) ⌝ }
-    ensures { λ r. ⌜ Raised c j (r .sig) (r .exp) ⌝ }
+    ensures { λ r. ⌜ Normal c j (r .sig) (r .exp) ⌝ }
 {
     let up = u64::leading_zeros(c) - 40;
     Scaled {
@@ -57,8 +57,8 @@ pub struct Addends {
 }
 
 // A product and an operand of 24 digits, by their exponents.
-fn placed(s: bool, p: u64, i: u16, t: bool, z: u64, k: u16) -> Addends
-    ensures { λ r. ⌜ Placed s p i t z k r ⌝ }
+fn ordered(s: bool, p: u64, i: u16, t: bool, z: u64, k: u16) -> Addends
+    ensures { λ r. ⌜ Ordered s p i t z k r ⌝ }
 {
     let first = k <= i;
     Addends {

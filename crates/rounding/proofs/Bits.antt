@@ -1,19 +1,20 @@
 -- Magnitudes and the bits below the sign: each is the other's inverse, the order of the one is the order of the other, and the bits of
 -- a rounded number. Assumes nothing.
-use mathlib.Core.Path.{_≡_, refl, sym, ap, _∙_, subst}
-use mathlib.Core.Logic.{_⊎_, inl, inr}
-use Prim.Native.Nat.{ℕ, zero, suc, _+_, _-_, _*_, _/_, _%_, _^_, _≤_, _<_, max}
-use native.Mathlib.Nat.{le-refl, lt-irrefl, le-of-eq, le-trans, lt-of-le-of-lt, eq-or-lt-of-le, mul-one, mul-assoc, mul-comm, mul-le-mul-right, mul-lt-mul-of-pos-right, le-of-mul-le-mul-right, lt-of-mul-lt-mul-right, mul-div-cancel, div-eq-of-lt, mod-eq-of-lt, mod-lt, div-add-mod', le-div-iff-mul-le, div-lt-iff-lt-mul, pow-succ'}
+use mathlib.Core.Path.{_≡_, refl, sym, ap, _∙_}
+use mathlib.Core.Logic.{inl, inr}
+use Prim.Native.Nat.{ℕ, zero, suc, _+_, _-_, _*_, _/_, _%_, _^_, _≤_, _<_}
+use native.Mathlib.Nat.{le-refl, le-of-lt, lt-irrefl, le-of-eq, le-trans, lt-of-le-of-lt, eq-or-lt-of-le, mul-one, mul-le-mul-right, mul-lt-mul-of-pos-right, le-of-mul-le-mul-right, lt-of-mul-lt-mul-right, mul-div-cancel, div-eq-of-lt, mod-eq-of-lt, mod-lt, div-add-mod', le-div-iff-mul-le, div-lt-iff-lt-mul, pow-succ'}
+use native.Mathlib.Decide.{decLe}
 use native.Mathlib.Omega.{arith}
 use lib.Arith.{digits-div, digits-mod}
 use lib.Ieee.{size}
 use lib.Pow.{pow-add, pow-pos, shr-mono}
 use Rattle.rounding.specs.declared.Ties.{Ties}
-use Rattle.rounding.specs.Round.{keep, ulp, rounded}
-use Rattle.rounding.specs.Value.{fields, magnitude, bits}
+use Rattle.rounding.specs.Round.{keep, lastPlace, rounded}
+use Rattle.rounding.specs.Value.{magnitude, bits}
 use Rattle.rounding.specs.Nearest.{Rep}
 use Rattle.rounding.proofs.Compare.{tri}
-use Rattle.rounding.proofs.LastPlace.{ulp-is, ulp-above, ulp-below, ulp-mono}
+use Rattle.rounding.proofs.LastPlace.{place-is, place-above, place-below, place-mono}
 use Rattle.rounding.proofs.Representable.{rep-unit}
 use Rattle.rounding.proofs.Rounded.{keep-le, keep-ge}
 
@@ -50,19 +51,19 @@ mag-at f zero q h g =
 mag-at f (suc d) q h g = mag-big f (suc d) q (g (omega arith)) h
 
 -- ---- from the magnitude to bits
-ulp-zero : (f a : ℕ) → ulp f 0 a ≡ size a - suc f
-unfolding ulp
-ulp-zero f a = omega arith
+place-zero : (f a : ℕ) → lastPlace f 0 a ≡ size a - suc f
+unfolding lastPlace
+place-zero f a = omega arith
 
-bits-ulp : (f a : ℕ) → bits f a ≡ ulp f 0 a * 2 ^ f + a / 2 ^ ulp f 0 a
+bits-place : (f a : ℕ) → bits f a ≡ lastPlace f 0 a * 2 ^ f + a / 2 ^ lastPlace f 0 a
 unfolding bits
-bits-ulp f a = rw (ulp-zero f a)
+bits-place f a = rw (place-zero f a)
 
 bits-digits : (f d q : ℕ) → q < 2 * 2 ^ f → (0 < d → 2 ^ f ≤ q) → bits f (q * 2 ^ d) ≡ d * 2 ^ f + q
 bits-digits f d q h g =
     let up : q * 2 ^ d < 2 ^ (suc f + d) = rw (pow-add 2 (suc f) d, pow-succ' 2 f) (mul-lt-mul-of-pos-right h (pow-pos d)) in
     let down : 0 < d → 2 ^ (f + d) ≤ q * 2 ^ d = λ l. rw (pow-add 2 f d) (mul-le-mul-right (2 ^ d) (g l)) in
-    bits-ulp f (q * 2 ^ d) ∙ rw (ulp-is f 0 d (q * 2 ^ d) (omega arith) up down, mul-div-cancel q (pow-pos d))
+    bits-place f (q * 2 ^ d) ∙ rw (place-is f 0 d (q * 2 ^ d) (omega arith) up down, mul-div-cancel q (pow-pos d))
 
 pub bits-at : (f d q : ℕ) → q ≤ 2 * 2 ^ f → (0 < d → 2 ^ f ≤ q) → bits f (q * 2 ^ d) ≡ d * 2 ^ f + q
 bits-at f d q h g =
@@ -74,9 +75,9 @@ bits-at f d q h g =
     ]
 
 -- the bits of a rounded number: the carry goes into the exponent field
-pub bits-rounded : (t : Ties) (f L N : ℕ) → bits f (rounded t f L N) ≡ (ulp f L N - L) * 2 ^ f + keep t (ulp f L N) N
+pub bits-rounded : (t : Ties) (f L N : ℕ) → bits f (rounded t f L N) ≡ (lastPlace f L N - L) * 2 ^ f + keep t (lastPlace f L N) N
 unfolding rounded
-bits-rounded t f L N = bits-at f (ulp f L N - L) (keep t (ulp f L N) N) (keep-le t f L N) (λ h. keep-ge t f L N (omega arith))
+bits-rounded t f L N = bits-at f (lastPlace f L N - L) (keep t (lastPlace f L N) N) (keep-le t f L N) (λ h. keep-ge t f L N (omega arith))
 
 -- ---- each is the other's inverse
 -- the significand and exponent of bits c
@@ -119,39 +120,36 @@ magnitude-rep f c =
 
 pub magnitude-bits : (f a : ℕ) → Rep (suc f) 0 a → magnitude f (bits f a) ≡ a
 magnitude-bits f a r =
-    let k = ulp f 0 a in
-    let high : 0 < k → 2 ^ f * 2 ^ k ≤ a = λ h. rw (← pow-add 2 f k) (ulp-below f 0 a h) in
+    let k = lastPlace f 0 a in
+    let high : 0 < k → 2 ^ f * 2 ^ k ≤ a = λ h. rw (← pow-add 2 f k) (place-below f 0 a h) in
     let c = rep-unit {k = k} r high in
     let q : a / 2 ^ k ≡ c .0 = ap (λ (x : ℕ). x / 2 ^ k) (c .1) ∙ mul-div-cancel (c .0) (pow-pos k) in
     let up : c .0 < 2 * 2 ^ f =
-    lt-of-mul-lt-mul-right (2 ^ k) (lt-of-le-of-lt (le-of-eq (sym (c .1))) (rw (← pow-succ' 2 f, ← pow-add 2 (suc f) k) (ulp-above f 0 a)))
+    lt-of-mul-lt-mul-right (2 ^ k) (lt-of-le-of-lt (le-of-eq (sym (c .1))) (rw (← pow-succ' 2 f, ← pow-add 2 (suc f) k) (place-above f 0 a)))
     in
     let down : 0 < k → 2 ^ f ≤ c .0 = λ h. le-of-mul-le-mul-right (le-trans (high h) (le-of-eq (c .1))) (pow-pos k) in
-    ap (magnitude f) (bits-ulp f a ∙ ap (λ (x : ℕ). k * 2 ^ f + x) q) ∙ mag-at f k (c .0) (omega arith) down ∙ sym (c .1)
+    ap (magnitude f) (bits-place f a ∙ ap (λ (x : ℕ). k * 2 ^ f + x) q) ∙ mag-at f k (c .0) (omega arith) down ∙ sym (c .1)
 
 -- ---- order
 pub bits-mono : (f a b : ℕ) → a ≤ b → bits f a ≤ bits f b
 bits-mono f a b h =
-    let k = ulp f 0 a in
-    let j = ulp f 0 b in
-    rw (bits-ulp f a, bits-ulp f b)
-    (elim (eq-or-lt-of-le (ulp-mono f 0 a b h)) [
+    let k = lastPlace f 0 a in
+    let j = lastPlace f 0 b in
+    rw (bits-place f a, bits-place f b)
+    (elim (eq-or-lt-of-le (place-mono f 0 a b h)) [
       | inl e ↦ rw e (omega (arith, shr-mono j h))
       | inr l ↦
-          let up : a / 2 ^ k < 2 * 2 ^ f = div-lt-iff-lt-mul (pow-pos k) .1 (rw (← pow-succ' 2 f, ← pow-add 2 (suc f) k) (ulp-above f 0 a)) in
-          let down : 2 ^ f ≤ b / 2 ^ j = le-div-iff-mul-le (pow-pos j) .1 (rw (← pow-add 2 f j) (ulp-below f 0 b (omega arith))) in
+          let up : a / 2 ^ k < 2 * 2 ^ f = div-lt-iff-lt-mul (pow-pos k) .1 (rw (← pow-succ' 2 f, ← pow-add 2 (suc f) k) (place-above f 0 a)) in
+          let down : 2 ^ f ≤ b / 2 ^ j = le-div-iff-mul-le (pow-pos j) .1 (rw (← pow-add 2 f j) (place-below f 0 b (omega arith))) in
           omega (arith, mul-le-mul-right (2 ^ f) l)
     ])
 
-pub magnitude-mono : (f c d : ℕ) → c ≤ d → magnitude f c ≤ magnitude f d
-magnitude-mono f c d h =
-    elim (tri (magnitude f c) (magnitude f d)) [
-      | inl l ↦ omega arith
-      | inr o ↦ elim o [
-        | inl e ↦ omega arith
-        | inr l ↦
-            let b = bits-mono f (magnitude f d) (magnitude f c) (omega arith) in
-            let e : c ≡ d = omega (arith, bits-magnitude f c, bits-magnitude f d) in
-            le-of-eq (ap (magnitude f) e)
-      ]
+pub magnitude-lt : (f c d : ℕ) → c < d → magnitude f c < magnitude f d
+magnitude-lt f c d h =
+    elim (decLe (magnitude f d) (magnitude f c)) [
+      | yes l ↦ absurd (omega (arith, bits-mono f (magnitude f d) (magnitude f c) l, bits-magnitude f c, bits-magnitude f d))
+      | no l ↦ omega arith
     ]
+
+pub magnitude-mono : (f c d : ℕ) → c ≤ d → magnitude f c ≤ magnitude f d
+magnitude-mono f c d h = elim (eq-or-lt-of-le h) [ inl e ↦ le-of-eq (ap (magnitude f) e) | inr l ↦ le-of-lt (magnitude-lt f c d l) ]

@@ -1,25 +1,20 @@
 -- Patterns and values: each is read back from the other, and rounding gives values of the format. Assumes nothing.
-use mathlib.Core.Path.{_≡_, refl, sym, ap, ap₂, _∙_, subst}
-use mathlib.Core.Logic.{_⊎_, inl, inr}
-use mathlib.Core.Bool.{Bool, true, false, cond}
+use mathlib.Core.Path.{_≡_, refl, sym, ap, ap₂, _∙_}
+use mathlib.Core.Logic.{inl, inr}
+use mathlib.Core.Bool.{Bool, true, false}
 use mathlib.Core.List.{[]}
-use Prim.Native.Nat.{ℕ, suc, _+_, _-_, _*_, _/_, _%_, _^_, _≤_, _<_, min}
-use native.Mathlib.Nat.{le-refl, le-of-eq, lt-of-le-of-lt, mod-lt, mod-eq-of-lt, div-add-mod', mul-le-mul-right, pow-succ', le-of-mul-le-mul-right, mul-one, zero-add}
+use Prim.Native.Nat.{ℕ, suc, _+_, _-_, _*_, _%_, _^_, _≤_, _<_}
+use native.Mathlib.Nat.{le-refl, mod-eq-of-lt, zero-add}
 use native.Mathlib.Decide.{decLe}
 use native.Mathlib.Omega.{arith}
 use borrow.Author.Tests.{lt-ltb, le-ltb, le-leb, lt-leb, eq-eqb, ne-eqb}
-use lib.Dec.{ltb, leb, eqb}
+use lib.Dec.{leb}
 use lib.Arith.{digits-mod}
 use lib.Pow.{pow-add, pow-pos, pow-lt}
-use Rattle.rounding.specs.declared.Ties.{Ties}
-use Rattle.rounding.specs.Format.{Format, low, limit, ones, infinity, signBit}
-use Rattle.rounding.specs.Round.{rounded}
-use Rattle.rounding.specs.Nearest.{Rep, Near}
-use Rattle.rounding.specs.Value.{Value, nan, infinite, finite, Fits, magnitude, unsigned, decode, nanOf, bits, signed, encode, roundFinite, round}
+use Rattle.rounding.specs.Format.{Format, low, limit, infinity, signBit}
+use Rattle.rounding.specs.Nearest.{Rep}
+use Rattle.rounding.specs.Value.{Value, nan, infinite, finite, Fits, magnitude, unsigned, decode, nanOf, bits, signed, encode}
 use Rattle.rounding.proofs.Compare.{tri}
-use Rattle.rounding.proofs.Multiple.{Mult}
-use Rattle.rounding.proofs.Representable.{rep-lt}
-use Rattle.rounding.proofs.Rounded.{rounded-near}
 use Rattle.rounding.proofs.Bits.{mag-at, bits-at, bits-mono, bits-magnitude, magnitude-bits, magnitude-rep, magnitude-mono}
 
 -- ---- the infinity's bits are those of the limit

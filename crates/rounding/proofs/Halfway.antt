@@ -1,22 +1,21 @@
 -- A tie between the largest significand and the next power of two, and which numbers lie above it. Assumes nothing.
 -- With the last place 2 ^ suc j, `last` is the largest significand of suc f digits there, `next` the number behind it, and `tie` is halfway.
-use mathlib.Core.Path.{_≡_, refl, sym, ap, _∙_, subst}
-use Prim.Native.Nat.{ℕ, suc, _+_, _-_, _*_, _/_, _%_, _^_, _≤_, _<_}
-use native.Mathlib.Nat.{le-refl, le-of-eq, le-trans, lt-of-le-of-lt, mul-assoc, mul-le-mul-right, suc-mul, mul-comm, mul-left-comm, pow-succ'}
+use mathlib.Core.Path.{_≡_, sym, ap, _∙_}
+use Prim.Native.Nat.{ℕ, suc, _+_, _-_, _*_, _%_, _^_, _≤_, _<_}
+use native.Mathlib.Nat.{le-of-eq, le-trans, mul-le-mul-right, suc-mul, pow-succ'}
 use native.Mathlib.Decide.{decLe}
 use native.Mathlib.Omega.{arith}
 use lib.Arith.{digits-div, digits-mod}
-use lib.Pow.{pow-add, pow-pos, pow-lt, pow-mono}
+use lib.Pow.{pow-add, pow-pos, pow-lt}
 use Rattle.rounding.specs.declared.Ties.{Ties}
 use Rattle.rounding.specs.declared.Ties.the-variants.{ToEven, ToZero}
-use Rattle.rounding.specs.Round.{tied, keep, ulp, rounded}
-use Rattle.rounding.specs.Nearest.{dist, Rep, Near}
-use Rattle.rounding.proofs.LastPlace.{ulp-is}
+use Rattle.rounding.specs.Round.{tied, keep, lastPlace, rounded}
+use Rattle.rounding.specs.Nearest.{Rep, Near}
+use Rattle.rounding.proofs.LastPlace.{place-is}
 use Rattle.rounding.proofs.Keep.{keep-eq}
-use Rattle.rounding.proofs.Multiple.{Mult}
 use Rattle.rounding.proofs.Representable.{rep-pow, rep-le, rep-unit}
 use Rattle.rounding.proofs.NearLaws.{near-le, near-ge}
-use Rattle.rounding.proofs.Rounded.{rounded-keep, rounded-near, rounded-mono}
+use Rattle.rounding.proofs.Rounded.{rounded-keep, rounded-mono}
 
 module _ (f j : ℕ) where
   abbrev pub last : ℕ
@@ -73,20 +72,20 @@ module _ (f L j : ℕ) (le : L ≤ suc j) where
       ]
 
   -- ---- at the tie
-  ulp-tie : ulp f L (tie f j) ≡ suc j
-  ulp-tie =
+  place-tie : lastPlace f L (tie f j) ≡ suc j
+  place-tie =
       let up : tie f j < 2 ^ (suc f + suc j) = rw (pow-add 2 (suc f) (suc j)) (omega (arith, last-next f j, pow-pos j)) in
       let down : L < suc j → 2 ^ (f + suc j) ≤ tie f j = λ g.
       rw (pow-add 2 f (suc j)) (let z = mul-le-mul-right (2 ^ suc j) (let z : 2 ^ f ≤ 2 ^ suc f - 1 = omega (arith, pow-pos f, pow-succ' 2 f) in z) in omega arith)
       in
-      ulp-is f L (suc j) (tie f j) le up down
+      place-is f L (suc j) (tie f j) le up down
 
   at-tie : (t : Ties) → rounded t f L (tie f j) * 2 ^ L ≡ tied t (2 ^ suc f - 1) * 2 ^ suc j
   at-tie t =
       let lt : 2 ^ j < 2 ^ suc j = pow-lt (omega arith) in
       let half : 2 * (tie f j % 2 ^ suc j) ≡ 2 ^ suc j = ap (λ (x : ℕ). 2 * x) (digits-mod (2 ^ suc f - 1) lt) ∙ sym (pow-succ' 2 j) in
       let k : keep t (suc j) (tie f j) ≡ tied t (2 ^ suc f - 1) = keep-eq t (suc j) (tie f j) half ∙ ap (tied t) (digits-div (2 ^ suc f - 1) lt) in
-      rounded-keep t f L (tie f j) ∙ ap (λ (x : ℕ). keep t x (tie f j) * 2 ^ x) ulp-tie ∙ ap (λ (x : ℕ). x * 2 ^ suc j) k
+      rounded-keep t f L (tie f j) ∙ ap (λ (x : ℕ). keep t x (tie f j) * 2 ^ x) place-tie ∙ ap (λ (x : ℕ). x * 2 ^ suc j) k
 
   odd-last : tied ToEven (2 ^ suc f - 1) ≡ 2 ^ suc f
   odd-last = let p = pow-succ' 2 f in let q = pow-pos f in omega arith

@@ -1,11 +1,11 @@
--- N / 2 ^ k to the nearest whole number: by the remainder, its distance from N, exactness, order and scaling. Assumes nothing.
-use mathlib.Core.Path.{_≡_, refl, sym, ap, ap₂, _∙_, subst}
-use mathlib.Core.Logic.{_⊎_, inl, inr}
+-- N / 2 ^ k to the nearest whole number: by the remainder, its distance from N, and scaling. Assumes nothing.
+use mathlib.Core.Path.{_≡_, sym, ap₂, _∙_, subst}
+use mathlib.Core.Logic.{inl, inr}
 use Prim.Native.Nat.{ℕ, suc, _+_, _*_, _/_, _%_, _^_, _≤_, _<_}
-use native.Mathlib.Nat.{le-refl, le-suc, le-of-eq, add-zero, eq-or-lt-of-le, mul-assoc, mul-le-mul-right, mul-div-cancel, mul-mod-left, mul-div-mul-right, mod-lt, div-add-mod'}
+use native.Mathlib.Nat.{le-refl, le-suc, add-zero, eq-or-lt-of-le, mul-assoc, mul-div-cancel, mul-mod-left, mul-div-mul-right, mod-lt, div-add-mod'}
 use native.Mathlib.Omega.{arith}
 use lib.Arith.{mod-mul}
-use lib.Pow.{pow-add, pow-pos, shr-mono}
+use lib.Pow.{pow-add, pow-pos}
 use Rattle.rounding.specs.declared.Ties.{Ties}
 use Rattle.rounding.specs.declared.Ties.the-variants.{ToEven, ToZero}
 use Rattle.rounding.specs.Round.{tied, keep}
@@ -56,37 +56,7 @@ kept t k N =
       ]
     ]
 
--- ---- exact, monotone, scaled
-pub keep-exact : (t : Ties) (k q : ℕ) → keep t k (q * 2 ^ k) ≡ q
-keep-exact t k q =
-    let r : q * 2 ^ k % 2 ^ k ≡ 0 = mul-mod-left q (2 ^ k) in
-    keep-lt t k (q * 2 ^ k) (rw r (pow-pos k)) ∙ mul-div-cancel q (pow-pos k)
-
-pub keep-mono : (t : Ties) (k N M : ℕ) → N ≤ M → keep t k N ≤ keep t k M
-keep-mono t k N M h =
-    let m = 2 ^ k in
-    let a : N / m * m + N % m ≡ N = div-add-mod' N m in
-    let b : M / m * m + M % m ≡ M = div-add-mod' M m in
-    let same : N / m ≡ M / m → keep t k N ≤ keep t k M = λ e.
-    let c : N / m * m ≡ M / m * m = ap (λ (x : ℕ). x * m) e in
-    let lo = kept t k N in
-    let hi = kept t k M in
-    elim (tri (2 * (N % m)) m) [
-      | inl x ↦ omega (arith, keep-lt t k N x)
-      | inr o ↦ elim o [
-        | inl x ↦ elim (tri (2 * (M % m)) m) [
-          | inl y ↦ absurd (omega arith)
-          | inr o ↦ elim o [
-            | inl y ↦ le-of-eq (keep-eq t k N x ∙ ap (tied t) e ∙ sym (keep-eq t k M y))
-            | inr y ↦ omega (arith, keep-gt t k M y)
-          ]
-        ]
-        | inr x ↦ omega (arith, keep-gt t k M (omega arith))
-      ]
-    ]
-    in
-    elim (eq-or-lt-of-le (shr-mono k h)) [ inl e ↦ same e | inr l ↦ omega (arith, kept t k N .high, kept t k M .low) ]
-
+-- ---- scaled
 mod-scale : (N m c : ℕ) → 0 < m → 0 < c → N * c % (m * c) ≡ N % m * c
 mod-scale N m c p q = mod-mul (N * c) p q ∙ ap₂ (λ (x y : ℕ). x % m * c + y) (mul-div-cancel N q) (mul-mod-left N c) ∙ add-zero (N % m * c)
 

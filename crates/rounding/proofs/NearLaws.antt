@@ -1,14 +1,10 @@
 -- What follows from being nearest: exact on representable numbers, within bounds, monotone, and where the two tie rules part. Assumes nothing.
-use mathlib.Core.Path.{_≡_, sym, ap}
+use mathlib.Core.Path.{_≡_, sym}
 use mathlib.Core.Logic.{_⊎_, inl, inr}
-use Prim.Native.Nat.{ℕ, suc, _+_, _-_, _*_, _/_, _%_, _^_, _≤_, _<_}
-use native.Mathlib.Nat.{le-of-eq, le-trans, mul-lt-mul-of-pos-right, lt-of-mul-lt-mul-right, mod-lt, div-add-mod', suc-mul}
+use Prim.Native.Nat.{ℕ, _+_, _*_, _≤_, _<_}
 use native.Mathlib.Decide.{decLe}
 use native.Mathlib.Omega.{arith}
-use lib.Pow.{pow-pos}
 use Rattle.rounding.specs.Nearest.{dist, Rep, Near, Near0}
-use Rattle.rounding.proofs.Multiple.{Mult, mult-down}
-use Rattle.rounding.proofs.Representable.{rep-mult, rep-lt, rep-pow, rep-le}
 
 pub near-exact : {p l n a : ℕ} → Near p l n a → Rep p l n → a ≡ n
 near-exact {n = n} {a = a} h r = omega (arith, h .best n r)
@@ -61,29 +57,3 @@ near-order {n = n} {m = m} {a = a} {b = b} h x y =
         ]
       ]
     ]
-
--- ---- multiples
--- what is a multiple of 2 ^ g rounds to a multiple of 2 ^ g
-pub near-mult : {p l n a : ℕ} (g : ℕ) → Near (suc p) l n a → Mult g n → Mult g a
-near-mult {p} {l} {n} {a} g h c =
-    let r = h .rep in
-    let top : a < 2 ^ suc p * 2 ^ (r .e) = le-trans (le-of-eq (ap suc (r .is))) (mul-lt-mul-of-pos-right (r .small) (pow-pos (r .e))) in
-    elim (decLe g (r .e)) [
-      | yes k ↦ mult-down a k (rep-mult r)
-      | no k ↦ elim (decLe (2 ^ suc p * 2 ^ (r .e)) n) [
-        | yes b ↦ absurd (let q = near-ge h (rep-pow p l (r .e) (r .low)) b in omega arith)
-        | no b ↦
-            rw (near-exact h (rep-lt (r .e) n (r .low) (mult-down n (omega arith) c) (omega arith))) c
-      ]
-    ]
-
--- within half a unit, for every unit 2 ^ k at which n has at most suc p digits
-pub near-half : {p l n a : ℕ} (k : ℕ) → Near (suc p) l n a → l ≤ k → n < 2 ^ suc p * 2 ^ k → 2 * dist a n ≤ 2 ^ k
-near-half {p} {l} {n} {a} k h low top =
-    let q = n / 2 ^ k in
-    let s : q * 2 ^ k + n % 2 ^ k ≡ n = div-add-mod' n (2 ^ k) in
-    let r = mod-lt n (pow-pos k) in
-    let c : q < 2 ^ suc p = lt-of-mul-lt-mul-right (2 ^ k) {m = q} (omega arith) in
-    let x = h .best (q * 2 ^ k) (rep-le p l q k low (omega arith)) in
-    let y = h .best (suc q * 2 ^ k) (rep-le p l (suc q) k low c) in
-    omega (arith, suc-mul q (2 ^ k))

@@ -2,23 +2,21 @@
 use mathlib.Core.Path.{_≡_, refl, sym, ap, ap₂, _∙_}
 use mathlib.Core.Bool.{Bool}
 use Prim.Native.Nat.{ℕ, suc, _+_, _-_, _*_, _%_, _^_, _≤_, _<_, min, max}
-use native.Mathlib.Nat.{zero-mul, mul-assoc, mul-le-mul-right, lt-of-lt-of-le, mod-eq-of-lt, eq-of-mul-eq-mul-right, le-refl, lt-irrefl}
+use native.Mathlib.Nat.{zero-mul, mul-le-mul-right, lt-of-lt-of-le, mod-eq-of-lt, eq-of-mul-eq-mul-right, lt-irrefl}
 use native.Mathlib.Omega.{arith}
 use lib.Count.{leadingZeros, leading-top}
 use lib.Pow.{pow-add, pow-pos, pow-mono, shl-lt}
 use Rattle.rounding.specs.declared.Ties.{Ties}
 use Rattle.rounding.specs.Format.{binary32, infinity}
-use Rattle.rounding.specs.Round.{keep, ulp, rounded}
+use Rattle.rounding.specs.Round.{keep, lastPlace, rounded}
 use Rattle.rounding.specs.Value.{bits, signed, encode, roundFinite}
-use Rattle.rounding.proofs.LastPlace.{ulp-is}
+use Rattle.rounding.proofs.LastPlace.{place-is}
 use Rattle.rounding.proofs.Keep.{keep-scale}
+use Rattle.rounding.proofs.Multiple.{joined}
 use Rattle.rounding.proofs.Representable.{rep-zero}
 use Rattle.rounding.proofs.Rounded.{keep-le, rounded-exact}
 use Rattle.rounding.proofs.Bits.{bits-at, bits-rounded}
 use Rattle.rounding.proofs.RoundValue.{encode-round}
-
-joined : (m i j k : ℕ) → i + j ≡ k → m * 2 ^ i * 2 ^ j ≡ m * 2 ^ k
-joined m i j k e = mul-assoc m (2 ^ i) (2 ^ j) ∙ ap (λ (x : ℕ). m * x) (sym (pow-add 2 i j) ∙ ap (λ (x : ℕ). 2 ^ x) e)
 
 -- ---- nothing rounds to nothing
 pub round-zero : (t : Ties) (s : Bool) (e : ℕ) → encode binary32 (roundFinite t binary32 s (0 * 2 ^ e)) ≡ signed binary32 s 0
@@ -33,15 +31,15 @@ module _ (t : Ties) (sig e place : ℕ) (pos : 0 < sig) (word : sig < 2 ^ 64) (i
   pub zeros-lt : leadingZeros 64 sig < 64
   zeros-lt = let top = leading-top 64 sig pos word in omega arith
 
-  place-is : ulp 23 149 (sig * 2 ^ e) ≡ place
-  place-is =
+  at-last-place : lastPlace 23 149 (sig * 2 ^ e) ≡ place
+  at-last-place =
       let top = leading-top 64 sig pos word in
       let up : sig * 2 ^ e < 2 ^ (24 + place) = lt-of-lt-of-le (shl-lt (suc (top .0)) e (top .3)) (pow-mono (omega arith)) in
       let down : 149 < place → 2 ^ (23 + place) ≤ sig * 2 ^ e = λ h.
       let same : 23 + place ≡ top .0 + e = omega arith in
       rw (same, pow-add 2 (top .0) e) (mul-le-mul-right (2 ^ e) (top .2))
       in
-      ulp-is 23 149 place (sig * 2 ^ e) (omega arith) up down
+      place-is 23 149 place (sig * 2 ^ e) (omega arith) up down
 
   -- what is kept of the normalised word is what is kept of the number
   kept-is : keep t (place + 64 - (e + 64 - leadingZeros 64 sig)) (sig * 2 ^ leadingZeros 64 sig % 2 ^ 64) ≡ keep t place (sig * 2 ^ e)
@@ -57,8 +55,8 @@ module _ (t : Ties) (sig e place : ℕ) (pos : 0 < sig) (word : sig < 2 ^ 64) (i
 
   -- with q for what is kept of the normalised word
   module _ (q : ℕ) (kept : q ≡ keep t (place + 64 - (e + 64 - leadingZeros 64 sig)) (sig * 2 ^ leadingZeros 64 sig % 2 ^ 64)) where
-    at-place : q ≡ keep t (ulp 23 149 (sig * 2 ^ e)) (sig * 2 ^ e)
-    at-place = kept ∙ kept-is ∙ ap (λ (x : ℕ). keep t x (sig * 2 ^ e)) (sym place-is)
+    at-place : q ≡ keep t (lastPlace 23 149 (sig * 2 ^ e)) (sig * 2 ^ e)
+    at-place = kept ∙ kept-is ∙ ap (λ (x : ℕ). keep t x (sig * 2 ^ e)) (sym at-last-place)
 
     pub kept-small : q ≤ 2 ^ 24
     kept-small = rw at-place (keep-le t 23 149 (sig * 2 ^ e))
@@ -66,4 +64,4 @@ module _ (t : Ties) (sig e place : ℕ) (pos : 0 < sig) (word : sig < 2 ^ 64) (i
     pub round-is : (s : Bool) → encode binary32 (roundFinite t binary32 s (sig * 2 ^ e)) ≡ signed binary32 s (min (infinity binary32) ((place - 149) * 2 ^ 23 + q))
     round-is s =
         encode-round t binary32 s (sig * 2 ^ e) (omega arith)
-        ∙ ap (λ (x : ℕ). signed binary32 s (min (infinity binary32) x)) (bits-rounded t 23 149 (sig * 2 ^ e) ∙ ap₂ (λ (x y : ℕ). (x - 149) * 2 ^ 23 + y) place-is (sym at-place))
+        ∙ ap (λ (x : ℕ). signed binary32 s (min (infinity binary32) x)) (bits-rounded t 23 149 (sig * 2 ^ e) ∙ ap₂ (λ (x y : ℕ). (x - 149) * 2 ^ 23 + y) at-last-place (sym at-place))

@@ -1,29 +1,17 @@
--- Numbers of the format: how to make one, Sterbenz's lemma, and what lies between them. Assumes nothing.
+-- Numbers of the format: how to make one, and which lie around a given number. Assumes nothing.
 use mathlib.Core.Path.{_≡_, refl, sym, ap, _∙_}
-use Prim.Native.Nat.{ℕ, suc, _+_, _-_, _*_, _/_, _%_, _^_, _≤_, _<_}
-use native.Mathlib.Nat.{le-refl, le-trans, le-of-eq, zero-mul, one-mul, mul-le-mul-right, mul-lt-mul-of-pos-right, le-of-mul-le-mul-right, lt-of-mul-lt-mul-right, lt-of-lt-of-le, le-div-iff-mul-le, div-lt-iff-lt-mul}
+use Prim.Native.Nat.{ℕ, suc, _+_, _*_, _/_, _^_, _≤_, _<_}
+use native.Mathlib.Nat.{le-refl, le-trans, le-of-eq, zero-mul, one-mul, mul-le-mul-right, mul-lt-mul-of-pos-right, lt-of-lt-of-le, le-div-iff-mul-le, div-lt-iff-lt-mul}
 use native.Mathlib.Decide.{decLe}
 use native.Mathlib.Omega.{arith}
 use lib.Pow.{pow-add, pow-pos, pow-mono}
-use Rattle.rounding.specs.Nearest.{dist, Rep}
-use Rattle.rounding.proofs.Multiple.{Mult, mult-down, mult-sub}
+use Rattle.rounding.specs.Nearest.{Rep}
+use Rattle.rounding.proofs.Multiple.{Mult, mult-down}
 
 abbrev pub rep-mult : {p l n : ℕ} (r : Rep p l n) → Mult (r .e) n
 rep-mult r = (r .m, r .is)
 
-abbrev pub rep-low : {p l n : ℕ} → Rep p l n → Mult l n
-rep-low {n = n} r = mult-down n (r .low) (rep-mult r)
-
 -- ---- which numbers are representable
--- a multiple of 2 ^ g that is at most m * 2 ^ g
-pub rep-of : {p l : ℕ} (g n m : ℕ) → l ≤ g → Mult g n → n ≤ m * 2 ^ g → m < 2 ^ p → Rep p l n
-rep-of g n m h c b s =
-    let k : c .0 ≤ m = le-of-mul-le-mul-right (le-trans (le-of-eq (sym (c .1))) b) (pow-pos g) in
-    record { e = g; m = c .0; low = h; small = omega arith; is = c .1 }
-
-pub rep-lt : {p l : ℕ} (g n : ℕ) → l ≤ g → Mult g n → n < 2 ^ p * 2 ^ g → Rep p l n
-rep-lt {p} g n h c b = record { e = g; m = c .0; low = h; small = lt-of-mul-lt-mul-right (2 ^ g) (rw (c .1) at b); is = c .1 }
-
 pub rep-zero : {p l : ℕ} → Rep p l 0
 rep-zero {p} {l} = record { e = l; m = 0; low = le-refl l; small = pow-pos p; is = sym (zero-mul (2 ^ l)) }
 
@@ -39,18 +27,6 @@ rep-le p l q k h b =
       | yes s ↦ record { e = k; m = q; low = h; small = s; is = refl }
       | no s ↦ let e : q ≡ 2 ^ suc p = omega arith in rw e (rep-pow p l k h)
     ]
-
--- a number that is a multiple wherever two representable ones are, and no larger than either of them
-pub rep-between : {p l : ℕ} (x y d : ℕ) → Rep p l x → Rep p l y → ((g : ℕ) → Mult g x → Mult g y → Mult g d) → d ≤ x → d ≤ y → Rep p l d
-rep-between x y d r s f u v =
-    elim (decLe (r .e) (s .e)) [
-      | yes h ↦ rep-of (r .e) d (r .m) (r .low) (f (r .e) (rep-mult r) (mult-down y h (rep-mult s))) (le-trans u (le-of-eq (r .is))) (r .small)
-      | no h ↦ rep-of (s .e) d (s .m) (s .low) (f (s .e) (mult-down x (omega arith) (rep-mult r)) (rep-mult s)) (le-trans v (le-of-eq (s .is))) (s .small)
-    ]
-
--- Sterbenz: the difference of two numbers of which neither is more than twice the other is representable
-pub sterbenz : {p l : ℕ} (x y : ℕ) → Rep p l x → Rep p l y → y ≤ x → x ≤ 2 * y → Rep p l (x - y)
-sterbenz x y r s h k = rep-between x y (x - y) r s (λ g a b. mult-sub g x y a b) (omega arith) (omega arith)
 
 -- ---- what the exponent says of the size
 -- at an exponent below k: below 2 ^ p units of 2 ^ k

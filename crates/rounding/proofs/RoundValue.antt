@@ -1,22 +1,21 @@
 -- Rounding of a finite exact result: finite or infinite, the pattern of it, and where it overflows. Assumes nothing.
-use mathlib.Core.Path.{_≡_, refl, sym, ap, _∙_, subst}
-use mathlib.Core.Bool.{Bool, true, false, cond}
+use mathlib.Core.Path.{_≡_, sym, ap, _∙_}
+use mathlib.Core.Bool.{Bool}
 use Prim.Native.Nat.{ℕ, suc, _+_, _-_, _*_, _^_, _≤_, _<_, min}
-use native.Mathlib.Nat.{le-trans, le-of-eq, lt-of-le-of-lt, lt-of-lt-of-le, le-of-mul-le-mul-right, lt-of-mul-lt-mul-right, mul-assoc, suc-mul, zero-add, min-eq-left, pow-succ'}
+use native.Mathlib.Nat.{le-trans, le-of-eq, lt-of-lt-of-le, le-of-mul-le-mul-right, lt-of-mul-lt-mul-right}
 use native.Mathlib.Decide.{decLe}
 use native.Mathlib.Omega.{arith}
 use borrow.Author.Tests.{lt-ltb, le-ltb}
-use lib.Pow.{pow-add, pow-pos, pow-lt}
+use lib.Pow.{pow-add, pow-pos}
 use Rattle.rounding.specs.declared.Ties.{Ties}
 use Rattle.rounding.specs.declared.Ties.the-variants.{ToEven, ToZero}
 use Rattle.rounding.specs.Format.{Format, Proper, low, limit, edge, infinity}
 use Rattle.rounding.specs.Round.{rounded}
-use Rattle.rounding.specs.Nearest.{dist, Rep, Near}
-use Rattle.rounding.specs.Value.{Value, nan, infinite, finite, Fits, bits, signed, encode, decode, roundFinite, round}
-use Rattle.rounding.proofs.Rounded.{rounded-near, rounded-near0}
-use Rattle.rounding.proofs.Scaled.{rep-up, rounded-rep}
+use Rattle.rounding.specs.Value.{Value, nan, infinite, finite, Fits, bits, signed, encode, roundFinite, round}
+use Rattle.rounding.proofs.Rounded.{rounded-near}
+use Rattle.rounding.proofs.Scaled.{rounded-rep}
 use Rattle.rounding.proofs.Halfway.{last, next, tie, last-next, below-tie, above-tie, even-up, zero-down}
-use Rattle.rounding.proofs.Codec.{bits-below, bits-above, decode-fits}
+use Rattle.rounding.proofs.Codec.{bits-below, bits-above}
 
 -- ---- finite or infinite
 module _ (t : Ties) (F : Format) (s : Bool) (N : ℕ) where

@@ -1,40 +1,42 @@
 -- `rounded` is nearest, its tie rules, exactness, order and scaling. Assumes nothing.
-use mathlib.Core.Path.{_≡_, refl, sym, ap, _∙_, subst}
+use mathlib.Core.Path.{_≡_, sym, ap}
 use mathlib.Core.Logic.{_⊎_, inl, inr}
 use Prim.Native.Nat.{ℕ, suc, _+_, _-_, _*_, _/_, _%_, _^_, _≤_, _<_}
-use native.Mathlib.Nat.{le-refl, le-of-eq, le-of-lt, le-trans, mul-assoc, mul-le-mul-right, mul-lt-mul-of-pos-right, le-of-mul-le-mul-right, eq-of-mul-eq-mul-right, sub-add-cancel, le-div-iff-mul-le, div-lt-iff-lt-mul, div-add-mod', mod-lt, suc-mul, pow-succ'}
+use native.Mathlib.Nat.{le-refl, le-of-eq, mul-le-mul-right, le-of-mul-le-mul-right, eq-of-mul-eq-mul-right, le-div-iff-mul-le, div-lt-iff-lt-mul, div-add-mod', suc-mul, pow-succ'}
 use native.Mathlib.Decide.{decLe}
 use native.Mathlib.Omega.{arith}
-use lib.Pow.{pow-add, pow-pos, pow-mono}
+use lib.Pow.{pow-add, pow-pos}
 use Rattle.rounding.specs.declared.Ties.{Ties}
 use Rattle.rounding.specs.declared.Ties.the-variants.{ToEven, ToZero}
-use Rattle.rounding.specs.Round.{tied, keep, ulp, rounded}
+use Rattle.rounding.specs.Round.{keep, lastPlace, rounded}
 use Rattle.rounding.specs.Nearest.{dist, Rep, Near, Near0}
 use Rattle.rounding.proofs.Compare.{tri}
-use Rattle.rounding.proofs.LastPlace.{ulp-ge, ulp-above, ulp-below, ulp-scale}
+use Rattle.rounding.proofs.LastPlace.{place-ge, place-above, place-below, place-scale}
 use Rattle.rounding.proofs.Keep.{keep-lt, keep-eq, keep-gt, kept, keep-scale}
 use Rattle.rounding.proofs.Multiple.{split-unit, mult-down}
 use Rattle.rounding.proofs.Representable.{rep-mult, rep-under, rep-le, floor-best}
 use Rattle.rounding.proofs.NearLaws.{near-exact, near-near0, near-order}
 
+-- the significand that is cut off has at most suc f digits
+module _ (f L N : ℕ) where
+  pub quot-lt : N / 2 ^ lastPlace f L N < 2 * 2 ^ f
+  quot-lt = div-lt-iff-lt-mul (pow-pos (lastPlace f L N)) .1 (rw (← pow-succ' 2 f, ← pow-add 2 (suc f) (lastPlace f L N)) (place-above f L N))
+
+  pub quot-ge : L < lastPlace f L N → 2 ^ f ≤ N / 2 ^ lastPlace f L N
+  quot-ge h = le-div-iff-mul-le (pow-pos (lastPlace f L N)) .1 (rw (← pow-add 2 f (lastPlace f L N)) (place-below f L N h))
+
+-- the rounded one too, or it is the power of two behind them
 module _ (t : Ties) (f L N : ℕ) where
-  -- the rounded significand has at most suc f digits, or is the power of two behind them
-  quot-lt : N / 2 ^ ulp f L N < 2 * 2 ^ f
-  quot-lt = div-lt-iff-lt-mul (pow-pos (ulp f L N)) .1 (rw (← pow-succ' 2 f, ← pow-add 2 (suc f) (ulp f L N)) (ulp-above f L N))
+  pub keep-le : keep t (lastPlace f L N) N ≤ 2 * 2 ^ f
+  keep-le = omega (arith, quot-lt f L N, kept t (lastPlace f L N) N .high)
 
-  quot-ge : L < ulp f L N → 2 ^ f ≤ N / 2 ^ ulp f L N
-  quot-ge h = le-div-iff-mul-le (pow-pos (ulp f L N)) .1 (rw (← pow-add 2 f (ulp f L N)) (ulp-below f L N h))
+  pub keep-ge : L < lastPlace f L N → 2 ^ f ≤ keep t (lastPlace f L N) N
+  keep-ge h = omega (arith, quot-ge f L N h, kept t (lastPlace f L N) N .low)
 
-  pub keep-le : keep t (ulp f L N) N ≤ 2 * 2 ^ f
-  keep-le = omega (arith, quot-lt, kept t (ulp f L N) N .high)
-
-  pub keep-ge : L < ulp f L N → 2 ^ f ≤ keep t (ulp f L N) N
-  keep-ge h = omega (arith, quot-ge h, kept t (ulp f L N) N .low)
-
-  -- in units of N the result is a multiple of 2 ^ ulp
-  pub rounded-keep : rounded t f L N * 2 ^ L ≡ keep t (ulp f L N) N * 2 ^ ulp f L N
+  -- in units of N the result is a multiple of 2 ^ lastPlace
+  pub rounded-keep : rounded t f L N * 2 ^ L ≡ keep t (lastPlace f L N) N * 2 ^ lastPlace f L N
   unfolding rounded
-  rounded-keep = sym (split-unit (keep t (ulp f L N) N) (ulp-ge f L N))
+  rounded-keep = sym (split-unit (keep t (lastPlace f L N) N) (place-ge f L N))
 
 keep-nearest : (t : Ties) (k N y : ℕ) → dist (keep t k N * 2 ^ k) N ≤ dist (y * 2 ^ k) N
 keep-nearest t k N y =
@@ -49,14 +51,14 @@ keep-nearest t k N y =
     ]
 
 -- ---- nearest
-rounded-best : (t : Ties) (f L N m : ℕ) → Rep (suc f) L m → dist (keep t (ulp f L N) N * 2 ^ ulp f L N) N ≤ dist m N
+rounded-best : (t : Ties) (f L N m : ℕ) → Rep (suc f) L m → dist (keep t (lastPlace f L N) N * 2 ^ lastPlace f L N) N ≤ dist m N
 rounded-best t f L N m r =
-    let k = ulp f L N in
+    let k = lastPlace f L N in
     elim (decLe k (r .e)) [
       | yes g ↦ let c = mult-down m g (rep-mult r) in rw (c .1) (keep-nearest t k N (c .0))
       | no g ↦
           let low = r .low in
-          let n : 2 ^ f * 2 ^ k ≤ N = rw (← pow-add 2 f k) (ulp-below f L N (omega arith)) in
+          let n : 2 ^ f * 2 ^ k ≤ N = rw (← pow-add 2 f k) (place-below f L N (omega arith)) in
           omega (arith, keep-nearest t k N (2 ^ f), rep-under {k = k} r (omega arith))
     ]
 
@@ -64,7 +66,7 @@ pub rounded-near : (t : Ties) (f L N : ℕ) → Near (suc f) L N (rounded t f L 
 rounded-near t f L N =
     rw (rounded-keep t f L N)
     (record {
-      rep = rep-le f L (keep t (ulp f L N) N) (ulp f L N) (ulp-ge f L N) (rw (pow-succ' 2 f) (keep-le t f L N));
+      rep = rep-le f L (keep t (lastPlace f L N) N) (lastPlace f L N) (place-ge f L N) (rw (pow-succ' 2 f) (keep-le t f L N));
       best = rounded-best t f L N;
     })
 
@@ -79,9 +81,9 @@ keep-zero-le k N h =
 
 pub rounded-near0 : (f L N : ℕ) → Near0 (suc f) L N (rounded ToZero f L N * 2 ^ L)
 rounded-near0 f L N =
-    let k = ulp f L N in
+    let k = lastPlace f L N in
     let near = rounded-near ToZero f L N in
-    let high : L < k → 2 ^ f * 2 ^ k ≤ N = λ g. rw (← pow-add 2 f k) (ulp-below f L N g) in
+    let high : L < k → 2 ^ f * 2 ^ k ≤ N = λ g. rw (← pow-add 2 f k) (place-below f L N g) in
     let tie : (m : ℕ) → Rep (suc f) L m → dist m N ≡ dist (keep ToZero k N * 2 ^ k) N → keep ToZero k N * 2 ^ k ≤ m =
     λ m r e.
     elim (decLe (keep ToZero k N * 2 ^ k) N) [
@@ -98,6 +100,13 @@ rounded-near0 f L N =
     in
     record { near = near; tie = rw (rounded-keep ToZero f L N) tie }
 
+-- ---- at most half a unit away
+half-unit : (t : Ties) (k N : ℕ) → 2 * dist (keep t k N * 2 ^ k) N ≤ 2 ^ k
+half-unit t k N = let b = kept t k N in omega (arith, b .above, b .below)
+
+pub rounded-half : (t : Ties) (f L N : ℕ) → 2 * dist (rounded t f L N * 2 ^ L) N ≤ 2 ^ lastPlace f L N
+rounded-half t f L N = rw (rounded-keep t f L N) (half-unit t (lastPlace f L N) N)
+
 -- ---- exactness, order, scaling
 pub rounded-exact : (t : Ties) (f L N : ℕ) → Rep (suc f) L N → rounded t f L N * 2 ^ L ≡ N
 rounded-exact t f L N r = near-exact (rounded-near t f L N) r
@@ -112,9 +121,9 @@ rounded-mono t f L N M h =
 pub rounded-scale : (t : Ties) (f L s N : ℕ) → rounded t f (L + s) (N * 2 ^ s) ≡ rounded t f L N
 unfolding rounded
 rounded-scale t f L s N =
-    let k = ulp f L N in
+    let k = lastPlace f L N in
     let e : k + s - (L + s) ≡ k - L = omega arith in
-    rw (ulp-scale f L s N, e, keep-scale t k s N)
+    rw (place-scale f L s N, e, keep-scale t k s N)
 
 -- ---- the two tie rules
 pub rounded-differ : (f L N : ℕ) → (rounded ToEven f L N ≡ rounded ToZero f L N) ⊎ ((N < rounded ToEven f L N * 2 ^ L) × (rounded ToZero f L N * 2 ^ L + rounded ToEven f L N * 2 ^ L ≡ 2 * N))

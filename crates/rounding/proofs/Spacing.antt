@@ -1,14 +1,14 @@
 -- A number less than a quarter of a unit away from a representable one of full length rounds to it. Assumes nothing.
 use mathlib.Core.Path.{_≡_, refl, sym, ap, ap₂, _∙_}
-use mathlib.Core.Logic.{_⊎_, inl, inr}
-use Prim.Native.Nat.{ℕ, suc, _+_, _-_, _*_, _^_, _≤_, _<_}
-use native.Mathlib.Nat.{le-of-eq, le-trans, mul-assoc, mul-le-mul-right, suc-mul, pow-succ', le-of-mul-le-mul-right}
+use mathlib.Core.Logic.{inl, inr}
+use Prim.Native.Nat.{ℕ, suc, _+_, _*_, _^_, _≤_, _<_}
+use native.Mathlib.Nat.{le-of-eq, le-trans, mul-assoc, mul-le-mul-right, suc-mul, pow-succ'}
 use native.Mathlib.Decide.{decLe}
 use native.Mathlib.Omega.{arith}
-use lib.Pow.{pow-add, pow-pos}
-use Rattle.rounding.specs.Nearest.{dist, Rep, Near}
+use lib.Pow.{pow-pos}
+use Rattle.rounding.specs.Nearest.{dist, Near}
 use Rattle.rounding.proofs.Compare.{tri}
-use Rattle.rounding.proofs.Multiple.{Mult, mult-down}
+use Rattle.rounding.proofs.Multiple.{mult-down}
 use Rattle.rounding.proofs.Representable.{rep-mult, rep-under}
 
 -- two multiples of G that are less than G apart are one number

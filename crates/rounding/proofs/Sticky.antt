@@ -9,8 +9,8 @@ use lib.Arith.{digits-lt, digits-div, digits-mod, mod-mul}
 use lib.Dec.{lit<}
 use lib.Pow.{pow-add, pow-pos, pow-lt, shr-lt}
 use Rattle.rounding.specs.declared.Ties.{Ties}
-use Rattle.rounding.specs.Round.{keep, ulp, rounded}
-use Rattle.rounding.proofs.LastPlace.{ulp-is, ulp-ge, ulp-gt, ulp-above, ulp-below}
+use Rattle.rounding.specs.Round.{keep, lastPlace, rounded}
+use Rattle.rounding.proofs.LastPlace.{place-is, place-ge, place-gt, place-above, place-below}
 use Rattle.rounding.proofs.Keep.{keep-lt, keep-gt}
 
 -- ---- g counts halves of the last place, and r is what is below
@@ -57,24 +57,24 @@ keep-sticky-up t k h A r s over r0 rl s0 sl =
     (keep-sticky t (i + h) (A / 2 ^ i) (A % 2 ^ i * 2 ^ h + r) (A % 2 ^ i * 2 ^ h + s) (omega arith) (rest-lt i h A r rl) (omega arith) (rest-lt i h A s sl)))
 
 -- ---- two numbers that differ below 2 ^ h alone, h being below the last place, and neither a multiple of 2 ^ h
-pub sticky : (t : Ties) (f L h A r s : ℕ) → h < ulp f L (A * 2 ^ h + r) → 0 < r → r < 2 ^ h → 0 < s → s < 2 ^ h → rounded t f L (A * 2 ^ h + r) ≡ rounded t f L (A * 2 ^ h + s)
+pub sticky : (t : Ties) (f L h A r s : ℕ) → h < lastPlace f L (A * 2 ^ h + r) → 0 < r → r < 2 ^ h → 0 < s → s < 2 ^ h → rounded t f L (A * 2 ^ h + r) ≡ rounded t f L (A * 2 ^ h + s)
 unfolding rounded
 sticky t f L h A r s over r0 rl s0 sl =
     let N = A * 2 ^ h + r in
     let M = A * 2 ^ h + s in
-    let k = ulp f L N in
+    let k = lastPlace f L N in
     let i = k - suc h in
     let up : M < 2 ^ (suc f + k) =
     let e : suc f + k ≡ suc f + suc i + h = omega arith in
-    let g : A < 2 ^ (suc f + suc i) = subst (λ (x : ℕ). x < 2 ^ (suc f + suc i)) (digits-div A rl) (shr-lt (suc f + suc i) h (rw (← e) (ulp-above f L N))) in
+    let g : A < 2 ^ (suc f + suc i) = subst (λ (x : ℕ). x < 2 ^ (suc f + suc i)) (digits-div A rl) (shr-lt (suc f + suc i) h (rw (← e) (place-above f L N))) in
     rw (e, pow-add 2 (suc f + suc i) h) (digits-lt g sl)
     in
     let down : L < k → 2 ^ (f + k) ≤ M = λ l.
     let e : f + k ≡ f + suc i + h = omega arith in
-    let g : 2 ^ (f + suc i) ≤ A = subst (λ (x : ℕ). 2 ^ (f + suc i) ≤ x) (digits-div A rl) (le-div-iff-mul-le (pow-pos h) .1 (rw (← pow-add 2 (f + suc i) h, ← e) (ulp-below f L N l))) in
+    let g : 2 ^ (f + suc i) ≤ A = subst (λ (x : ℕ). 2 ^ (f + suc i) ≤ x) (digits-div A rl) (le-div-iff-mul-le (pow-pos h) .1 (rw (← pow-add 2 (f + suc i) h, ← e) (place-below f L N l))) in
     rw (e, pow-add 2 (f + suc i) h) (omega (arith, mul-le-mul-right (2 ^ h) g))
     in
-    let same : ulp f L M ≡ k = ulp-is f L k M (ulp-ge f L N) up down in
+    let same : lastPlace f L M ≡ k = place-is f L k M (place-ge f L N) up down in
     rw same (ap (λ (x : ℕ). x * 2 ^ (k - L)) (keep-sticky-up t k h A r s over r0 rl s0 sl))
 
 -- rounding to odd first: an odd number of units stands for all that lies within one unit of it
@@ -85,4 +85,4 @@ odd t f L h A N a l u =
     let p : 2 ^ suc h ≡ 2 * 2 ^ h = pow-succ' 2 h in
     let s : A * 2 ^ suc h + 2 ^ h ≡ (2 * A + 1) * 2 ^ h = rw p (omega arith) in
     let big : 2 ^ (suc f + suc h) ≤ A * 2 ^ suc h + r = rw (pow-add 2 (suc f) (suc h)) (omega (arith, mul-le-mul-right (2 ^ suc h) a)) in
-    ap (rounded t f L) (sym e) ∙ sticky t f L (suc h) A r (2 ^ h) (ulp-gt f L (suc h) (A * 2 ^ suc h + r) big) (omega arith) (omega arith) (pow-pos h) (pow-lt (omega arith)) ∙ ap (rounded t f L) s
+    ap (rounded t f L) (sym e) ∙ sticky t f L (suc h) A r (2 ^ h) (place-gt f L (suc h) (A * 2 ^ suc h + r) big) (omega arith) (omega arith) (pow-pos h) (pow-lt (omega arith)) ∙ ap (rounded t f L) s

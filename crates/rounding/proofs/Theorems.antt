@@ -1,19 +1,23 @@
 -- The theorems of `specs/Theorems.antt`. Assumes nothing.
-use mathlib.Core.Path.{_≡_, refl, subst}
-use Prim.Native.Nat.{ℕ, suc, _*_, _^_, _≤_}
-use native.Mathlib.Nat.{zero-add, le-of-mul-le-mul-right}
-use mathlib.Core.Bool.{Bool}
+use mathlib.Core.Path.{_≡_, refl, sym, ap, _∙_, subst}
+use Prim.Native.Nat.{ℕ, suc, _-_, _*_, _%_, _^_}
+use native.Mathlib.Nat.{zero-add, le-trans, le-of-eq, mul-assoc, eq-of-mul-eq-mul-right, le-of-mul-le-mul-right, pow-suc}
+use native.Mathlib.Omega.{arith}
+use mathlib.Core.Bool.{Bool, true, false}
 use lib.Pow.{pow-pos}
-use Rattle.rounding.specs.Format.{Format, Proper, low, limit, edge}
-use Rattle.rounding.specs.Nearest.{Rep}
-use Rattle.rounding.specs.Value.{finite, Fits, decode}
-use Rattle.rounding.specs.Theorems.{Binary32Numbers, Nearest, TieToZero, TieToEven, RulesDiffer, Exact, Monotone, Scaling, RoundToOdd, OverflowToEven, OverflowToZero, NearestPattern, TieToZeroPattern, DecodeEncode, EncodeDecode, DecodeFits, RoundFits}
+use Rattle.rounding.specs.Format.{Format, binary32, Proper, low, limit, ones, edge, signBit}
+use Rattle.rounding.specs.Round.{rounded}
+use Rattle.rounding.specs.Nearest.{dist, Rep}
+use Rattle.rounding.specs.Value.{finite, Fits, fields, magnitude, decode, signed, bits, encode}
+use Rattle.rounding.specs.Theorems.{Binary32Numbers, Nearest, TieToZero, TieToEven, TieNeighbour, TieToZeroUnique, HalfUnit, RulesDiffer, Exact, Monotone, Scaling, RoundToOdd, OverflowRNe, OverflowRN0, NearestPattern, TieToEvenPattern, TieToZeroPattern, DecodeLandmarks, LargestFinite, BitsOrder, DecodeEncode, EncodeDecode, DecodeFits, RoundFits}
 use Rattle.rounding.specs.declared.Ties.the-variants.{ToEven, ToZero}
-use Rattle.rounding.proofs.Rounded.{rounded-near, rounded-near0, rounded-differ, rounded-exact, rounded-mono, rounded-scale}
-use Rattle.rounding.proofs.Even.{rounded-even}
+use Rattle.rounding.proofs.Rounded.{rounded-near, rounded-near0, rounded-half, rounded-differ, rounded-exact, rounded-mono, rounded-scale}
+use Rattle.rounding.proofs.Even.{rounded-even, neighbour-odd}
 use Rattle.rounding.proofs.Sticky.{odd}
 use Rattle.rounding.proofs.Scaled.{rep-up}
-use Rattle.rounding.proofs.Codec.{decode-encode, encode-decode, decode-fits}
+use Rattle.rounding.proofs.Codec.{bits-below, decode-encode, encode-decode, decode-fits}
+use Rattle.rounding.proofs.Bits.{magnitude-lt, magnitude-mono, magnitude-bits}
+use Rattle.rounding.proofs.NearLaws.{near0-one}
 use Rattle.rounding.proofs.RoundValue.{round-below, round-above, round-finite, round-fits, under-edge, over-edge, even-at-edge, zero-at-edge}
 
 pub binary32-numbers : Binary32Numbers
@@ -28,6 +32,15 @@ tie-to-zero = rounded-near0
 
 pub tie-to-even : TieToEven
 tie-to-even = rounded-even
+
+pub tie-neighbour : TieNeighbour
+tie-neighbour = neighbour-odd
+
+pub tie-to-zero-unique : TieToZeroUnique
+tie-to-zero-unique p l n a b = near0-one
+
+pub half-unit : HalfUnit
+half-unit = rounded-half
 
 pub rules-differ : RulesDiffer
 rules-differ = rounded-differ
@@ -44,11 +57,15 @@ scaling = rounded-scale
 pub round-to-odd : RoundToOdd
 round-to-odd = odd
 
-pub overflow-to-even : OverflowToEven
-overflow-to-even F ok s N = (λ h. round-above ToEven F s N (even-at-edge F ok N h), λ h. round-below ToEven F s N (under-edge F ok ToEven N h))
+pub overflow-rne : OverflowRNe
+overflow-rne F ok s N = (λ h. round-above ToEven F s N (even-at-edge F ok N h), λ h. round-below ToEven F s N (under-edge F ok ToEven N h))
 
-pub overflow-to-zero : OverflowToZero
-overflow-to-zero F ok s N = (λ h. round-above ToZero F s N (over-edge F ok ToZero N h), λ h. round-below ToZero F s N (zero-at-edge F ok N h))
+pub overflow-rn0 : OverflowRN0
+overflow-rn0 F ok s N = (λ h. round-above ToZero F s N (over-edge F ok ToZero N h), λ h. round-below ToZero F s N (zero-at-edge F ok N h))
+
+largest-magnitude : magnitude 23 0x7f7f_ffff ≡ (2 ^ 128 - 2 ^ 104) * 2 ^ 149
+unfolding magnitude fields
+largest-magnitude = refl
 
 -- a finite pattern's magnitude is representable, in units of u * u too
 pattern-rep : (F : Format) → Proper F → (x : ℕ) (r : Bool) (b : ℕ) → decode F x ≡ finite r b → Rep (suc (F .fraction)) (low F) (b * 2 ^ low F)
@@ -61,9 +78,40 @@ pub nearest-pattern : NearestPattern
 nearest-pattern t F ok s N a e x r b d =
     rw (round-finite t F s N s a e) (rounded-near t (F .fraction) (low F) N .best (b * 2 ^ low F) (pattern-rep F ok x r b d))
 
+-- the sign bit leaves the last bit alone
+signed-even : (F : Format) → Proper F → (s : Bool) (c : ℕ) → c % 2 ≡ 0 → signed F s c % 2 ≡ 0
+signed-even F ok false c e = omega arith
+signed-even F ok true c e =
+    let p : 2 ^ F .fraction ≡ 2 ^ (F .fraction - 1) * 2 = ap (λ (x : ℕ). 2 ^ x) (let z : F .fraction ≡ suc (F .fraction - 1) = omega (arith, ok .0) in z) ∙ pow-suc 2 (F .fraction - 1) in
+    let q : signBit F ≡ suc (ones F) * 2 ^ (F .fraction - 1) * 2 = ap (λ (x : ℕ). suc (ones F) * x) p ∙ sym (mul-assoc (suc (ones F)) (2 ^ (F .fraction - 1)) 2) in
+    rw q (omega arith)
+
+pub tie-to-even-pattern : TieToEvenPattern
+unfolding encode
+tie-to-even-pattern F ok s N a e x r b d ne eq =
+    let is = round-finite ToEven F s N s a e in
+    let far : b * 2 ^ low F ≡ rounded ToEven (F .fraction) (low F) N * 2 ^ low F → ⊥ = λ z. ne (eq-of-mul-eq-mul-right (2 ^ low F) (pow-pos (low F)) b (rounded ToEven (F .fraction) (low F) N) z ∙ sym is) in
+    let even = rounded-even (F .fraction) (low F) N (b * 2 ^ low F) (ok .0) (pattern-rep F ok x r b d) far (eq ∙ ap (λ (y : ℕ). dist (y * 2 ^ low F) N) is) in
+    signed-even F ok s (bits (F .fraction) a) (ap (λ (y : ℕ). bits (F .fraction) y % 2) is ∙ even)
+
 pub tie-to-zero-pattern : TieToZeroPattern
 tie-to-zero-pattern F ok s N a e x r b d =
     rw (round-finite ToZero F s N s a e) (λ h. le-of-mul-le-mul-right (rounded-near0 (F .fraction) (low F) N .tie (b * 2 ^ low F) (pattern-rep F ok x r b d) h) (pow-pos (low F)))
+
+pub decode-landmarks : DecodeLandmarks
+unfolding decode
+decode-landmarks = (refl, refl, refl, refl, refl, refl, refl, refl, refl, refl)
+
+pub largest-finite : LargestFinite
+unfolding Fits
+largest-finite x s a e =
+    let fits : Fits binary32 (finite s a) = rw e at (decode-fits binary32 (omega arith) x) in
+    let below = bits-below binary32 (omega arith) (fits .0) (fits .1) in
+    let top : magnitude 23 0x7f7f_ffff ≡ (2 ^ 128 - 2 ^ 104) * 2 ^ 149 = largest-magnitude in
+    le-trans (le-of-eq (sym (magnitude-bits 23 a (fits .0)))) (le-trans (magnitude-mono 23 (bits 23 a) 0x7f7f_ffff (omega arith)) (le-of-eq top))
+
+pub bits-order : BitsOrder
+bits-order = magnitude-lt
 
 pub decode-of-encode : DecodeEncode
 decode-of-encode F ok = decode-encode F (ok .0)

@@ -1,4 +1,4 @@
--- Binary interchange formats: the numbers that fix one, and its patterns' landmarks. Assumes nothing.
+-- Binary formats: the numbers that fix one, and its patterns' landmarks. Assumes nothing.
 -- u is a format's smallest positive value: 2 ^ -149 in binary32 (document 01, "With u = 2^-149").
 use Prim.Native.Nat.{ℕ, suc, _+_, _-_, _*_, _^_, _<_}
 
@@ -7,11 +7,11 @@ pub record Format : Type 0 where
   pub fraction : ℕ
   pub emax : ℕ
 
--- what is asked of a format: a fraction, and an exponent above 0
+-- at least one fraction bit, and emax at least 1
 abbrev pub Proper : Format → Type 0
 Proper F = (0 < F .fraction) × (0 < F .emax)
 
--- document 01: "A pattern has 1 sign bit, 8 exponent bits, 23 fraction bits."
+-- document 01: "A pattern has 1 sign bit, 8 exponent bits, 23 fraction bits." The exponent field goes up to 2 * 127 + 1.
 abbrev pub binary32 : Format
 binary32 = record { fraction = 23; emax = 127 }
 

@@ -22,12 +22,12 @@ unfoldable pub keep : Ties → ℕ → ℕ → ℕ
 keep t k N = nearest t (N / 2 ^ k) (compare (2 * (N % 2 ^ k)) (2 ^ k))
 
 -- The exponent of N's last place: suc f digits are kept, and none below u. `size` counts binary digits.
-unfoldable pub ulp : ℕ → ℕ → ℕ → ℕ
-ulp f L N = max L (size N - suc f)
+unfoldable pub lastPlace : ℕ → ℕ → ℕ → ℕ
+lastPlace f L N = max L (size N - suc f)
 
 -- N rounded to the nearest number of the format, in units of u
 unfoldable pub rounded : Ties → ℕ → ℕ → ℕ → ℕ
-rounded t f L N = keep t (ulp f L N) N * 2 ^ (ulp f L N - L)
+rounded t f L N = keep t (lastPlace f L N) N * 2 ^ (lastPlace f L N - L)
 
 -- ---- of the code
 -- what is added to a remainder, so that more than half a unit means up: a tie goes up from an odd quotient under RNe alone

@@ -1,15 +1,15 @@
 -- What is proved of patterns and rounding. Each name is a statement; `proofs/Theorems.antt` has its proof. Assumes nothing.
 use mathlib.Core.Path.{_≡_}
 use mathlib.Core.Logic.{_⊎_, _≢_}
-use mathlib.Core.Bool.{Bool}
+use mathlib.Core.Bool.{Bool, true, false}
 use mathlib.Core.List.{List}
 use Prim.Native.Nat.{ℕ, suc, _+_, _-_, _*_, _%_, _^_, _≤_, _<_}
 use Rattle.rounding.specs.declared.Ties.{Ties}
 use Rattle.rounding.specs.declared.Ties.the-variants.{ToEven, ToZero}
 use Rattle.rounding.specs.Format.{Format, binary32, Proper, low, limit, edge, infinity, signBit}
-use Rattle.rounding.specs.Round.{rounded}
+use Rattle.rounding.specs.Round.{lastPlace, rounded}
 use Rattle.rounding.specs.Nearest.{dist, Rep, Near, Near0}
-use Rattle.rounding.specs.Value.{Value, nan, infinite, finite, Fits, decode, nanOf, bits, encode, roundFinite, round}
+use Rattle.rounding.specs.Value.{Value, nan, infinite, finite, Fits, magnitude, decode, nanOf, bits, encode, roundFinite, round}
 
 -- ---- document 01's numbers of binary32: u = 2 ^ -149, +infinity, the sign bit, the NaN, 2 ^ 128, and the edge 2 ^ 128 - 2 ^ 103
 abbrev pub Binary32Numbers : Type 0
@@ -29,8 +29,21 @@ TieToZero = (f L N : ℕ) → Near0 (suc f) L N (rounded ToZero f L N * 2 ^ L)
 -- RNe: where another representable number is equally near, the last bit of the result's pattern is 0
 abbrev pub TieToEven : Type 0
 TieToEven =
-    (f L N m : ℕ) → 0 < f → Rep (suc f) L m → (m ≡ rounded ToEven f L N * 2 ^ L → ⊥) → dist m N ≡ dist (rounded ToEven f L N * 2 ^ L) N
+    (f L N m : ℕ) → 0 < f → Rep (suc f) L m → m ≢ rounded ToEven f L N * 2 ^ L → dist m N ≡ dist (rounded ToEven f L N * 2 ^ L) N
     → bits f (rounded ToEven f L N) % 2 ≡ 0
+
+-- and that other number's last bit is 1, so that RNe is fixed by the two
+abbrev pub TieNeighbour : Type 0
+TieNeighbour =
+    (f L N m : ℕ) → 0 < f → Rep (suc f) L (m * 2 ^ L) → m ≢ rounded ToEven f L N → dist (m * 2 ^ L) N ≡ dist (rounded ToEven f L N * 2 ^ L) N → bits f m % 2 ≡ 1
+
+-- RN0 is fixed by being nearest with ties to the smaller magnitude
+abbrev pub TieToZeroUnique : Type 0
+TieToZeroUnique = (p l n a b : ℕ) → Near0 p l n a → Near0 p l n b → a ≡ b
+
+-- at most half a unit in the last place away
+abbrev pub HalfUnit : Type 0
+HalfUnit = (t : Ties) (f L N : ℕ) → 2 * dist (rounded t f L N * 2 ^ L) N ≤ 2 ^ lastPlace f L N
 
 -- the two rules differ only at a tie, which lies halfway between their results, and there RNe went up
 abbrev pub RulesDiffer : Type 0
@@ -54,21 +67,26 @@ RoundToOdd =
     (t : Ties) (f L h A N : ℕ) → 2 ^ suc f ≤ A → A * 2 ^ suc h < N → N < A * 2 ^ suc h + 2 ^ suc h → rounded t f L N ≡ rounded t f L ((2 * A + 1) * 2 ^ h)
 
 -- ---- overflow: from the edge on for RNe, strictly above it for RN0
-abbrev pub OverflowToEven : Type 0
-OverflowToEven =
+abbrev pub OverflowRNe : Type 0
+OverflowRNe =
     (F : Format) → Proper F → (s : Bool) (N : ℕ)
     → (edge F ≤ N → roundFinite ToEven F s N ≡ infinite s) × (N < edge F → roundFinite ToEven F s N ≡ finite s (rounded ToEven (F .fraction) (low F) N))
 
-abbrev pub OverflowToZero : Type 0
-OverflowToZero =
+abbrev pub OverflowRN0 : Type 0
+OverflowRN0 =
     (F : Format) → Proper F → (s : Bool) (N : ℕ)
     → (edge F < N → roundFinite ToZero F s N ≡ infinite s) × (N ≤ edge F → roundFinite ToZero F s N ≡ finite s (rounded ToZero (F .fraction) (low F) N))
 
--- ---- the same over all patterns: no finite pattern is nearer, and for RN0 none that is equally near is smaller
+-- ---- the same over all patterns: no finite pattern is nearer; of two that are equally near RNe gives the one whose last bit is 0, RN0 the smaller
 abbrev pub NearestPattern : Type 0
 NearestPattern =
     (t : Ties) (F : Format) → Proper F → (s : Bool) (N a : ℕ) → roundFinite t F s N ≡ finite s a → (x : ℕ) (r : Bool) (b : ℕ) → decode F x ≡ finite r b
     → dist (a * 2 ^ low F) N ≤ dist (b * 2 ^ low F) N
+
+abbrev pub TieToEvenPattern : Type 0
+TieToEvenPattern =
+    (F : Format) → Proper F → (s : Bool) (N a : ℕ) → roundFinite ToEven F s N ≡ finite s a → (x : ℕ) (r : Bool) (b : ℕ) → decode F x ≡ finite r b → b ≢ a
+    → dist (b * 2 ^ low F) N ≡ dist (a * 2 ^ low F) N → encode F (finite s a) % 2 ≡ 0
 
 abbrev pub TieToZeroPattern : Type 0
 TieToZeroPattern =
@@ -76,6 +94,21 @@ TieToZeroPattern =
     → dist (b * 2 ^ low F) N ≡ dist (a * 2 ^ low F) N → a ≤ b
 
 -- ---- patterns and values
+-- landmarks: the smallest and largest subnormal, the smallest normal, 1, -0, Ω, infinities, NaN of both kinds
+abbrev pub DecodeLandmarks : Type 0
+DecodeLandmarks =
+    (decode binary32 0x0000_0001 ≡ finite false 1) × (decode binary32 0x007f_ffff ≡ finite false (2 ^ 23 - 1)) × (decode binary32 0x0080_0000 ≡ finite false (2 ^ 23))
+    × (decode binary32 0x3f80_0000 ≡ finite false (2 ^ 149)) × (decode binary32 0x8000_0000 ≡ finite true 0) × (decode binary32 0x7f7f_ffff ≡ finite false ((2 ^ 128 - 2 ^ 104) * 2 ^ 149))
+    × (decode binary32 0x7f80_0000 ≡ infinite false) × (decode binary32 0xff80_0000 ≡ infinite true) × (decode binary32 0x7f80_0001 ≡ nan) × (decode binary32 0x7fc0_0000 ≡ nan)
+
+-- document 01: "Ω = 7F7FFFFF"; no finite magnitude is above it
+abbrev pub LargestFinite : Type 0
+LargestFinite = (x : ℕ) (s : Bool) (a : ℕ) → decode binary32 x ≡ finite s a → a ≤ (2 ^ 128 - 2 ^ 104) * 2 ^ 149
+
+-- the order of the bits below the sign is the order of magnitudes
+abbrev pub BitsOrder : Type 0
+BitsOrder = (f c d : ℕ) → c < d → magnitude f c < magnitude f d
+
 -- a value of the format is read back from its pattern
 abbrev pub DecodeEncode : Type 0
 DecodeEncode = (F : Format) → Proper F → (v : Value) → Fits F v → decode F (encode F v) ≡ v

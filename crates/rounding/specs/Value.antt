@@ -1,7 +1,7 @@
 -- Patterns, the values that they stand for, and the rounding of an exact result to a value (document 01, "Patterns and rounding").
 -- Assumes nothing.
 use Prim.Native.Nat.{ℕ, zero, suc, _+_, _-_, _*_, _/_, _%_, _^_, _<_}
-use mathlib.Core.Bool.{Bool, true, false, cond}
+use mathlib.Core.Bool.{Bool, cond}
 use mathlib.Core.List.{List, []}
 use lib.Dec.{ltb, leb, eqb}
 use lib.Ieee.{size}
@@ -10,13 +10,13 @@ use Rattle.rounding.specs.Format.{Format, low, limit, infinity, signBit}
 use Rattle.rounding.specs.Round.{rounded}
 use Rattle.rounding.specs.Nearest.{Rep}
 
--- A sign is `true` for minus. The magnitude of a value counts u; that of an exact result, before it is rounded, counts u * u.
+-- A sign is `true` for minus. The magnitude of a pattern's value counts u; what `round` takes, an exact result, counts u * u.
 pub data Value : Type 0 where
   nan : Value
   infinite : Bool → Value
   finite : Bool → ℕ → Value
 
--- the values that the format has: multiples of u of at most `suc fraction` digits below 2 ^ (emax + 1), infinities and NaN
+-- the values that the format has: multiples of u with a significand of at most `suc fraction` digits, below 2 ^ (emax + 1); infinities and NaN
 unfoldable pub Fits : Format → Value → Type 0
 unfolding limit
 Fits F nan = Unit {0}
@@ -46,7 +46,7 @@ decode F x = unsigned F (leb (signBit F) x) (x % signBit F)
 
 -- ---- from a value to its pattern
 
--- "Every NaN result is 7FC00000", whatever the operands are
+-- "Every NaN result is 7FC00000": the one place that fixes it. The operands do not matter.
 abbrev pub nanOf : Format → List ℕ → ℕ
 nanOf F operands = infinity F + 2 ^ (F .fraction - 1)
 
@@ -65,7 +65,7 @@ encode F (finite s a) = signed F s (bits (F .fraction) a)
 
 -- ---- rounding an exact result
 
--- RNe and RN0 of the magnitude N in units of u * u, with the sign s. A result rounded to zero keeps the sign.
+-- RNe and RN0 of the magnitude N, in units of u * u, with the sign s: a value in units of u. "A result rounded to zero keeps the sign."
 unfoldable pub roundFinite : Ties → Format → Bool → ℕ → Value
 unfolding rounded limit
 roundFinite t F s N = let a = rounded t (F .fraction) (low F) N in cond (ltb a (limit F)) (finite s a) (infinite s)

@@ -1,11 +1,11 @@
 use borrow.Author.Needs.{needs}
-use mathlib.Core.Path.{sym, ap, _∙_}
+use mathlib.Core.Path.{ap, _∙_}
 use native.Mathlib.Omega.{arith}
 use Rattle.rounding.specs.declared.Ties.the-variants.{ToEven}
 use Rattle.rounding.specs.Format.{binary32}
 use Rattle.rounding.specs.Value.{Value, encode, round}
 use Rattle.binary32.proofs.Products.{vanished}
-use Rattle.binary32.proofs.Placing.{placed-reaches, placed-sum}
+use Rattle.binary32.proofs.Ordering.{ordered-reaches, ordered-sum}
 use Rattle.binary32.proofs.fused.fused_sum.Statement.{statement}
 use Rattle.binary32.proofs.fused.fused_sum.Tie as tie
 
@@ -21,20 +21,20 @@ round-sum-requires-2 c κs = search needs
 returns-2 : tie.Need-returns-2
 returns-2 c = let a = c .before .before .before .args in rw (← vanished (a .p) (a .j) (a .i) (c .before .if2 .taken)) (c .round-sum2 .ensures)
 
-raised-requires : tie.Need-raised-requires
-raised-requires c κs = search needs
+normalised-requires : tie.Need-normalised-requires
+normalised-requires c κs = search needs
 
-placed-requires : tie.Need-placed-requires
-placed-requires c κs = search needs
+ordered-requires : tie.Need-ordered-requires
+ordered-requires c κs = search needs
 
 aligned-requires : tie.Need-aligned-requires
 aligned-requires c κs =
     let b = c .before .before .before .before in
-    let z = c .before .raised .ensures in
-    placed-reaches _ (b .args .p) (b .args .i) _ _ _ _ (c .placed .ensures) (b .pre .0) (omega arith) (z .low) (z .high)
+    let z = c .before .normalised .ensures in
+    ordered-reaches _ (b .args .p) (b .args .i) _ _ _ _ (c .ordered .ensures) (b .pre .0) (omega arith) (z .low) (z .high)
 
 returns-3 : tie.Need-returns-3
-returns-3 c = rw (← c .before .before .raised .ensures .value) (c .aligned .ensures ∙ ap (λ (v : Value). encode binary32 (round ToEven binary32 v)) (placed-sum _ _ _ _ _ _ _ (c .before .placed .ensures)))
+returns-3 c = rw (← c .before .before .normalised .ensures .value) (c .aligned .ensures ∙ ap (λ (v : Value). encode binary32 (round ToEven binary32 v)) (ordered-sum _ _ _ _ _ _ _ (c .before .ordered .ensures)))
 
 pub fused-sum-spec : {M : Type 1} → statement M
 fused-sum-spec =
@@ -44,7 +44,7 @@ fused-sum-spec =
     returns
     round-sum-requires-2
     returns-2
-    raised-requires
-    placed-requires
+    normalised-requires
+    ordered-requires
     aligned-requires
     returns-3)

@@ -1,5 +1,4 @@
 use borrow.Author.Needs.{needs}
-use mathlib.Core.Path.{_∙_}
 use native.Mathlib.Omega.{arith}
 use lib.Pow.{shr-le}
 use Rattle.binary32.proofs.Jam.{jam-is, jam-shift}

@@ -7,7 +7,7 @@ use mathlib.Core.Path.{refl, sym, ap, _∙_}
 use Prim.Native.Nat.{ℕ, _+_, _*_, _^_}
 use native.Mathlib.Omega.{arith}
 use Rattle.rounding.specs.declared.Ties.the-variants.{ToEven}
-use Rattle.binary32.proofs.Near.{joined}
+use Rattle.rounding.proofs.Multiple.{joined}
 use Rattle.binary32.proofs.product.finite_fused.Statement.{statement}
 use Rattle.binary32.proofs.product.finite_fused.Tie as tie
 

@@ -1,7 +1,7 @@
 use borrow.Author.Needs.{needs}
 use Rattle.rounding.specs.Format.{binary32}
 use Rattle.rounding.specs.Value.{encode, round}
-use Rattle.binary32.specs.Exact.{plus, finer}
+use Rattle.binary32.specs.Exact.{plus}
 use Rattle.binary32.specs.Classes.{valueOf}
 use mathlib.Core.Path.{sym, ap, _∙_}
 use Rattle.binary32.proofs.Special.{round-infinite-plus, infinite-plus-finer}

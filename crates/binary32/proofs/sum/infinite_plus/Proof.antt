@@ -1,5 +1,4 @@
 use borrow.Author.Needs.{needs}
-use mathlib.Core.Path.{_∙_}
 use Rattle.rounding.specs.Value.{encode}
 use Rattle.binary32.specs.Exact.{plus}
 use Rattle.binary32.specs.Classes.{valueOf}

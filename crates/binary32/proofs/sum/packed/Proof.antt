@@ -1,8 +1,7 @@
 use borrow.Author.Needs.{needs}
-use mathlib.Core.Path.{sym, ap, _∙_}
+use mathlib.Core.Path.{sym}
 use native.Mathlib.Nat.{zero-add}
-use Rattle.rounding.specs.Format.{binary32}
-use Rattle.rounding.specs.Value.{signed, encode}
+use Rattle.rounding.specs.Value.{encode}
 use Rattle.binary32.proofs.Near.{operand-bits}
 use Rattle.binary32.proofs.sum.packed.Statement.{statement}
 use Rattle.binary32.proofs.sum.packed.Tie as tie

@@ -1,8 +1,8 @@
 use native.Mathlib.Omega.{arith}
 use lib.Count.{leading-le}
-use Rattle.binary32.proofs.Products.{zeros-ge, raised-is}
-use Rattle.binary32.proofs.fused.raised.Statement.{statement}
-use Rattle.binary32.proofs.fused.raised.Tie as tie
+use Rattle.binary32.proofs.Products.{zeros-ge, normalised-is}
+use Rattle.binary32.proofs.fused.normalised.Statement.{statement}
+use Rattle.binary32.proofs.fused.normalised.Tie as tie
 
 sub-up : tie.Need-sub-up
 sub-up c = zeros-ge (c .args .c) (c .args .j) (c .pre .0) (c .pre .1) (c .pre .2)
@@ -20,7 +20,7 @@ sub-t8 : tie.Need-sub-t8
 sub-t8 c = omega (arith, leading-le 64 (c .args .c))
 
 returns : tie.Need-returns
-returns c = raised-is _ _ (c .pre .0) (c .pre .1) (c .pre .2)
+returns c = normalised-is _ _ (c .pre .0) (c .pre .1) (c .pre .2)
 
-pub raised-spec : {M : Type 1} → statement M
-raised-spec = tie.close (tie.spec sub-up cast-t5 shl-t6 cast-t7 sub-t8 returns)
+pub normalised-spec : {M : Type 1} → statement M
+normalised-spec = tie.close (tie.spec sub-up cast-t5 shl-t6 cast-t7 sub-t8 returns)

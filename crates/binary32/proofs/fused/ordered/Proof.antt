@@ -1,12 +1,7 @@
 use borrow.Author.Needs.{needs}
-use mathlib.Core.Path.{_≡_, refl}
-use mathlib.Core.Bool.{Bool, true, false, cond}
-use Prim.Native.Nat.{_≤_, _<_}
-use lib.Dec.{leb}
-use Rattle.binary32.specs.Classes.{Placed, product-first, operand-first}
-use Rattle.binary32.proofs.Placing.{placed-is}
-use Rattle.binary32.proofs.fused.placed.Statement.{statement}
-use Rattle.binary32.proofs.fused.placed.Tie as tie
+use Rattle.binary32.proofs.Ordering.{ordered-is}
+use Rattle.binary32.proofs.fused.ordered.Statement.{statement}
+use Rattle.binary32.proofs.fused.ordered.Tie as tie
 
 pick-sign-requires : tie.Need-pick-sign-requires
 pick-sign-requires c κs = search needs
@@ -32,11 +27,11 @@ pick-exponent-requires-3 c κs = search needs
 returns : tie.Need-returns
 returns c =
     let b = c .before .before .before .before .before .before in
-    placed-is _ _ _ _ _ _ _ (b .pick-sign .ensures) (c .before .before .before .before .before .pick .ensures) (c .before .before .before .before .pick-exponent .ensures) (c .before .before .before .pick-sign2 .ensures)
+    ordered-is _ _ _ _ _ _ _ (b .pick-sign .ensures) (c .before .before .before .before .before .pick .ensures) (c .before .before .before .before .pick-exponent .ensures) (c .before .before .before .pick-sign2 .ensures)
     (c .before .before .pick2 .ensures) (c .before .pick-exponent2 .ensures) (c .pick-exponent3 .ensures)
 
-pub placed-spec : {M : Type 1} → statement M
-placed-spec =
+pub ordered-spec : {M : Type 1} → statement M
+ordered-spec =
     tie.close
     (tie.spec
     pick-sign-requires

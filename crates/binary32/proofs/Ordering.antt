@@ -1,5 +1,5 @@
 -- Which of a product and an operand comes first in a fused sum, as the code picks it, and what is then known. Assumes nothing.
-use mathlib.Core.Path.{_≡_, refl, sym, ap, _∙_}
+use mathlib.Core.Path.{_≡_, refl}
 use mathlib.Core.Bool.{Bool, cond}
 use Prim.Native.Nat.{ℕ, _*_, _^_, _≤_, _<_}
 use native.Mathlib.Nat.{le-of-lt}
@@ -7,12 +7,9 @@ use native.Mathlib.Decide.{decLe}
 use native.Mathlib.Omega.{arith}
 use borrow.Author.Tests.{le-leb, lt-leb}
 use lib.Dec.{leb}
-use Rattle.rounding.specs.declared.Ties.the-variants.{ToEven}
-use Rattle.rounding.specs.Format.{binary32}
-use Rattle.rounding.specs.Value.{encode, round}
 use Rattle.binary32.specs.declared.fused.Addends.{Addends}
 use Rattle.binary32.specs.Exact.{plusFinite}
-use Rattle.binary32.specs.Classes.{Product, Placed, product-first, operand-first, Reaches}
+use Rattle.binary32.specs.Classes.{Product, Ordered, product-first, operand-first, Reaches}
 use Rattle.binary32.proofs.Sums.{sum-swap}
 use Rattle.binary32.proofs.Products.{product-reaches, operand-reaches}
 
@@ -22,18 +19,18 @@ same-addends : (r : Addends) (s : Bool) (a i : ℕ) (t : Bool) (b j room : ℕ) 
 same-addends r s a i t b j room e1 e2 e3 e4 e5 e6 e7 = rw (← e1, ← e2, ← e3, ← e4, ← e5, ← e6, ← e7) refl
 
 module _ (s : Bool) (p i : ℕ) (t : Bool) (z k : ℕ) (r : Addends) where
-  pub placed-is : r .s ≡ cond (leb k i) s t → r .a ≡ cond (leb k i) p z → r .i ≡ cond (leb k i) i k → r .t ≡ cond (leb k i) t s
-      → r .b ≡ cond (leb k i) z p → r .j ≡ cond (leb k i) k i → r .room ≡ cond (leb k i) 15 38 → Placed s p i t z k r
-  placed-is =
+  pub ordered-is : r .s ≡ cond (leb k i) s t → r .a ≡ cond (leb k i) p z → r .i ≡ cond (leb k i) i k → r .t ≡ cond (leb k i) t s
+      → r .b ≡ cond (leb k i) z p → r .j ≡ cond (leb k i) k i → r .room ≡ cond (leb k i) 15 38 → Ordered s p i t z k r
+  ordered-is =
       elim (decLe k i) [
         | yes h ↦ rw (le-leb k i h) (λ a b c d e f g. product-first h (same-addends r s p i t z k 15 a b c d e f g))
         | no h ↦ let l : i < k = omega arith in rw (lt-leb k i l) (λ a b c d e f g. operand-first l (same-addends r t z k s p i 38 a b c d e f g))
       ]
 
-  pub placed-reaches : Placed s p i t z k r → Product p i → 0 < p → 2 ^ 23 ≤ z → z < 2 ^ 24 → Reaches (r .a) (r .i) (r .b) (r .j) (r .room)
-  placed-reaches (product-first h e) o pos low high = rw e (product-reaches p i z k o pos low high h)
-  placed-reaches (operand-first h e) o pos low high = rw e (operand-reaches z k p i o low high (le-of-lt h))
+  pub ordered-reaches : Ordered s p i t z k r → Product p i → 0 < p → 2 ^ 23 ≤ z → z < 2 ^ 24 → Reaches (r .a) (r .i) (r .b) (r .j) (r .room)
+  ordered-reaches (product-first h e) o pos low high = rw e (product-reaches p i z k o pos low high h)
+  ordered-reaches (operand-first h e) o pos low high = rw e (operand-reaches z k p i o low high (le-of-lt h))
 
-  pub placed-sum : Placed s p i t z k r → plusFinite (r .s) (r .a * 2 ^ r .i) (r .t) (r .b * 2 ^ r .j) ≡ plusFinite s (p * 2 ^ i) t (z * 2 ^ k)
-  placed-sum (product-first h e) = rw e
-  placed-sum (operand-first h e) = rw e (sum-swap s (p * 2 ^ i) t (z * 2 ^ k))
+  pub ordered-sum : Ordered s p i t z k r → plusFinite (r .s) (r .a * 2 ^ r .i) (r .t) (r .b * 2 ^ r .j) ≡ plusFinite s (p * 2 ^ i) t (z * 2 ^ k)
+  ordered-sum (product-first h e) = rw e
+  ordered-sum (operand-first h e) = rw e (sum-swap s (p * 2 ^ i) t (z * 2 ^ k))

@@ -16,7 +16,7 @@ use Rattle.rounding.specs.Value.{Value, finite, encode, roundFinite, round}
 use Rattle.rounding.proofs.Remainder.{shifted-back}
 use Rattle.rounding.proofs.Sticky.{odd}
 use Rattle.binary32.specs.Exact.{plusFinite}
-use Rattle.binary32.specs.Classes.{Reaches, Jammed}
+use Rattle.binary32.specs.Inner.{Reaches, Jammed}
 use Rattle.binary32.proofs.Sums.{like?, sum-same, sum-left}
 use Rattle.rounding.proofs.Multiple.{joined}
 

@@ -12,7 +12,7 @@ use Rattle.rounding.proofs.Multiple.{joined}
 use Rattle.rounding.proofs.Bits.{bits-at}
 use Rattle.binary32.specs.Exact.{plusFinite, plus, finer}
 use Rattle.binary32.specs.Steps.{addValue}
-use Rattle.binary32.specs.Classes.{Operand}
+use Rattle.binary32.specs.Inner.{Operand}
 use Rattle.binary32.proofs.Sums.{sum-scale, finer-sum}
 use Rattle.binary32.proofs.Special.{plus-comm}
 
@@ -37,7 +37,7 @@ pub add-picked : (w : Bool) (x y : ℕ) → addValue binary32 (decode binary32 (
 add-picked true x y = add-comm (decode binary32 x) (decode binary32 y)
 add-picked false x y = refl
 
-pub near-sum : (s : Bool) (m e : ℕ) (t : Bool) (n d : ℕ) → m < 2 ^ 24 → d ≤ e → e - d ≤ 31
+pub near-sum : (s : Bool) (m e : ℕ) (t : Bool) (n d : ℕ) → m < 2 ^ 24 → d ≤ e → e - d ≤ 39
     → encode binary32 (round ToEven binary32 (plusFinite s (m * 2 ^ (e - d) % 2 ^ 64 * 2 ^ (d + 149)) t (n * 2 ^ (d + 149)))) ≡ encode binary32 (addValue binary32 (finite s (m * 2 ^ e)) (finite t (n * 2 ^ d)))
 unfolding addValue plus
 near-sum s m e t n d h l g =

@@ -9,7 +9,7 @@ use borrow.Author.Tests.{le-leb, lt-leb}
 use lib.Dec.{leb}
 use Rattle.binary32.specs.declared.fused.Addends.{Addends}
 use Rattle.binary32.specs.Exact.{plusFinite}
-use Rattle.binary32.specs.Classes.{Product, Ordered, product-first, operand-first, Reaches}
+use Rattle.binary32.specs.Inner.{Product, Ordered, product-first, operand-first, Reaches}
 use Rattle.binary32.proofs.Sums.{sum-swap}
 use Rattle.binary32.proofs.Products.{product-reaches, operand-reaches}
 
@@ -20,11 +20,11 @@ same-addends r s a i t b j room e1 e2 e3 e4 e5 e6 e7 = rw (← e1, ← e2, ← e
 
 module _ (s : Bool) (p i : ℕ) (t : Bool) (z k : ℕ) (r : Addends) where
   pub ordered-is : r .s ≡ cond (leb k i) s t → r .a ≡ cond (leb k i) p z → r .i ≡ cond (leb k i) i k → r .t ≡ cond (leb k i) t s
-      → r .b ≡ cond (leb k i) z p → r .j ≡ cond (leb k i) k i → r .room ≡ cond (leb k i) 15 38 → Ordered s p i t z k r
+      → r .b ≡ cond (leb k i) z p → r .j ≡ cond (leb k i) k i → r .room ≡ cond (leb k i) 15 39 → Ordered s p i t z k r
   ordered-is =
       elim (decLe k i) [
         | yes h ↦ rw (le-leb k i h) (λ a b c d e f g. product-first h (same-addends r s p i t z k 15 a b c d e f g))
-        | no h ↦ let l : i < k = omega arith in rw (lt-leb k i l) (λ a b c d e f g. operand-first l (same-addends r t z k s p i 38 a b c d e f g))
+        | no h ↦ let l : i < k = omega arith in rw (lt-leb k i l) (λ a b c d e f g. operand-first l (same-addends r t z k s p i 39 a b c d e f g))
       ]
 
   pub ordered-reaches : Ordered s p i t z k r → Product p i → 0 < p → 2 ^ 23 ≤ z → z < 2 ^ 24 → Reaches (r .a) (r .i) (r .b) (r .j) (r .room)

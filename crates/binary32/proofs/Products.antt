@@ -9,7 +9,7 @@ use lib.Count.{leadingZeros, leading-top}
 use lib.Dec.{eqb}
 use lib.Pow.{pow-add, pow-pos, pow-mono, shl-lt}
 use borrow.Author.Tests.{eq-eqb, ne-eqb}
-use Rattle.binary32.specs.Classes.{Operand, Product, Normal, Reaches}
+use Rattle.binary32.specs.Inner.{Operand, Product, Normal, Reaches}
 use Rattle.rounding.proofs.Multiple.{joined}
 
 -- ---- zero or not
@@ -63,7 +63,7 @@ module _ (c j : ℕ) (pos : 0 < c) (high : c < 2 ^ 24) (le : 149 ≤ j) where
 pub vanished : (n e d : ℕ) → n ≡ 0 → 0 * 2 ^ e ≡ n * 2 ^ d
 vanished n e d q = zero-mul (2 ^ e) ∙ sym (zero-mul (2 ^ d)) ∙ ap (λ (x : ℕ). x * 2 ^ d) (sym q)
 
--- ---- a product goes up by 15 places, an operand by 38: then it stands far above the other
+-- ---- a product goes up by 15 places, an operand by 39: then it stands far above the other
 pub product-reaches : (p i c k : ℕ) → Product p i → 0 < p → 2 ^ 23 ≤ c → c < 2 ^ 24 → k ≤ i → Reaches p i c k 15
 product-reaches p i c k o pos low high le =
     record {
@@ -74,6 +74,6 @@ product-reaches p i c k o pos low high le =
       first = λ h. let l = o .leads (omega arith) pos in omega arith;
     }
 
-pub operand-reaches : (c k p i : ℕ) → Product p i → 2 ^ 23 ≤ c → c < 2 ^ 24 → i ≤ k → Reaches c k p i 38
+pub operand-reaches : (c k p i : ℕ) → Product p i → 2 ^ 23 ≤ c → c < 2 ^ 24 → i ≤ k → Reaches c k p i 39
 operand-reaches c k p i o low high le =
     record { order = le; steps = (omega arith, omega arith); high = omega arith; second = omega (arith, o .sig); first = λ h. omega (arith, o .sig) }

@@ -2,3 +2,4 @@ pub mod Exact
 pub mod Steps
 pub mod Classes
 pub mod Theorems
+pub mod Inner

@@ -40,7 +40,7 @@ pub fn classify(x: u32) -> Class
     }
 }
 
-// The pattern with its sign bit flipped.
+// A NaN's sign bit too: a difference flips it before anything is known of the operand.
 pub fn flipped(x: u32) -> u32
     ensures { λ r. ⌜ r ≡ flip x ⌝ }
 {

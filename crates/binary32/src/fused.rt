@@ -1,18 +1,56 @@
 // The sum of a product and a third operand, both in units of 2^-298, rounded once.
+use crate::class::Class;
+use crate::class::NAN;
 use crate::pick::pick;
 use crate::pick::pick_exponent;
 use crate::pick::pick_sign;
+use crate::sum::infinite_plus;
+use crate::sum::infinity;
 use crate::sum::round_sum;
 ghost use mathlib.Core.Path.{_≡_};
 ghost use Prim.Native.Nat.{_+_, _-_, _*_, _^_, _≤_, _<_};
 ghost use Rattle.rounding.specs.declared.Ties.the-variants.{ToEven};
 ghost use Rattle.rounding.specs.Format.{binary32};
-ghost use Rattle.rounding.specs.Value.{encode, round};
-ghost use Rattle.binary32.specs.Exact.{plusFinite};
-ghost use Rattle.binary32.specs.Classes.{Product, Normal, Ordered, Reaches, Jammed};
+ghost use Rattle.rounding.specs.Value.{finite, encode, round};
+ghost use Rattle.binary32.specs.Exact.{plusFinite, plus, finer};
+ghost use Rattle.binary32.specs.Classes.{valueOf};
+ghost use Rattle.binary32.specs.Inner.{Operand, Product, Bounded, Normal, Ordered, Reaches, Jammed};
 
-// A product of up to 48 digits and an operand of up to 24.
-pub fn fused_sum(s: bool, p: u64, i: u16, t: bool, c: u64, j: u16) -> u32
+// A product, which counts 2^-298, and a third operand, which counts 2^-149.
+pub fn product_plus(p: Class, z: Class) -> u32
+    requires { ⌜ Bounded Product p ⌝ }
+    requires { ⌜ Bounded Operand z ⌝ }
+    ensures { λ r. ⌜ r ≡ encode binary32 (round ToEven binary32 (plus (valueOf p) (finer binary32 (valueOf z)))) ⌝ }
+{
+    match p {
+        Class::NotANumber => NAN,
+        Class::Infinite(s) => infinite_plus(s, z),
+        Class::Finite {
+            sign: s,
+            sig: m,
+            exp: e,
+        } => finite_product_plus(s, m, e, z),
+    }
+}
+
+fn finite_product_plus(s: bool, m: u64, e: u16, z: Class) -> u32
+    requires { ⌜ Product m e ⌝ }
+    requires { ⌜ Bounded Operand z ⌝ }
+    ensures { λ r. ⌜ r ≡ encode binary32 (round ToEven binary32 (plus (finite s (m * 2 ^ e)) (finer binary32 (valueOf z)))) ⌝ }
+{
+    match z {
+        Class::NotANumber => NAN,
+        Class::Infinite(t) => infinity(t),
+        Class::Finite {
+            sign: t,
+            sig: n,
+            exp: d,
+        } => fused_sum(s, m, e, t, n, d + 149),
+    }
+}
+
+// A product of up to 48 digits and an operand of up to 24, which is normalised so that subnormal ones stand as far up as others.
+fn fused_sum(s: bool, p: u64, i: u16, t: bool, c: u64, j: u16) -> u32
     requires { ⌜ Product p i ⌝ }
     requires { ⌜ (c < 2 ^ 24) × (149 ≤ j) × (j ≤ 402) ⌝ }
     ensures { λ r. ⌜ r ≡ encode binary32 (round ToEven binary32 (plusFinite s (p * 2 ^ i) t (c * 2 ^ j))) ⌝ }
@@ -45,7 +83,7 @@ fn normalised(c: u64, j: u16) -> Scaled
     }
 }
 
-// Two addends, of which the first has the higher exponent, and the places by which the first can go up.
+// Two addends, each a sign, a significand and an exponent; the first has the higher exponent, and can go up by `room` places.
 pub struct Addends {
     pub s: bool,
     pub a: u64,
@@ -56,7 +94,7 @@ pub struct Addends {
     pub room: u16,
 }
 
-// A product and an operand of 24 digits, by their exponents.
+// A product and an operand of 24 digits, by their exponents. The room is what 63 digits leave beside 48 or 24.
 fn ordered(s: bool, p: u64, i: u16, t: bool, z: u64, k: u16) -> Addends
     ensures { λ r. ⌜ Ordered s p i t z k r ⌝ }
 {
@@ -68,7 +106,7 @@ fn ordered(s: bool, p: u64, i: u16, t: bool, z: u64, k: u16) -> Addends
         t: pick_sign(first, t, s),
         b: pick(first, z, p),
         j: pick_exponent(first, k, i),
-        room: pick_exponent(first, 15, 38),
+        room: pick_exponent(first, 15, 39),
     }
 }
 

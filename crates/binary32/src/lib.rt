@@ -30,5 +30,5 @@ pub fn fma(x: u32, y: u32, z: u32) -> u32
     ensures { λ r. ⌜ r ≡ fmaStep x y z ⌝ }
 {
     let p = product::times(class::classify(x), class::classify(y));
-    product::fused(p, class::classify(z))
+    fused::product_plus(p, class::classify(z))
 }

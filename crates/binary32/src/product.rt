@@ -1,8 +1,6 @@
-// Products of two classes, alone or with a third operand, rounded once.
+// Products of two classes.
 use crate::class::Class;
 use crate::class::NAN;
-use crate::fused::fused_sum;
-use crate::sum::infinite_plus;
 use crate::sum::infinity;
 use rounding::Ties;
 ghost use mathlib.Core.Path.{_≡_};
@@ -10,8 +8,9 @@ ghost use Prim.Native.Nat.{_*_, _^_};
 ghost use Rattle.rounding.specs.declared.Ties.the-variants.{ToEven};
 ghost use Rattle.rounding.specs.Format.{binary32};
 ghost use Rattle.rounding.specs.Value.{infinite, finite, encode, round};
-ghost use Rattle.binary32.specs.Exact.{plus, times, finer};
-ghost use Rattle.binary32.specs.Classes.{valueOf, Operand, Product, Bounded, ProductIs};
+ghost use Rattle.binary32.specs.Exact.{times};
+ghost use Rattle.binary32.specs.Classes.{valueOf};
+ghost use Rattle.binary32.specs.Inner.{Operand, Product, Bounded, ProductIs};
 
 // The exact product, in units of 2^-298.
 pub fn times(a: Class, b: Class) -> Class
@@ -76,7 +75,7 @@ fn finite_times(s: bool, m: u64, e: u16, b: Class) -> Class
     }
 }
 
-// A product alone.
+// A product with no third operand: the only rounding of `mul`.
 pub fn rounded(p: Class) -> u32
     ensures { λ r. ⌜ r ≡ encode binary32 (round ToEven binary32 (valueOf p)) ⌝ }
 {
@@ -88,38 +87,5 @@ pub fn rounded(p: Class) -> u32
             sig: m,
             exp: e,
         } => rounding::round(Ties::ToEven, s, m, e),
-    }
-}
-
-// A product, which counts 2^-298, and a third operand, which counts 2^-149.
-pub fn fused(p: Class, z: Class) -> u32
-    requires { ⌜ Bounded Product p ⌝ }
-    requires { ⌜ Bounded Operand z ⌝ }
-    ensures { λ r. ⌜ r ≡ encode binary32 (round ToEven binary32 (plus (valueOf p) (finer binary32 (valueOf z)))) ⌝ }
-{
-    match p {
-        Class::NotANumber => NAN,
-        Class::Infinite(s) => infinite_plus(s, z),
-        Class::Finite {
-            sign: s,
-            sig: m,
-            exp: e,
-        } => finite_fused(s, m, e, z),
-    }
-}
-
-fn finite_fused(s: bool, m: u64, e: u16, z: Class) -> u32
-    requires { ⌜ Product m e ⌝ }
-    requires { ⌜ Bounded Operand z ⌝ }
-    ensures { λ r. ⌜ r ≡ encode binary32 (round ToEven binary32 (plus (finite s (m * 2 ^ e)) (finer binary32 (valueOf z)))) ⌝ }
-{
-    match z {
-        Class::NotANumber => NAN,
-        Class::Infinite(t) => infinity(t),
-        Class::Finite {
-            sign: t,
-            sig: n,
-            exp: d,
-        } => fused_sum(s, m, e, t, n, d + 149),
     }
 }

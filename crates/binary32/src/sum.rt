@@ -1,4 +1,4 @@
-// Sums of two classes, rounded once.
+// Sums of two patterns, rounded once. An addend is a sign, a significand and an exponent: s, m, e and t, n, d.
 use crate::class::Class;
 use crate::class::NAN;
 use crate::class::classify;
@@ -13,7 +13,8 @@ ghost use Rattle.rounding.specs.Format.{binary32};
 ghost use Rattle.rounding.specs.Value.{infinite, finite, decode, encode, round};
 ghost use Rattle.binary32.specs.Exact.{plusFinite, plus};
 ghost use Rattle.binary32.specs.Steps.{addValue};
-ghost use Rattle.binary32.specs.Classes.{valueOf, Operand, Bounded, Below, Descending};
+ghost use Rattle.binary32.specs.Classes.{valueOf};
+ghost use Rattle.binary32.specs.Inner.{Operand, Bounded, Below, Descending};
 
 // The sum of two patterns. The larger magnitude comes first, whose exponent then is not below the other's.
 pub fn of_patterns(x: u32, y: u32) -> u32
@@ -81,7 +82,7 @@ fn finite_plus(s: bool, m: u64, e: u16, b: Class) -> u32
     }
 }
 
-// Beyond 31 places apart the second operand does not reach a quarter of the first one's last place.
+// From 26 places on the second operand does not reach a quarter of the first one's last place; up to 39 the sum fits 63 bits. 31 is between.
 fn finite_sum(s: bool, m: u64, e: u16, t: bool, n: u64, d: u16) -> u32
     requires { ⌜ d ≤ e ⌝ }
     requires { ⌜ Operand m e ⌝ }
@@ -113,7 +114,7 @@ pub fn round_sum(s: bool, a: u64, t: bool, b: u64, exp: u16) -> u32
     rounding::round(Ties::ToEven, sum.sign, sum.sig, exp)
 }
 
-// A magnitude with its sign.
+// An exact sum.
 pub struct Signed {
     pub sign: bool,
     pub sig: u64,
@@ -127,6 +128,7 @@ fn signed_sum(s: bool, a: u64, t: bool, b: u64) -> Signed
     let above = b < a;
     let high = pick(above, a, b);
     let low = pick(above, b, a);
+    // An exact zero is minus only where both addends are.
     let common = pick_sign(s, t, false);
     Signed {
         sign: pick_sign(above, s, pick_sign(a < b, t, common)),

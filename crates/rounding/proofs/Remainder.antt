@@ -7,7 +7,8 @@ use native.Mathlib.Omega.{arith}
 use lib.Pow.{pow-pos, pow-mono, pow-lt}
 use Rattle.rounding.specs.declared.Ties.{Ties}
 use Rattle.rounding.specs.declared.Ties.the-variants.{ToEven, ToZero}
-use Rattle.rounding.specs.Round.{tied, tieBit, keep}
+use Rattle.rounding.specs.Round.{tied, keep}
+use Rattle.rounding.specs.Inner.{tieBit}
 use Rattle.rounding.proofs.Compare.{tri}
 use Rattle.rounding.proofs.Keep.{keep-lt, keep-eq, keep-gt}
 

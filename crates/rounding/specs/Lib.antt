@@ -3,3 +3,4 @@ pub mod Round
 pub mod Nearest
 pub mod Value
 pub mod Theorems
+pub mod Inner

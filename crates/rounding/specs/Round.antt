@@ -28,9 +28,3 @@ lastPlace f L N = max L (size N - suc f)
 -- N rounded to the nearest number of the format, in units of u
 unfoldable pub rounded : Ties → ℕ → ℕ → ℕ → ℕ
 rounded t f L N = keep t (lastPlace f L N) N * 2 ^ (lastPlace f L N - L)
-
--- ---- of the code
--- what is added to a remainder, so that more than half a unit means up: a tie goes up from an odd quotient under RNe alone
-abbrev pub tieBit : Ties → ℕ → ℕ
-tieBit ToEven q = q % 2
-tieBit ToZero q = 0

@@ -2,7 +2,8 @@
 ghost use mathlib.Core.Path.{_≡_};
 ghost use Prim.Native.Nat.{_+_, _-_, _*_, _^_, _≤_, _<_, min, max};
 ghost use Rattle.rounding.specs.Format.{binary32, infinity};
-ghost use Rattle.rounding.specs.Round.{tieBit, keep};
+ghost use Rattle.rounding.specs.Round.{keep};
+ghost use Rattle.rounding.specs.Inner.{tieBit};
 ghost use Rattle.rounding.specs.Value.{signed, encode, roundFinite};
 
 // What a tie does: to the even last bit (RNe), or to the smaller magnitude (RN0).

@@ -22,15 +22,15 @@ times-requires c κs = (class-operand _ _ (c .before .classify .ensures), class-
 classify-requires-3 : tie.Need-classify-requires-3
 classify-requires-3 c κs = search needs
 
-fused-requires : tie.Need-fused-requires
-fused-requires c κs = (c .before .times .ensures .bounded, class-operand _ _ (c .classify3 .ensures))
+product-plus-requires : tie.Need-product-plus-requires
+product-plus-requires c κs = (c .before .times .ensures .bounded, class-operand _ _ (c .classify3 .ensures))
 
 returns : tie.Need-returns
 unfolding fmaValue
 returns c =
     let t = c .before .before in
     let b = t .before in
-    c .fused .ensures
+    c .product-plus .ensures
     ∙ ap₂ (λ (u v : Value). encode binary32 (round ToEven binary32 (plus u (finer binary32 v))))
     (sym (t .times .ensures .is) ∙ ap₂ times (class-value _ _ (b .before .classify .ensures)) (class-value _ _ (b .classify2 .ensures))) (class-value _ _ (c .before .classify3 .ensures))
     ∙ sym (fma-step _ _ _)
@@ -43,5 +43,5 @@ fma-spec =
     classify-requires-2
     times-requires
     classify-requires-3
-    fused-requires
+    product-plus-requires
     returns)

@@ -1,7 +1,8 @@
 use borrow.Author.Needs.{needs}
 use Rattle.rounding.specs.Value.{finite}
 use Rattle.binary32.specs.Exact.{times}
-use Rattle.binary32.specs.Classes.{valueOf, Product}
+use Rattle.binary32.specs.Classes.{valueOf}
+use Rattle.binary32.specs.Inner.{Product}
 use mathlib.Core.Path.{refl, ap}
 use Prim.Native.Nat.{_+_, _*_}
 use native.Mathlib.Nat.{le-trans}

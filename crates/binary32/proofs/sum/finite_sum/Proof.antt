@@ -38,7 +38,7 @@ round-sum-requires c κs =
 returns-2 : tie.Need-returns-2
 returns-2 c =
     let b = c .before .before in
-    c .round-sum .ensures ∙ near-sum _ (b .args .m) (b .args .e) _ (b .args .n) (b .args .d) (b .pre .1 .0 .sig) (b .pre .0) (c .before .if1 .left)
+    c .round-sum .ensures ∙ near-sum _ (b .args .m) (b .args .e) _ (b .args .n) (b .args .d) (b .pre .1 .0 .sig) (b .pre .0) (let g = c .before .if1 .left in omega arith)
 
 pub finite-sum-spec : {M : Type 1} → statement M
 finite-sum-spec =

@@ -2,14 +2,15 @@ use borrow.Author.Needs.{needs}
 use Rattle.rounding.specs.Format.{binary32}
 use Rattle.rounding.specs.Value.{encode, round}
 use Rattle.binary32.specs.Exact.{plusFinite, plus, finer}
-use Rattle.binary32.specs.Classes.{valueOf, Operand}
+use Rattle.binary32.specs.Classes.{valueOf}
+use Rattle.binary32.specs.Inner.{Operand}
 use mathlib.Core.Path.{refl, sym, ap, _∙_}
 use Prim.Native.Nat.{ℕ, _+_, _*_, _^_}
 use native.Mathlib.Omega.{arith}
 use Rattle.rounding.specs.declared.Ties.the-variants.{ToEven}
 use Rattle.rounding.proofs.Multiple.{joined}
-use Rattle.binary32.proofs.product.finite_fused.Statement.{statement}
-use Rattle.binary32.proofs.product.finite_fused.Tie as tie
+use Rattle.binary32.proofs.fused.finite_product_plus.Statement.{statement}
+use Rattle.binary32.proofs.fused.finite_product_plus.Tie as tie
 
 enum-told : tie.Need-enum-told
 enum-told c = search needs
@@ -50,8 +51,8 @@ returns-3 c =
     (c .fused-sum .ensures
     ∙ ap (λ (x : ℕ). encode binary32 (round ToEven binary32 (plusFinite (a .s) (a .m * 2 ^ a .e) (z .0 .0) x))) (sym (joined (z .0 .1 .0) (z .0 .1 .1 .0) 149 (z .0 .1 .1 .0 + 149) refl)))
 
-pub finite-fused-spec : {M : Type 1} → statement M
-finite-fused-spec =
+pub finite-product-plus-spec : {M : Type 1} → statement M
+finite-product-plus-spec =
     tie.close
     (tie.spec
     enum-told

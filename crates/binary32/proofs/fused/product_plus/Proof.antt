@@ -5,8 +5,8 @@ use Rattle.binary32.specs.Exact.{plus}
 use Rattle.binary32.specs.Classes.{valueOf}
 use mathlib.Core.Path.{sym, ap, _∙_}
 use Rattle.binary32.proofs.Special.{round-infinite-plus, infinite-plus-finer}
-use Rattle.binary32.proofs.product.fused.Statement.{statement}
-use Rattle.binary32.proofs.product.fused.Tie as tie
+use Rattle.binary32.proofs.fused.product_plus.Statement.{statement}
+use Rattle.binary32.proofs.fused.product_plus.Tie as tie
 
 enum-told : tie.Need-enum-told
 enum-told c = search needs
@@ -20,8 +20,8 @@ infinite-plus-requires c κs = search needs
 enum-known-p-2 : tie.Need-enum-known-p-2
 enum-known-p-2 c = search needs
 
-finite-fused-requires : tie.Need-finite-fused-requires
-finite-fused-requires c κs = let b = c .before .before .before in (rw (c .before .p2 .given .1) at (b .pre .0), b .pre .1)
+finite-product-plus-requires : tie.Need-finite-product-plus-requires
+finite-product-plus-requires c κs = let b = c .before .before .before in (rw (c .before .p2 .given .1) at (b .pre .0), b .pre .1)
 
 returns : tie.Need-returns
 unfolding valueOf plus round encode
@@ -33,17 +33,17 @@ returns-2 c = rw (c .before .before .p .given .1) (c .infinite-plus .ensures ∙
 
 returns-3 : tie.Need-returns-3
 unfolding valueOf
-returns-3 c = rw (c .before .before .p2 .given .1) (c .finite-fused .ensures)
+returns-3 c = rw (c .before .before .p2 .given .1) (c .finite-product-plus .ensures)
 
-pub fused-spec : {M : Type 1} → statement M
-fused-spec =
+pub product-plus-spec : {M : Type 1} → statement M
+product-plus-spec =
     tie.close
     (tie.spec
     enum-told
     enum-known-p
     infinite-plus-requires
     enum-known-p-2
-    finite-fused-requires
+    finite-product-plus-requires
     returns
     returns-2
     returns-3)

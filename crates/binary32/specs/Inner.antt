@@ -1,0 +1,76 @@
+-- What the crate's inner functions ask and promise. No public contract cites it. Assumes nothing.
+use Prim.Native.Nat.{ℕ, _+_, _-_, _*_, _%_, _^_, _≤_, _<_}
+use mathlib.Core.Path.{_≡_}
+use mathlib.Core.Logic.{_⊎_}
+use mathlib.Core.Bool.{Bool}
+use Rattle.rounding.specs.Value.{Value}
+use Rattle.binary32.specs.declared.class.Class.{Class}
+use Rattle.binary32.specs.declared.class.Class.the-variants.{Finite, Infinite, NotANumber}
+use Rattle.binary32.specs.declared.fused.Addends.{Addends}
+use Rattle.binary32.specs.Classes.{valueOf}
+
+-- ---- bounds of the significands and exponents that the code holds
+-- of an operand: 24 digits at most, and all of them where the exponent could be lower
+pub record Operand (m e : ℕ) : Type 0 where
+  pub sig : m < 2 ^ 24
+  pub exp : e ≤ 253
+  pub leads : 0 < e → 2 ^ 23 ≤ m
+
+-- of a product of two operands
+pub record Product (m e : ℕ) : Type 0 where
+  pub sig : m < 2 ^ 48
+  pub exp : e ≤ 506
+  pub leads : 0 < e → 0 < m → 2 ^ 23 ≤ m
+
+abbrev pub Bounded : (ℕ → ℕ → Type 0) → Class → Type 0
+Bounded P (Finite s m e) = P m e
+Bounded P (Infinite s) = Unit {0}
+Bounded P NotANumber = Unit {0}
+
+-- the exponent of a second addend is not above that of the first
+abbrev pub Below : ℕ → Class → Type 0
+Below e (Finite t n d) = d ≤ e
+Below e (Infinite t) = Unit {0}
+Below e NotANumber = Unit {0}
+
+abbrev pub Descending : Class → Class → Type 0
+Descending (Finite s m e) b = Below e b
+Descending (Infinite s) b = Unit {0}
+Descending NotANumber b = Unit {0}
+
+-- r is the exact product v
+pub record ProductIs (v : Value) (r : Class) : Type 0 where
+  pub is : v ≡ valueOf r
+  pub bounded : Bounded Product r
+
+-- ---- parts of a fused sum
+-- a * 2 ^ k is c * 2 ^ j, with all 24 digits
+pub record Normal (c j a k : ℕ) : Type 0 where
+  pub value : a * 2 ^ k ≡ c * 2 ^ j
+  pub low : 2 ^ 23 ≤ a
+  pub high : a < 2 ^ 24
+  pub exp : 126 ≤ k
+  pub below : k ≤ j
+
+-- by which of the exponents is the higher one
+pub data Ordered (s : Bool) (p i : ℕ) (t : Bool) (z k : ℕ) (r : Addends) : Type 0 where
+  product-first : k ≤ i → r ≡ record { s = s; a = p; i = i; t = t; b = z; j = k; room = 15 } → Ordered s p i t z k r
+  operand-first : i < k → r ≡ record { s = t; a = z; i = k; t = s; b = p; j = i; room = 39 } → Ordered s p i t z k r
+
+-- the first significand can go up by `room` places, and where that is not the whole way it then stands far above the second
+pub record Reaches (a i b j room : ℕ) : Type 0 where
+  pub order : j ≤ i
+  pub steps : (0 < room) × (room ≤ 39)
+  pub high : a * 2 ^ room < 2 ^ 63
+  pub second : b < 2 ^ 48
+  pub first : room < i - j → 2 * b + 2 ^ 26 ≤ a * 2 ^ room
+
+-- r is odd and less than 1 away from b / 2 ^ g
+pub record Odd (b g r : ℕ) : Type 0 where
+  pub odd : r % 2 ≡ 1
+  pub over : b < (r + 1) * 2 ^ g
+  pub under : r * 2 ^ g < b + 2 ^ g
+
+-- r is b / 2 ^ g itself, or such an odd number
+abbrev pub Jammed : ℕ → ℕ → ℕ → Type 0
+Jammed b g r = (r * 2 ^ g ≡ b) ⊎ Odd b g r

@@ -52,7 +52,7 @@ fn finite_product_plus(s: bool, m: u64, e: u16, z: Class) -> u32
 // A product of up to 48 digits and an operand of up to 24, which is normalised so that subnormal ones stand as far up as others.
 fn fused_sum(s: bool, p: u64, i: u16, t: bool, c: u64, j: u16) -> u32
     requires { ⌜ Product p i ⌝ }
-    requires { ⌜ (c < 2 ^ 24) × (149 ≤ j) × (j ≤ 402) ⌝ }
+    requires { ⌜ (c < 2 ^ 24) × (149 ≤ j) ⌝ }
     ensures { λ r. ⌜ r ≡ encode binary32 (round ToEven binary32 (plusFinite s (p * 2 ^ i) t (c * 2 ^ j))) ⌝ }
 {
     if c == 0 {

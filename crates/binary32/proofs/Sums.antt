@@ -68,13 +68,13 @@ sum-swap s a t b =
 
 -- ---- as the code picks it: the larger magnitude first
 module _ (a b : ℕ) where
-  abbrev pub high : ℕ
-  high = cond (ltb b a) a b
+  abbrev pub greater : ℕ
+  greater = cond (ltb b a) a b
 
-  abbrev pub low-one : ℕ
-  low-one = cond (ltb b a) b a
+  abbrev pub lesser : ℕ
+  lesser = cond (ltb b a) b a
 
-  pub picked-order : (low-one ≤ high) × ((high ≤ a + b) × (high + low-one ≡ a + b))
+  pub picked-order : (lesser ≤ greater) × ((greater ≤ a + b) × (greater + lesser ≡ a + b))
   picked-order =
       elim (decLe a b) [
         | yes h ↦ rw (le-ltb b a h) (omega arith)
@@ -91,7 +91,7 @@ common-other true false e = refl
 common-other false t e = refl
 
 pub sum-picked : (s : Bool) (a : ℕ) (t : Bool) (b : ℕ)
-    → plusFinite s a t b ≡ finite (cond (ltb b a) s (cond (ltb a b) t (cond s t false))) (cond (Bool·beq s t) (high a b + low-one a b) (high a b - low-one a b))
+    → plusFinite s a t b ≡ finite (cond (ltb b a) s (cond (ltb a b) t (cond s t false))) (cond (Bool·beq s t) (greater a b + lesser a b) (greater a b - lesser a b))
 sum-picked s a t b =
     elim (tri a b) [
       | inl h ↦ rw (le-ltb b a (le-of-lt h), lt-ltb a b h)

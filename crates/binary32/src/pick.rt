@@ -1,4 +1,4 @@
-// One of two values by a flag, in a form that compiles to no branch.
+// One of two values by a flag. Each is small enough that the compiler makes a conditional move of it, and no jump to mispredict.
 ghost use mathlib.Core.Path.{_≡_};
 ghost use mathlib.Core.Bool.{cond};
 

@@ -82,7 +82,7 @@ fn finite_plus(s: bool, m: u64, e: u16, b: Class) -> u32
     }
 }
 
-// From 26 places on the second operand does not reach a quarter of the first one's last place; up to 39 the sum fits 63 bits. 31 is between.
+// From 26 places on the second operand does not reach a quarter of the first one's last place; up to 39 the first one's shifted significand fits 63 bits. 31 is between.
 fn finite_sum(s: bool, m: u64, e: u16, t: bool, n: u64, d: u16) -> u32
     requires { ⌜ d ≤ e ⌝ }
     requires { ⌜ Operand m e ⌝ }
@@ -114,7 +114,7 @@ pub fn round_sum(s: bool, a: u64, t: bool, b: u64, exp: u16) -> u32
     rounding::round(Ties::ToEven, sum.sign, sum.sig, exp)
 }
 
-// An exact sum.
+// An exact sum, whose zero has its sign already.
 pub struct Signed {
     pub sign: bool,
     pub sig: u64,

@@ -7,16 +7,12 @@ use lib.Pow.{pow-add}
 abbrev pub Mult : ℕ → ℕ → Type 0
 Mult g n = (c : ℕ) × (n ≡ c * 2 ^ g)
 
-pub pow-split : {g e : ℕ} → g ≤ e → 2 ^ e ≡ 2 ^ (e - g) * 2 ^ g
-pow-split {g} {e} h = ap (λ (x : ℕ). 2 ^ x) (sym (sub-add-cancel h)) ∙ pow-add 2 (e - g) g
-
--- a number of units of 2 ^ e, counted in units of 2 ^ g
-pub split-unit : (m : ℕ) {g e : ℕ} → g ≤ e → m * 2 ^ e ≡ m * 2 ^ (e - g) * 2 ^ g
-split-unit m {g} {e} h = ap (λ (x : ℕ). m * x) (pow-split h) ∙ sym (mul-assoc m (2 ^ (e - g)) (2 ^ g))
-
--- and back
+-- a number of units of 2 ^ i, counted 2 ^ j times finer
 pub joined : (m i j k : ℕ) → i + j ≡ k → m * 2 ^ i * 2 ^ j ≡ m * 2 ^ k
 joined m i j k e = mul-assoc m (2 ^ i) (2 ^ j) ∙ ap (λ (x : ℕ). m * x) (sym (pow-add 2 i j) ∙ ap (λ (x : ℕ). 2 ^ x) e)
+
+pub split-unit : (m : ℕ) {g e : ℕ} → g ≤ e → m * 2 ^ e ≡ m * 2 ^ (e - g) * 2 ^ g
+split-unit m {g} {e} h = sym (joined m (e - g) g e (sub-add-cancel h))
 
 pub mult-down : {g e : ℕ} (n : ℕ) → g ≤ e → Mult e n → Mult g n
 mult-down {g} {e} n h m = (m .0 * 2 ^ (e - g), m .1 ∙ split-unit (m .0) h)

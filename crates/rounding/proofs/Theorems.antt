@@ -15,10 +15,10 @@ use Rattle.rounding.proofs.Rounded.{rounded-near, rounded-near0, rounde
 use Rattle.rounding.proofs.Even.{rounded-even, neighbour-odd}
 use Rattle.rounding.proofs.Sticky.{odd}
 use Rattle.rounding.proofs.Scaled.{rep-up}
-use Rattle.rounding.proofs.Codec.{bits-below, decode-encode, encode-decode, decode-fits}
+use Rattle.rounding.proofs.Codec as codec
 use Rattle.rounding.proofs.Bits.{magnitude-lt, magnitude-mono, magnitude-bits}
 use Rattle.rounding.proofs.NearLaws.{near0-one}
-use Rattle.rounding.proofs.RoundValue.{round-below, round-above, round-finite, round-fits, under-edge, over-edge, even-at-edge, zero-at-edge}
+use Rattle.rounding.proofs.RoundValue as values
 
 pub binary32-numbers : Binary32Numbers
 unfolding limit edge
@@ -58,10 +58,10 @@ pub round-to-odd : RoundToOdd
 round-to-odd = odd
 
 pub overflow-rne : OverflowRNe
-overflow-rne F ok s N = (λ h. round-above ToEven F s N (even-at-edge F ok N h), λ h. round-below ToEven F s N (under-edge F ok ToEven N h))
+overflow-rne F ok s N = (λ h. values.round-above ToEven F s N (values.even-at-edge F ok N h), λ h. values.round-below ToEven F s N (values.under-edge F ok ToEven N h))
 
 pub overflow-rn0 : OverflowRN0
-overflow-rn0 F ok s N = (λ h. round-above ToZero F s N (over-edge F ok ToZero N h), λ h. round-below ToZero F s N (zero-at-edge F ok N h))
+overflow-rn0 F ok s N = (λ h. values.round-above ToZero F s N (values.over-edge F ok ToZero N h), λ h. values.round-below ToZero F s N (values.zero-at-edge F ok N h))
 
 largest-magnitude : magnitude 23 0x7f7f_ffff ≡ (2 ^ 128 - 2 ^ 104) * 2 ^ 149
 unfolding magnitude fields
@@ -71,12 +71,12 @@ largest-magnitude = refl
 pattern-rep : (F : Format) → Proper F → (x : ℕ) (r : Bool) (b : ℕ) → decode F x ≡ finite r b → Rep (suc (F .fraction)) (low F) (b * 2 ^ low F)
 unfolding Fits
 pattern-rep F ok x r b e =
-    let fits : Fits F (finite r b) = rw e at (decode-fits F (ok .0) x) in
+    let fits : Fits F (finite r b) = rw e at (codec.decode-fits F (ok .0) x) in
     subst (λ (l : ℕ). Rep (suc (F .fraction)) l (b * 2 ^ low F)) (zero-add (low F)) (rep-up (low F) (fits .0))
 
 pub nearest-pattern : NearestPattern
 nearest-pattern t F ok s N a e x r b d =
-    rw (round-finite t F s N s a e) (rounded-near t (F .fraction) (low F) N .best (b * 2 ^ low F) (pattern-rep F ok x r b d))
+    rw (values.round-finite t F s N s a e) (rounded-near t (F .fraction) (low F) N .best (b * 2 ^ low F) (pattern-rep F ok x r b d))
 
 -- the sign bit leaves the last bit alone
 signed-even : (F : Format) → Proper F → (s : Bool) (c : ℕ) → c % 2 ≡ 0 → signed F s c % 2 ≡ 0
@@ -89,14 +89,14 @@ signed-even F ok true c e =
 pub tie-to-even-pattern : TieToEvenPattern
 unfolding encode
 tie-to-even-pattern F ok s N a e x r b d ne eq =
-    let is = round-finite ToEven F s N s a e in
+    let is = values.round-finite ToEven F s N s a e in
     let far : b * 2 ^ low F ≡ rounded ToEven (F .fraction) (low F) N * 2 ^ low F → ⊥ = λ z. ne (eq-of-mul-eq-mul-right (2 ^ low F) (pow-pos (low F)) b (rounded ToEven (F .fraction) (low F) N) z ∙ sym is) in
     let even = rounded-even (F .fraction) (low F) N (b * 2 ^ low F) (ok .0) (pattern-rep F ok x r b d) far (eq ∙ ap (λ (y : ℕ). dist (y * 2 ^ low F) N) is) in
     signed-even F ok s (bits (F .fraction) a) (ap (λ (y : ℕ). bits (F .fraction) y % 2) is ∙ even)
 
 pub tie-to-zero-pattern : TieToZeroPattern
 tie-to-zero-pattern F ok s N a e x r b d =
-    rw (round-finite ToZero F s N s a e) (λ h. le-of-mul-le-mul-right (rounded-near0 (F .fraction) (low F) N .tie (b * 2 ^ low F) (pattern-rep F ok x r b d) h) (pow-pos (low F)))
+    rw (values.round-finite ToZero F s N s a e) (λ h. le-of-mul-le-mul-right (rounded-near0 (F .fraction) (low F) N .tie (b * 2 ^ low F) (pattern-rep F ok x r b d) h) (pow-pos (low F)))
 
 pub decode-landmarks : DecodeLandmarks
 unfolding decode
@@ -105,22 +105,22 @@ decode-landmarks = (refl, refl, refl, refl, refl, refl, refl, refl, refl, refl)
 pub largest-finite : LargestFinite
 unfolding Fits
 largest-finite x s a e =
-    let fits : Fits binary32 (finite s a) = rw e at (decode-fits binary32 (omega arith) x) in
-    let below = bits-below binary32 (omega arith) (fits .0) (fits .1) in
+    let fits : Fits binary32 (finite s a) = rw e at (codec.decode-fits binary32 (omega arith) x) in
+    let below = codec.bits-below binary32 (omega arith) (fits .0) (fits .1) in
     let top : magnitude 23 0x7f7f_ffff ≡ (2 ^ 128 - 2 ^ 104) * 2 ^ 149 = largest-magnitude in
     le-trans (le-of-eq (sym (magnitude-bits 23 a (fits .0)))) (le-trans (magnitude-mono 23 (bits 23 a) 0x7f7f_ffff (omega arith)) (le-of-eq top))
 
 pub bits-order : BitsOrder
 bits-order = magnitude-lt
 
-pub decode-of-encode : DecodeEncode
-decode-of-encode F ok = decode-encode F (ok .0)
+pub decode-encode : DecodeEncode
+decode-encode F ok = codec.decode-encode F (ok .0)
 
-pub encode-of-decode : EncodeDecode
-encode-of-decode = encode-decode
+pub encode-decode : EncodeDecode
+encode-decode = codec.encode-decode
 
-pub fits-decode : DecodeFits
-fits-decode F ok = decode-fits F (ok .0)
+pub decode-fits : DecodeFits
+decode-fits F ok = codec.decode-fits F (ok .0)
 
-pub fits-round : RoundFits
-fits-round = round-fits
+pub round-fits : RoundFits
+round-fits = values.round-fits

@@ -1,12 +1,12 @@
 // The sum of a product and a third operand, both in units of 2^-298, rounded once.
 use crate::class::Class;
 use crate::class::NAN;
-use crate::pick::pick;
-use crate::pick::pick_exponent;
-use crate::pick::pick_sign;
 use crate::sum::infinite_plus;
 use crate::sum::infinity;
 use crate::sum::round_sum;
+use rounding::pick::pick;
+use rounding::pick::pick_exponent;
+use rounding::pick::pick_sign;
 ghost use mathlib.Core.Path.{_≡_};
 ghost use Prim.Native.Nat.{_+_, _-_, _*_, _^_, _≤_, _<_};
 ghost use Rattle.rounding.specs.declared.Ties.the-variants.{ToEven};

@@ -1,7 +1,6 @@
 // The four rounding steps on binary32 patterns: the exact result on integers, and one rounding.
 pub mod class;
 mod fused;
-mod pick;
 mod product;
 mod sum;
 

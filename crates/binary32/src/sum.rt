@@ -2,10 +2,10 @@
 use crate::class::Class;
 use crate::class::NAN;
 use crate::class::classify;
-use crate::pick::pick;
-use crate::pick::pick_pattern;
-use crate::pick::pick_sign;
 use rounding::Ties;
+use rounding::pick::pick;
+use rounding::pick::pick_pattern;
+use rounding::pick::pick_sign;
 ghost use mathlib.Core.Path.{_≡_};
 ghost use Prim.Native.Nat.{_+_, _*_, _^_, _≤_, _<_};
 ghost use Rattle.rounding.specs.declared.Ties.the-variants.{ToEven};

@@ -1,8 +1,8 @@
 -- N / 2 ^ k to the nearest whole number: by the remainder, its distance from N, and scaling. Assumes nothing.
-use mathlib.Core.Path.{_≡_, sym, ap₂, _∙_, subst}
+use mathlib.Core.Path.{_≡_, sym, ap, ap₂, _∙_, subst}
 use mathlib.Core.Logic.{inl, inr}
 use Prim.Native.Nat.{ℕ, suc, _+_, _*_, _/_, _%_, _^_, _≤_, _<_}
-use native.Mathlib.Nat.{le-refl, le-suc, add-zero, eq-or-lt-of-le, mul-assoc, mul-div-cancel, mul-mod-left, mul-div-mul-right, mod-lt, div-add-mod'}
+use native.Mathlib.Nat.{le-refl, le-suc, add-zero, zero-add, eq-or-lt-of-le, mul-assoc, mul-div-cancel, mul-mod-left, mul-div-mul-right, mod-lt, div-add-mod'}
 use native.Mathlib.Omega.{arith}
 use lib.Arith.{mod-mul}
 use lib.Pow.{pow-add, pow-pos}
@@ -64,3 +64,11 @@ pub keep-scale : (t : Ties) (k s N : ℕ) → keep t (k + s) (N * 2 ^ s) ≡ kee
 unfolding keep
 keep-scale t k s N =
     rw (pow-add 2 k s, mul-div-mul-right N (2 ^ k) (pow-pos s), mod-scale N (2 ^ k) (2 ^ s) (pow-pos k) (pow-pos s), ← mul-assoc 2 (N % 2 ^ k) (2 ^ s), cmp-scale (2 * (N % 2 ^ k)) (2 ^ k) (2 ^ s) (pow-pos s))
+
+-- nothing is dropped of a multiple
+pub keep-whole : (t : Ties) (k c : ℕ) → keep t k (c * 2 ^ k) ≡ c
+keep-whole t k c =
+    ap (λ (x : ℕ). keep t x (c * 2 ^ k)) (sym (zero-add k))
+    ∙ keep-scale t 0 k c
+    ∙ keep-lt t 0 c (let z : c % 1 ≡ 0 = omega arith in rw z (omega arith))
+    ∙ omega arith

@@ -16,3 +16,4 @@ pub mod Theorems
 pub mod Remainder
 pub mod Normalised
 pub mod Spacing
+pub mod LeftOver

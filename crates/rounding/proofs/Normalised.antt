@@ -2,36 +2,34 @@
 use mathlib.Core.Path.{_≡_, refl, sym, ap, ap₂, _∙_}
 use mathlib.Core.Bool.{Bool}
 use Prim.Native.Nat.{ℕ, suc, _+_, _-_, _*_, _%_, _^_, _≤_, _<_, min, max}
-use native.Mathlib.Nat.{zero-mul, mul-le-mul-right, lt-of-lt-of-le, mod-eq-of-lt, eq-of-mul-eq-mul-right, lt-irrefl}
+use native.Mathlib.Nat.{zero-mul, mul-le-mul-right, lt-of-lt-of-le, mod-eq-of-lt, lt-irrefl}
 use native.Mathlib.Omega.{arith}
 use lib.Count.{leadingZeros, leading-top}
-use lib.Pow.{pow-add, pow-pos, pow-mono, shl-lt}
+use lib.Pow.{pow-add, pow-mono, shl-lt}
 use Rattle.rounding.specs.declared.Ties.{Ties}
 use Rattle.rounding.specs.Format.{binary32, infinity}
-use Rattle.rounding.specs.Round.{keep, lastPlace, rounded}
+use Rattle.rounding.specs.Round.{keep, lastPlace}
 use Rattle.rounding.specs.Value.{bits, signed, encode, roundFinite}
 use Rattle.rounding.proofs.LastPlace.{place-is}
 use Rattle.rounding.proofs.Keep.{keep-scale}
 use Rattle.rounding.proofs.Multiple.{joined}
-use Rattle.rounding.proofs.Representable.{rep-zero}
-use Rattle.rounding.proofs.Rounded.{keep-le, rounded-exact}
+use Rattle.rounding.proofs.Rounded.{keep-le, rounded-none}
 use Rattle.rounding.proofs.Bits.{bits-at, bits-rounded}
 use Rattle.rounding.proofs.RoundValue.{encode-round}
 
 -- ---- nothing rounds to nothing
 pub round-zero : (t : Ties) (s : Bool) (e : ℕ) → encode binary32 (roundFinite t binary32 s (0 * 2 ^ e)) ≡ signed binary32 s 0
 round-zero t s e =
-    let z : rounded t 23 149 0 ≡ 0 = eq-of-mul-eq-mul-right (2 ^ 149) (pow-pos 149) (rounded t 23 149 0) 0 (rounded-exact t 23 149 0 rep-zero ∙ sym (zero-mul (2 ^ 149))) in
     let b : bits 23 0 ≡ 0 = bits-at 23 0 0 (omega arith) (λ (h : 0 < 0). absurd (lt-irrefl 0 h)) in
     ap (λ (x : ℕ). encode binary32 (roundFinite t binary32 s x)) (zero-mul (2 ^ e))
     ∙ encode-round t binary32 s 0 (omega arith)
-    ∙ ap (λ (x : ℕ). signed binary32 s (min (infinity binary32) x)) (ap (bits 23) z ∙ b)
+    ∙ ap (λ (x : ℕ). signed binary32 s (min (infinity binary32) x)) (ap (bits 23) (rounded-none t 23 149) ∙ b)
 
 module _ (t : Ties) (sig e place : ℕ) (pos : 0 < sig) (word : sig < 2 ^ 64) (is : place ≡ max 149 (e + 64 - leadingZeros 64 sig - 24)) where
   pub zeros-lt : leadingZeros 64 sig < 64
   zeros-lt = let top = leading-top 64 sig pos word in omega arith
 
-  at-last-place : lastPlace 23 149 (sig * 2 ^ e) ≡ place
+  pub at-last-place : lastPlace 23 149 (sig * 2 ^ e) ≡ place
   at-last-place =
       let top = leading-top 64 sig pos word in
       let up : sig * 2 ^ e < 2 ^ (24 + place) = lt-of-lt-of-le (shl-lt (suc (top .0)) e (top .3)) (pow-mono (omega arith)) in
@@ -55,7 +53,7 @@ module _ (t : Ties) (sig e place : ℕ) (pos : 0 < sig) (word : sig < 2 ^ 64) (i
 
   -- with q for what is kept of the normalised word
   module _ (q : ℕ) (kept : q ≡ keep t (place + 64 - (e + 64 - leadingZeros 64 sig)) (sig * 2 ^ leadingZeros 64 sig % 2 ^ 64)) where
-    at-place : q ≡ keep t (lastPlace 23 149 (sig * 2 ^ e)) (sig * 2 ^ e)
+    pub at-place : q ≡ keep t (lastPlace 23 149 (sig * 2 ^ e)) (sig * 2 ^ e)
     at-place = kept ∙ kept-is ∙ ap (λ (x : ℕ). keep t x (sig * 2 ^ e)) (sym at-last-place)
 
     pub kept-small : q ≤ 2 ^ 24

@@ -1,8 +1,8 @@
 -- `rounded` is nearest, its tie rules, exactness, order and scaling. Assumes nothing.
-use mathlib.Core.Path.{_≡_, sym, ap}
+use mathlib.Core.Path.{_≡_, sym, ap, _∙_}
 use mathlib.Core.Logic.{_⊎_, inl, inr}
 use Prim.Native.Nat.{ℕ, suc, _+_, _-_, _*_, _/_, _%_, _^_, _≤_, _<_}
-use native.Mathlib.Nat.{le-refl, le-of-eq, mul-le-mul-right, le-of-mul-le-mul-right, eq-of-mul-eq-mul-right, le-div-iff-mul-le, div-lt-iff-lt-mul, div-add-mod', suc-mul, pow-succ'}
+use native.Mathlib.Nat.{le-refl, le-of-eq, mul-le-mul-right, le-of-mul-le-mul-right, eq-of-mul-eq-mul-right, le-div-iff-mul-le, div-lt-iff-lt-mul, div-add-mod', suc-mul, zero-mul, pow-succ'}
 use native.Mathlib.Decide.{decLe}
 use native.Mathlib.Omega.{arith}
 use lib.Pow.{pow-add, pow-pos}
@@ -14,7 +14,7 @@ use Rattle.rounding.proofs.Compare.{tri}
 use Rattle.rounding.proofs.LastPlace.{place-ge, place-above, place-below, place-scale}
 use Rattle.rounding.proofs.Keep.{keep-lt, keep-eq, keep-gt, kept, keep-scale}
 use Rattle.rounding.proofs.Multiple.{split-unit, mult-down}
-use Rattle.rounding.proofs.Representable.{rep-mult, rep-under, rep-le, floor-best}
+use Rattle.rounding.proofs.Representable.{rep-mult, rep-zero, rep-under, rep-le, floor-best}
 use Rattle.rounding.proofs.NearLaws.{near-exact, near-near0, near-order}
 
 -- the significand that is cut off has at most suc f digits
@@ -110,6 +110,9 @@ rounded-half t f L N = rw (rounded-keep t f L N) (half-unit t (lastPlace f L N) 
 -- ---- exactness, order, scaling
 pub rounded-exact : (t : Ties) (f L N : ℕ) → Rep (suc f) L N → rounded t f L N * 2 ^ L ≡ N
 rounded-exact t f L N r = near-exact (rounded-near t f L N) r
+
+pub rounded-none : (t : Ties) (f L : ℕ) → rounded t f L 0 ≡ 0
+rounded-none t f L = eq-of-mul-eq-mul-right (2 ^ L) (pow-pos L) (rounded t f L 0) 0 (rounded-exact t f L 0 rep-zero ∙ sym (zero-mul (2 ^ L)))
 
 pub rounded-mono : (t : Ties) (f L N M : ℕ) → N ≤ M → rounded t f L N ≤ rounded t f L M
 rounded-mono t f L N M h =

@@ -2,9 +2,12 @@
 -- f fraction bits are kept behind the leading one. A magnitude N is a whole number of some unit, in which u is 2 ^ L:
 -- L is 0 where N counts u, and 149 where N counts 2 ^ -298, the unit of products and totals, in binary32.
 use Prim.Native.Nat.{ℕ, suc, _+_, _-_, _*_, _/_, _%_, _^_, max, compare, Ordering, Ordering·lt, Ordering·eq, Ordering·gt}
+use lib.Dec.{ltb}
 use lib.Ieee.{size}
+use mathlib.Core.Bool.{Bool}
 use Rattle.rounding.specs.declared.Ties.{Ties}
 use Rattle.rounding.specs.declared.Ties.the-variants.{ToEven, ToZero}
+use Rattle.rounding.specs.Nearest.{dist}
 
 -- Halfway between q and suc q. RNe: "ties to the even last bit"; RN0: "ties to the smaller magnitude".
 abbrev pub tied : Ties → ℕ → ℕ
@@ -28,3 +31,10 @@ lastPlace f L N = max L (size N - suc f)
 -- N rounded to the nearest number of the format, in units of u
 unfoldable pub rounded : Ties → ℕ → ℕ → ℕ → ℕ
 rounded t f L N = keep t (lastPlace f L N) N * 2 ^ (lastPlace f L N - L)
+
+-- what the rounding leaves over, in N's unit, and whether the rounded number is the larger of the two
+abbrev pub leftOver : Ties → ℕ → ℕ → ℕ → ℕ
+leftOver t f L N = dist (rounded t f L N * 2 ^ L) N
+
+abbrev pub roundedUp : Ties → ℕ → ℕ → ℕ → Bool
+roundedUp t f L N = ltb N (rounded t f L N * 2 ^ L)

@@ -1,7 +1,7 @@
 -- Patterns, the values that they stand for, and the rounding of an exact result to a value (document 01, "Patterns and rounding").
 -- Assumes nothing.
 use Prim.Native.Nat.{ℕ, zero, suc, _+_, _-_, _*_, _/_, _%_, _^_, _<_}
-use mathlib.Core.Bool.{Bool, cond}
+use mathlib.Core.Bool.{Bool, true, false, cond, _&&_}
 use mathlib.Core.List.{List, []}
 use lib.Dec.{ltb, leb, eqb}
 use lib.Ieee.{size}
@@ -43,6 +43,16 @@ unsigned F s c = cond (ltb c (infinity F)) (finite s (magnitude (F .fraction) c)
 unfoldable pub decode : Format → ℕ → Value
 unfolding unsigned
 decode F x = unsigned F (leb (signBit F) x) (x % signBit F)
+
+abbrev pub isNaN : Value → Bool
+isNaN nan = true
+isNaN (infinite s) = false
+isNaN (finite s a) = false
+
+-- "A NaN is signalling when fraction bit 22 is 0": the highest of the fraction's bits.
+unfoldable pub signalling : Format → ℕ → Bool
+unfolding decode
+signalling F x = isNaN (decode F x) && eqb (x / 2 ^ (F .fraction - 1) % 2) 0
 
 -- ---- from a value to its pattern
 

@@ -3,13 +3,13 @@ use mathlib.Core.Path.{_≡_, refl, sym, ap, _∙_}
 use mathlib.Core.Logic.{inl, inr}
 use mathlib.Core.Bool.{Bool, true, false, not, cond}
 use Prim.Native.Nat.{ℕ, zero, suc, _+_, _-_, _*_, _/_, _%_, _^_, _≤_, _<_}
-use native.Mathlib.Nat.{le-refl, le-of-lt, mul-one, lt-irrefl}
+use native.Mathlib.Nat.{le-refl, le-of-lt, mul-one, lt-irrefl, sub-add-cancel, add-mod-right}
 use native.Mathlib.Decide.{decLe}
 use native.Mathlib.Omega.{arith}
 use borrow.Author.Tests.{lt-leb, le-leb, lt-ltb, le-ltb, ne-eqb}
 use lib.Dec.{leb, ltb, eqb}
 use lib.Pow.{mod-mod-pow}
-use Rattle.rounding.specs.Format.{binary32, infinity}
+use Rattle.rounding.specs.Format.{Format, binary32, infinity, signBit}
 use Rattle.rounding.specs.Value.{finite, fields, magnitude, unsigned, decode}
 use Rattle.rounding.proofs.Compare.{tri}
 use Rattle.rounding.proofs.Codec.{unsigned-finite, unsigned-infinite, unsigned-nan}
@@ -155,29 +155,30 @@ picked-descending x y =
     ]
 
 -- ---- the sign bit
-negate-unsigned : (s : Bool) (c : ℕ) → unsigned binary32 (not s) c ≡ negate (unsigned binary32 s c)
+negate-unsigned : (F : Format) (s : Bool) (c : ℕ) → unsigned F (not s) c ≡ negate (unsigned F s c)
 unfolding negate
-negate-unsigned s c =
-    elim (tri c (infinity binary32)) [
-      | inl h ↦ unsigned-finite binary32 (not s) c h ∙ sym (ap negate (unsigned-finite binary32 s c h))
+negate-unsigned F s c =
+    elim (tri c (infinity F)) [
+      | inl h ↦ unsigned-finite F (not s) c h ∙ sym (ap negate (unsigned-finite F s c h))
       | inr o ↦ elim o [
-        | inl e ↦ unsigned-infinite binary32 (not s) c e ∙ sym (ap negate (unsigned-infinite binary32 s c e))
-        | inr h ↦ unsigned-nan binary32 (not s) c h ∙ sym (ap negate (unsigned-nan binary32 s c h))
+        | inl e ↦ unsigned-infinite F (not s) c e ∙ sym (ap negate (unsigned-infinite F s c e))
+        | inr h ↦ unsigned-nan F (not s) c h ∙ sym (ap negate (unsigned-nan F s c h))
       ]
     ]
 
-pub decode-flip : (x : ℕ) → x < 2 ^ 32 → decode binary32 (flip x) ≡ negate (decode binary32 x)
+pub decode-flip : (F : Format) (x : ℕ) → x < 2 * signBit F → decode F (flip F x) ≡ negate (decode F x)
 unfolding decode
-decode-flip x h =
-    elim (decLe (2 ^ 31) x) [
+decode-flip F x h =
+    let S = signBit F in
+    elim (decLe S x) [
       | yes g ↦
-          let a : leb (2 ^ 31) x ≡ true = le-leb (2 ^ 31) x g in
-          let b : leb (2 ^ 31) (x - 2 ^ 31) ≡ false = lt-leb (2 ^ 31) (x - 2 ^ 31) (omega arith) in
-          let m : (x - 2 ^ 31) % 2 ^ 31 ≡ x % 2 ^ 31 = omega arith in
-          rw (a, b, m) (negate-unsigned true (x % 2 ^ 31))
+          let a : leb S x ≡ true = le-leb S x g in
+          let b : leb S (x - S) ≡ false = lt-leb S (x - S) (omega arith) in
+          let m : (x - S) % S ≡ x % S = sym (add-mod-right (x - S) S) ∙ ap (λ (y : ℕ). y % S) (sub-add-cancel g) in
+          rw (a, b, m) (negate-unsigned F true (x % S))
       | no g ↦
-          let a : leb (2 ^ 31) x ≡ false = lt-leb (2 ^ 31) x (omega arith) in
-          let b : leb (2 ^ 31) (x + 2 ^ 31) ≡ true = le-leb (2 ^ 31) (x + 2 ^ 31) (omega arith) in
-          let m : (x + 2 ^ 31) % 2 ^ 31 ≡ x % 2 ^ 31 = omega arith in
-          rw (a, b, m) (negate-unsigned false (x % 2 ^ 31))
+          let a : leb S x ≡ false = lt-leb S x (omega arith) in
+          let b : leb S (x + S) ≡ true = le-leb S (x + S) (omega arith) in
+          let m : (x + S) % S ≡ x % S = add-mod-right x S in
+          rw (a, b, m) (negate-unsigned F false (x % S))
     ]

@@ -2,6 +2,7 @@
 use Prim.Native.Nat.{ℕ, zero, suc, _+_, _-_, _*_, _/_, _%_, _^_}
 use mathlib.Core.Bool.{Bool, cond}
 use lib.Dec.{leb, eqb}
+use Rattle.rounding.specs.Format.{Format, signBit}
 use Rattle.rounding.specs.Value.{Value, nan, infinite, finite}
 use Rattle.binary32.specs.declared.class.Class.{Class}
 use Rattle.binary32.specs.declared.class.Class.the-variants.{Finite, Infinite, NotANumber}
@@ -20,6 +21,6 @@ valueOf (Finite s m e) = finite s (m * 2 ^ e)
 valueOf (Infinite s) = infinite s
 valueOf NotANumber = nan
 
--- the pattern with its sign bit flipped
-abbrev pub flip : ℕ → ℕ
-flip x = cond (leb (2 ^ 31) x) (x - 2 ^ 31) (x + 2 ^ 31)
+-- the pattern with its sign bit flipped, in any format
+abbrev pub flip : Format → ℕ → ℕ
+flip F x = cond (leb (signBit F) x) (x - signBit F) (x + signBit F)

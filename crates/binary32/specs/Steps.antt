@@ -25,27 +25,27 @@ unfoldable pub fmaValue : Format → Value → Value → Value → Value
 unfolding round plus times finer
 fmaValue F x y z = round ToEven F (plus (times x y) (finer F z))
 
--- ---- on patterns of binary32
-
 -- The pattern of a result: `encode`, with the operands at hand for `nanOf`, which today does not look at them.
-unfoldable pub result : List ℕ → Value → ℕ
+unfoldable pub result : Format → List ℕ → Value → ℕ
 unfolding encode
-result operands nan = nanOf binary32 operands
-result operands (infinite s) = encode binary32 (infinite s)
-result operands (finite s a) = encode binary32 (finite s a)
+result F operands nan = nanOf F operands
+result F operands (infinite s) = encode F (infinite s)
+result F operands (finite s a) = encode F (finite s a)
+
+-- ---- on patterns of binary32
 
 unfoldable pub addStep : ℕ → ℕ → ℕ
 unfolding result addValue decode
-addStep x y = result (x ∷ y ∷ []) (addValue binary32 (decode binary32 x) (decode binary32 y))
+addStep x y = result binary32 (x ∷ y ∷ []) (addValue binary32 (decode binary32 x) (decode binary32 y))
 
 unfoldable pub subStep : ℕ → ℕ → ℕ
 unfolding result subValue decode
-subStep x y = result (x ∷ y ∷ []) (subValue binary32 (decode binary32 x) (decode binary32 y))
+subStep x y = result binary32 (x ∷ y ∷ []) (subValue binary32 (decode binary32 x) (decode binary32 y))
 
 unfoldable pub mulStep : ℕ → ℕ → ℕ
 unfolding result mulValue decode
-mulStep x y = result (x ∷ y ∷ []) (mulValue binary32 (decode binary32 x) (decode binary32 y))
+mulStep x y = result binary32 (x ∷ y ∷ []) (mulValue binary32 (decode binary32 x) (decode binary32 y))
 
 unfoldable pub fmaStep : ℕ → ℕ → ℕ → ℕ
 unfolding result fmaValue decode
-fmaStep x y z = result (x ∷ y ∷ z ∷ []) (fmaValue binary32 (decode binary32 x) (decode binary32 y) (decode binary32 z))
+fmaStep x y z = result binary32 (x ∷ y ∷ z ∷ []) (fmaValue binary32 (decode binary32 x) (decode binary32 y) (decode binary32 z))

@@ -5,7 +5,7 @@ use Prim.Native.Nat.{ℕ, _*_, _^_, _<_}
 use lib.Ieee.{unlike}
 use lib.IntN.{ℤ, pos, _+ℤ_, _-ℤ_, _*ℤ_}
 use Rattle.rounding.specs.declared.Ties.the-variants.{ToEven}
-use Rattle.rounding.specs.Format.{binary32}
+use Rattle.rounding.specs.Format.{Format, binary32, signBit}
 use Rattle.rounding.specs.Value.{nan, finite, decode, roundFinite}
 use Rattle.binary32.specs.Exact.{negate, plusFinite, int}
 use Rattle.binary32.specs.Steps.{addValue, subValue, mulValue, fmaValue, addStep, subStep, mulStep, fmaStep}
@@ -17,7 +17,7 @@ ClassDecodes = (x : ℕ) → valueOf (classOf x) ≡ decode binary32 x
 
 -- a flipped sign bit negates the value
 abbrev pub FlipNegates : Type 0
-FlipNegates = (x : ℕ) → x < 2 ^ 32 → decode binary32 (flip x) ≡ negate (decode binary32 x)
+FlipNegates = (F : Format) (x : ℕ) → x < 2 * signBit F → decode F (flip F x) ≡ negate (decode F x)
 
 -- ---- exact sums and products are those of whole numbers
 -- "An exact zero .. takes the common sign of the two addends .. else +0": minus only where both are

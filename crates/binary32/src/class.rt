@@ -1,5 +1,6 @@
 // The class of a pattern: its sign, significand and exponent, or what stands in their place.
 ghost use mathlib.Core.Path.{_≡_};
+ghost use Rattle.rounding.specs.Format.{binary32};
 ghost use Rattle.binary32.specs.Classes.{classOf, flip};
 
 // A finite number is sig * 2^exp units of 2^-149, or of 2^-298 for a product.
@@ -42,7 +43,7 @@ pub fn classify(x: u32) -> Class
 
 // A NaN's sign bit too: a difference flips it before anything is known of the operand.
 pub fn flipped(x: u32) -> u32
-    ensures { λ r. ⌜ r ≡ flip x ⌝ }
+    ensures { λ r. ⌜ r ≡ flip binary32 x ⌝ }
 {
     if x >= 0x8000_0000 {
         x - 0x8000_0000

@@ -4,6 +4,7 @@ pub mod Sums
 pub mod Special
 pub mod Near
 pub mod Far
+pub mod Exacts
 pub mod Jam
 pub mod Products
 pub mod Ordering

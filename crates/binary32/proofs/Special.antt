@@ -45,7 +45,7 @@ module _ (F : Format) (s : Bool) where
   round-infinite-plus t (infinite r) = round-choice t F (Bool·beq s r) s
   round-infinite-plus t (finite r a) = refl
 
-  finer-infinite-plus : (v : Value) → finer F (plus (infinite s) v) ≡ plus (infinite s) v
+  pub finer-infinite-plus : (v : Value) → finer F (plus (infinite s) v) ≡ plus (infinite s) v
   unfolding finer plus
   finer-infinite-plus nan = refl
   finer-infinite-plus (infinite r) = finer-choice F (Bool·beq s r) s

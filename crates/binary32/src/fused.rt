@@ -1,7 +1,6 @@
 // The sum of a product and a third operand, both in units of 2^-298, rounded once.
 use crate::class::Class;
 use crate::class::NAN;
-use crate::sum::infinite_plus;
 use crate::sum::infinity;
 use crate::sum::round_sum;
 use rounding::pick::pick;
@@ -11,7 +10,7 @@ ghost use mathlib.Core.Path.{_≡_};
 ghost use Prim.Native.Nat.{_+_, _-_, _*_, _^_, _≤_, _<_};
 ghost use Rattle.rounding.specs.declared.Ties.the-variants.{ToEven};
 ghost use Rattle.rounding.specs.Format.{binary32};
-ghost use Rattle.rounding.specs.Value.{finite, encode, round};
+ghost use Rattle.rounding.specs.Value.{infinite, finite, encode, round};
 ghost use Rattle.binary32.specs.Exact.{plusFinite, plus, finer};
 ghost use Rattle.binary32.specs.Classes.{valueOf};
 ghost use Rattle.binary32.specs.Inner.{Operand, Product, Bounded, Normal, Ordered, Reaches, Jammed};
@@ -30,6 +29,20 @@ pub fn product_plus(p: Class, z: Class) -> u32
             sig: m,
             exp: e,
         } => finite_product_plus(s, m, e, z),
+    }
+}
+
+fn infinite_plus(s: bool, b: Class) -> u32
+    ensures { λ r. ⌜ r ≡ encode binary32 (plus (infinite s) (valueOf b)) ⌝ }
+{
+    match b {
+        Class::NotANumber => NAN,
+        Class::Infinite(t) => { if s == t { infinity(s) } else { NAN } }
+        Class::Finite {
+            sign: _,
+            sig: _,
+            exp: _,
+        } => infinity(s),
     }
 }
 

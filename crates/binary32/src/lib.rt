@@ -1,5 +1,6 @@
 // The four rounding steps on binary32 patterns: the exact result on integers, and one rounding.
 pub mod class;
+pub mod exact;
 mod fused;
 mod product;
 mod sum;
@@ -10,19 +11,19 @@ ghost use Rattle.binary32.specs.Steps.{addStep, subStep, mulStep, fmaSte
 pub fn add(x: u32, y: u32) -> u32
     ensures { λ r. ⌜ r ≡ addStep x y ⌝ }
 {
-    sum::of_patterns(x, y)
+    sum::rounded(x, y, exact::sum(x, y))
 }
 
 pub fn sub(x: u32, y: u32) -> u32
     ensures { λ r. ⌜ r ≡ subStep x y ⌝ }
 {
-    sum::of_patterns(x, class::flipped(y))
+    add(x, class::flipped(y))
 }
 
 pub fn mul(x: u32, y: u32) -> u32
     ensures { λ r. ⌜ r ≡ mulStep x y ⌝ }
 {
-    product::rounded(product::times(class::classify(x), class::classify(y)))
+    product::rounded(exact::product(x, y))
 }
 
 pub fn fma(x: u32, y: u32, z: u32) -> u32

@@ -1,40 +1,47 @@
-// Sums of two patterns, rounded once. An addend is a sign, a significand and an exponent: s, m, e and t, n, d.
+// Sums of two classes. An addend is a sign, a significand and an exponent: s, m, e and t, n, d.
 use crate::class::Class;
 use crate::class::NAN;
-use crate::class::classify;
+use crate::exact::ExactSum;
+use crate::exact::larger;
 use rounding::Ties;
 use rounding::pick::pick;
-use rounding::pick::pick_pattern;
 use rounding::pick::pick_sign;
 ghost use mathlib.Core.Path.{_≡_};
 ghost use Prim.Native.Nat.{_+_, _*_, _^_, _≤_, _<_};
 ghost use Rattle.rounding.specs.declared.Ties.the-variants.{ToEven};
 ghost use Rattle.rounding.specs.Format.{binary32};
 ghost use Rattle.rounding.specs.Value.{infinite, finite, decode, encode, round};
-ghost use Rattle.binary32.specs.Exact.{plusFinite, plus};
+ghost use Rattle.binary32.specs.Exact.{plusFinite, plus, finer};
+ghost use Rattle.binary32.specs.Classes.{classOf, valueOf};
 ghost use Rattle.binary32.specs.Steps.{addValue};
-ghost use Rattle.binary32.specs.Classes.{valueOf};
+ghost use Rattle.binary32.specs.Sums.{SumIs, FarBelow, FarApart, larger, smaller};
 ghost use Rattle.binary32.specs.Inner.{Operand, Bounded, Below, Descending};
 
-// The sum of two patterns. The larger magnitude comes first, whose exponent then is not below the other's.
-pub fn of_patterns(x: u32, y: u32) -> u32
+// The rounded sum of two patterns, of which `sum` is the exact one.
+pub fn rounded(x: u32, y: u32, sum: ExactSum) -> u32
+    requires { ⌜ SumIs (finer binary32 (plus (decode binary32 x) (decode binary32 y))) (FarApart (classOf (larger x y)) (classOf (smaller x y))) sum ⌝ }
     ensures { λ r. ⌜ r ≡ encode binary32 (addValue binary32 (decode binary32 x) (decode binary32 y)) ⌝ }
 {
-    let swap = x % 0x8000_0000 < y % 0x8000_0000;
-    plus(
-        classify(pick_pattern(swap, y, x)),
-        classify(pick_pattern(swap, x, y)),
-    )
+    match sum {
+        ExactSum::Finite {
+            sign: s,
+            sig: m,
+            exp: e,
+        } => rounding::round(Ties::ToEven, s, m, e),
+        ExactSum::Apart => larger(x, y),
+        ExactSum::Infinite(s) => infinity(s),
+        ExactSum::NotANumber => NAN,
+    }
 }
 
-fn plus(a: Class, b: Class) -> u32
+pub fn plus(a: Class, b: Class) -> ExactSum
     requires { ⌜ Bounded Operand a ⌝ }
     requires { ⌜ Bounded Operand b ⌝ }
     requires { ⌜ Descending a b ⌝ }
-    ensures { λ r. ⌜ r ≡ encode binary32 (addValue binary32 (valueOf a) (valueOf b)) ⌝ }
+    ensures { λ r. ⌜ SumIs (finer binary32 (plus (valueOf a) (valueOf b))) (FarApart a b) r ⌝ }
 {
     match a {
-        Class::NotANumber => NAN,
+        Class::NotANumber => ExactSum::NotANumber,
         Class::Infinite(s) => infinite_plus(s, b),
         Class::Finite {
             sign: s,
@@ -44,36 +51,35 @@ fn plus(a: Class, b: Class) -> u32
     }
 }
 
-// An infinity and an operand, which need no rounding.
-pub fn infinite_plus(s: bool, b: Class) -> u32
-    ensures { λ r. ⌜ r ≡ encode binary32 (plus (infinite s) (valueOf b)) ⌝ }
+fn infinite_plus(s: bool, b: Class) -> ExactSum
+    ensures { λ r. ⌜ SumIs (plus (infinite s) (valueOf b)) ⊥ r ⌝ }
 {
     match b {
-        Class::NotANumber => NAN,
-        Class::Infinite(t) => { if s == t { infinity(s) } else { NAN } }
+        Class::NotANumber => ExactSum::NotANumber,
+        Class::Infinite(t) => {
+            if s == t {
+                ExactSum::Infinite(s)
+            } else {
+                ExactSum::NotANumber
+            }
+        }
         Class::Finite {
             sign: _,
             sig: _,
             exp: _,
-        } => infinity(s),
+        } => ExactSum::Infinite(s),
     }
 }
 
-pub fn infinity(sign: bool) -> u32
-    ensures { λ r. ⌜ r ≡ encode binary32 (infinite sign) ⌝ }
-{
-    if sign { 0xff80_0000 } else { 0x7f80_0000 }
-}
-
-fn finite_plus(s: bool, m: u64, e: u16, b: Class) -> u32
+fn finite_plus(s: bool, m: u64, e: u16, b: Class) -> ExactSum
     requires { ⌜ Operand m e ⌝ }
     requires { ⌜ Bounded Operand b ⌝ }
     requires { ⌜ Below e b ⌝ }
-    ensures { λ r. ⌜ r ≡ encode binary32 (addValue binary32 (finite s (m * 2 ^ e)) (valueOf b)) ⌝ }
+    ensures { λ r. ⌜ SumIs (finer binary32 (plus (finite s (m * 2 ^ e)) (valueOf b))) (FarBelow e b) r ⌝ }
 {
     match b {
-        Class::NotANumber => NAN,
-        Class::Infinite(t) => infinity(t),
+        Class::NotANumber => ExactSum::NotANumber,
+        Class::Infinite(t) => ExactSum::Infinite(t),
         Class::Finite {
             sign: t,
             sig: n,
@@ -83,26 +89,22 @@ fn finite_plus(s: bool, m: u64, e: u16, b: Class) -> u32
 }
 
 // From 26 places on the second operand does not reach a quarter of the first one's last place; up to 39 the first one's shifted significand fits 63 bits. 31 is between.
-fn finite_sum(s: bool, m: u64, e: u16, t: bool, n: u64, d: u16) -> u32
+fn finite_sum(s: bool, m: u64, e: u16, t: bool, n: u64, d: u16) -> ExactSum
     requires { ⌜ d ≤ e ⌝ }
     requires { ⌜ Operand m e ⌝ }
     requires { ⌜ Operand n d ⌝ }
-    ensures { λ r. ⌜ r ≡ encode binary32 (addValue binary32 (finite s (m * 2 ^ e)) (finite t (n * 2 ^ d))) ⌝ }
+    ensures { λ r. ⌜ SumIs (finer binary32 (plus (finite s (m * 2 ^ e)) (finite t (n * 2 ^ d)))) (d + 26 ≤ e) r ⌝ }
 {
     let gap = e - d;
     if gap > 31 {
-        return packed(s, m, e);
+        return ExactSum::Apart;
     }
-    round_sum(s, m << gap, t, n, d + 149)
-}
-
-// The pattern of an operand: exponent and significand side by side.
-fn packed(sign: bool, sig: u64, exp: u16) -> u32
-    requires { ⌜ Operand sig exp ⌝ }
-    ensures { λ r. ⌜ r ≡ encode binary32 (finite sign (sig * 2 ^ exp)) ⌝ }
-{
-    let c = (exp as u32) * 0x80_0000 + (sig as u32);
-    if sign { 0x8000_0000 + c } else { c }
+    let sum = signed_sum(s, m << gap, t, n);
+    ExactSum::Finite {
+        sign: sum.sign,
+        sig: sum.sig,
+        exp: d + 149,
+    }
 }
 
 // ±a * 2^exp and ±b * 2^exp units of 2^-298.
@@ -134,4 +136,10 @@ fn signed_sum(s: bool, a: u64, t: bool, b: u64) -> Signed
         sign: pick_sign(above, s, pick_sign(a < b, t, common)),
         sig: pick(s == t, high + low, high - low),
     }
+}
+
+pub fn infinity(sign: bool) -> u32
+    ensures { λ r. ⌜ r ≡ encode binary32 (infinite sign) ⌝ }
+{
+    if sign { 0xff80_0000 } else { 0x7f80_0000 }
 }

@@ -1,0 +1,2 @@
+pub mod Second
+pub mod Table

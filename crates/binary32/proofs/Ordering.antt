@@ -9,7 +9,8 @@ use borrow.Author.Tests.{le-leb, lt-leb}
 use lib.Dec.{leb}
 use Rattle.binary32.specs.declared.fused.Addends.{Addends}
 use Rattle.binary32.specs.Exact.{plusFinite}
-use Rattle.binary32.specs.Inner.{Product, Ordered, product-first, operand-first, Reaches}
+use Rattle.binary32.specs.Unrounded.{Product}
+use Rattle.binary32.specs.Inner.{Ordered, product-first, operand-first, Reaches}
 use Rattle.binary32.proofs.Sums.{sum-swap}
 use Rattle.binary32.proofs.Products.{product-reaches, operand-reaches}
 

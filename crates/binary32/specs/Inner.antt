@@ -3,11 +3,9 @@ use Prim.Native.Nat.{ℕ, _+_, _-_, _*_, _%_, _^_, _≤_, _<_}
 use mathlib.Core.Path.{_≡_}
 use mathlib.Core.Logic.{_⊎_}
 use mathlib.Core.Bool.{Bool}
-use Rattle.rounding.specs.Value.{Value}
 use Rattle.binary32.specs.declared.class.Class.{Class}
 use Rattle.binary32.specs.declared.class.Class.the-variants.{Finite, Infinite, NotANumber}
 use Rattle.binary32.specs.declared.fused.Addends.{Addends}
-use Rattle.binary32.specs.Classes.{valueOf}
 
 -- ---- bounds of the significands and exponents that the code holds
 -- of an operand: 24 digits at most, and all of them where the exponent could be lower
@@ -15,17 +13,6 @@ pub record Operand (m e : ℕ) : Type 0 where
   pub sig : m < 2 ^ 24
   pub exp : e ≤ 253
   pub leads : 0 < e → 2 ^ 23 ≤ m
-
--- of a product of two operands
-pub record Product (m e : ℕ) : Type 0 where
-  pub sig : m < 2 ^ 48
-  pub exp : e ≤ 506
-  pub leads : 0 < e → 0 < m → 2 ^ 23 ≤ m
-
-abbrev pub Bounded : (ℕ → ℕ → Type 0) → Class → Type 0
-Bounded P (Finite s m e) = P m e
-Bounded P (Infinite s) = Unit {0}
-Bounded P NotANumber = Unit {0}
 
 -- the exponent of a second addend is not above that of the first
 abbrev pub Below : ℕ → Class → Type 0
@@ -37,11 +24,6 @@ abbrev pub Descending : Class → Class → Type 0
 Descending (Finite s m e) b = Below e b
 Descending (Infinite s) b = Unit {0}
 Descending NotANumber b = Unit {0}
-
--- r is the exact product v
-pub record ProductIs (v : Value) (r : Class) : Type 0 where
-  pub is : v ≡ valueOf r
-  pub bounded : Bounded Product r
 
 -- ---- parts of a fused sum
 -- a * 2 ^ k is c * 2 ^ j, with all 24 digits

@@ -1,6 +1,6 @@
 pub mod Exact
 pub mod Steps
 pub mod Classes
-pub mod Sums
+pub mod Unrounded
 pub mod Theorems
 pub mod Inner

@@ -1,6 +1,7 @@
 // The class of a pattern: its sign, significand and exponent, or what stands in their place.
 ghost use mathlib.Core.Path.{_≡_};
 ghost use Rattle.rounding.specs.Format.{binary32};
+ghost use Rattle.rounding.specs.Value.{infinite, encode};
 ghost use Rattle.binary32.specs.Classes.{classOf, flip};
 
 // A finite number is sig * 2^exp units of 2^-149, or of 2^-298 for a product.
@@ -12,6 +13,12 @@ pub enum Class {
 
 // Every NaN result.
 pub const NAN: u32 = 0x7fc0_0000;
+
+pub fn infinity(sign: bool) -> u32
+    ensures { λ r. ⌜ r ≡ encode binary32 (infinite sign) ⌝ }
+{
+    if sign { 0xff80_0000 } else { 0x7f80_0000 }
+}
 
 pub fn classify(x: u32) -> Class
     ensures { λ r. ⌜ r ≡ classOf x ⌝ }

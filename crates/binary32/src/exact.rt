@@ -8,8 +8,8 @@ ghost use mathlib.Core.Path.{_≡_};
 ghost use Rattle.rounding.specs.Format.{binary32};
 ghost use Rattle.rounding.specs.Value.{decode};
 ghost use Rattle.binary32.specs.Exact.{plus, times, finer};
-ghost use Rattle.binary32.specs.Classes.{classOf, valueOf};
-ghost use Rattle.binary32.specs.Sums.{SumIs, FarApart, larger, smaller};
+ghost use Rattle.binary32.specs.Classes.{classOf};
+ghost use Rattle.binary32.specs.Unrounded.{ProductIs, SumIs, FarApart, larger, smaller};
 
 // A sum is sig * 2^exp units of 2^-298, and an exact zero has its sign already; or the larger operand is so far above the other one that
 // nothing was added.
@@ -41,7 +41,7 @@ pub fn smaller(x: u32, y: u32) -> u32
 
 // The product, in units of 2^-298.
 pub fn product(x: u32, y: u32) -> Class
-    ensures { λ r. ⌜ valueOf r ≡ times (decode binary32 x) (decode binary32 y) ⌝ }
+    ensures { λ r. ⌜ ProductIs (times (decode binary32 x) (decode binary32 y)) r ⌝ }
 {
     product::times(classify(x), classify(y))
 }

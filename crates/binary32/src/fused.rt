@@ -1,7 +1,7 @@
 // The sum of a product and a third operand, both in units of 2^-298, rounded once.
 use crate::class::Class;
 use crate::class::NAN;
-use crate::sum::infinity;
+use crate::class::infinity;
 use crate::sum::round_sum;
 use rounding::pick::pick;
 use rounding::pick::pick_exponent;
@@ -13,7 +13,8 @@ ghost use Rattle.rounding.specs.Format.{binary32};
 ghost use Rattle.rounding.specs.Value.{infinite, finite, encode, round};
 ghost use Rattle.binary32.specs.Exact.{plusFinite, plus, finer};
 ghost use Rattle.binary32.specs.Classes.{valueOf};
-ghost use Rattle.binary32.specs.Inner.{Operand, Product, Bounded, Normal, Ordered, Reaches, Jammed};
+ghost use Rattle.binary32.specs.Unrounded.{Product, Bounded};
+ghost use Rattle.binary32.specs.Inner.{Operand, Normal, Ordered, Reaches, Jammed};
 
 // A product, which counts 2^-298, and a third operand, which counts 2^-149.
 pub fn product_plus(p: Class, z: Class) -> u32

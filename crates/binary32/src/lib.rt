@@ -29,6 +29,5 @@ pub fn mul(x: u32, y: u32) -> u32
 pub fn fma(x: u32, y: u32, z: u32) -> u32
     ensures { λ r. ⌜ r ≡ fmaStep x y z ⌝ }
 {
-    let p = product::times(class::classify(x), class::classify(y));
-    fused::product_plus(p, class::classify(z))
+    fused::product_plus(exact::product(x, y), class::classify(z))
 }

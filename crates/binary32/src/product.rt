@@ -1,7 +1,7 @@
 // Products of two classes.
 use crate::class::Class;
 use crate::class::NAN;
-use crate::sum::infinity;
+use crate::class::infinity;
 use rounding::Ties;
 ghost use mathlib.Core.Path.{_≡_};
 ghost use Prim.Native.Nat.{_*_, _^_};
@@ -10,7 +10,8 @@ ghost use Rattle.rounding.specs.Format.{binary32};
 ghost use Rattle.rounding.specs.Value.{infinite, finite, encode, round};
 ghost use Rattle.binary32.specs.Exact.{times};
 ghost use Rattle.binary32.specs.Classes.{valueOf};
-ghost use Rattle.binary32.specs.Inner.{Operand, Bounded, ProductIs};
+ghost use Rattle.binary32.specs.Unrounded.{Bounded, ProductIs};
+ghost use Rattle.binary32.specs.Inner.{Operand};
 
 // The exact product, in units of 2^-298.
 pub fn times(a: Class, b: Class) -> Class

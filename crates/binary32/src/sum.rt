@@ -1,6 +1,7 @@
 // Sums of two classes. An addend is a sign, a significand and an exponent: s, m, e and t, n, d.
 use crate::class::Class;
 use crate::class::NAN;
+use crate::class::infinity;
 use crate::exact::ExactSum;
 use crate::exact::larger;
 use rounding::Ties;
@@ -14,8 +15,8 @@ ghost use Rattle.rounding.specs.Value.{infinite, finite, decode, encode, round}
 ghost use Rattle.binary32.specs.Exact.{plusFinite, plus, finer};
 ghost use Rattle.binary32.specs.Classes.{classOf, valueOf};
 ghost use Rattle.binary32.specs.Steps.{addValue};
-ghost use Rattle.binary32.specs.Sums.{SumIs, FarBelow, FarApart, larger, smaller};
-ghost use Rattle.binary32.specs.Inner.{Operand, Bounded, Below, Descending};
+ghost use Rattle.binary32.specs.Unrounded.{SumIs, FarBelow, FarApart, larger, smaller, Bounded};
+ghost use Rattle.binary32.specs.Inner.{Operand, Below, Descending};
 
 // The rounded sum of two patterns, of which `sum` is the exact one.
 pub fn rounded(x: u32, y: u32, sum: ExactSum) -> u32
@@ -136,10 +137,4 @@ fn signed_sum(s: bool, a: u64, t: bool, b: u64) -> Signed
         sign: pick_sign(above, s, pick_sign(a < b, t, common)),
         sig: pick(s == t, high + low, high - low),
     }
-}
-
-pub fn infinity(sign: bool) -> u32
-    ensures { λ r. ⌜ r ≡ encode binary32 (infinite sign) ⌝ }
-{
-    if sign { 0xff80_0000 } else { 0x7f80_0000 }
 }

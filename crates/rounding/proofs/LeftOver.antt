@@ -12,11 +12,11 @@ use lib.Pow.{pow-pos, pow-mono, pow-lt, shl-lt}
 use borrow.Author.Tests.{lt-ltb, le-ltb}
 use Rattle.rounding.specs.declared.Ties.{Ties}
 use Rattle.rounding.specs.Round.{keep, lastPlace, rounded, leftOver, roundedUp}
-use Rattle.rounding.specs.Nearest.{dist}
+use Rattle.rounding.specs.Nearest.{dist, Rep}
 use Rattle.rounding.proofs.Keep.{keep-whole}
 use Rattle.rounding.proofs.Multiple.{joined, split-unit, sub-mul}
 use Rattle.rounding.proofs.Remainder.{shifted-back}
-use Rattle.rounding.proofs.Rounded.{rounded-keep, rounded-none}
+use Rattle.rounding.proofs.Rounded.{rounded-near, rounded-keep, rounded-none}
 use Rattle.rounding.proofs.Normalised.{zeros-lt, at-last-place, at-place}
 
 -- ---- in other units
@@ -29,6 +29,13 @@ ltb-scale a b c p =
       | yes h ↦ le-ltb (a * c) (b * c) (mul-le-mul-right c h) ∙ sym (le-ltb a b h)
       | no h ↦ let l : a < b = omega arith in lt-ltb (a * c) (b * c) (mul-lt-mul-of-pos-right l p) ∙ sym (lt-ltb a b l)
     ]
+
+-- ---- of a sum or a difference, of which one number is representable, no more than the other one
+pub left-sum : (t : Ties) (f L X Y : ℕ) → Rep (suc f) L X → leftOver t f L (X + Y) ≤ Y
+left-sum t f L X Y r = omega (arith, rounded-near t f L (X + Y) .best X r)
+
+pub left-difference : (t : Ties) (f L X Y : ℕ) → Y ≤ X → Rep (suc f) L X → leftOver t f L (X - Y) ≤ Y
+left-difference t f L X Y h r = omega (arith, rounded-near t f L (X - Y) .best X r)
 
 -- ---- nothing leaves nothing
 pub nothing-left : (t : Ties) (e : ℕ) → (0 * 2 ^ e ≡ leftOver t 23 149 (0 * 2 ^ e)) × (false ≡ roundedUp t 23 149 (0 * 2 ^ e))

@@ -16,7 +16,7 @@ rounded-requires c κs = search needs
 
 returns : tie.Need-returns
 unfolding mulValue
-returns c = c .rounded .ensures ∙ ap (λ (v : Value). encode binary32 (round ToEven binary32 v)) (c .before .product .ensures) ∙ sym (mul-step _ _)
+returns c = c .rounded .ensures ∙ ap (λ (v : Value). encode binary32 (round ToEven binary32 v)) (sym (c .before .product .ensures .is)) ∙ sym (mul-step _ _)
 
 pub mul-spec : {M : Type 1} → statement M
 mul-spec = tie.close (tie.spec product-requires rounded-requires returns)

@@ -15,7 +15,9 @@ times-requires : tie.Need-times-requires
 times-requires c κs = (class-operand _ _ (c .before .classify .ensures), class-operand _ _ (c .classify2 .ensures))
 
 returns : tie.Need-returns
-returns c = sym (c .times .ensures .is) ∙ ap₂ times (class-value _ _ (c .before .before .classify .ensures)) (class-value _ _ (c .before .classify2 .ensures))
+returns c =
+    let same = ap₂ times (class-value _ _ (c .before .before .classify .ensures)) (class-value _ _ (c .before .classify2 .ensures)) in
+    record { is = sym same ∙ c .times .ensures .is; bounded = c .times .ensures .bounded }
 
 pub product-spec : {M : Type 1} → statement M
 product-spec = tie.close (tie.spec classify-requires classify-requires-2 times-requires returns)

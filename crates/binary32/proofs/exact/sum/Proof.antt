@@ -3,7 +3,7 @@ use mathlib.Core.Path.{_≡_, sym, ap, ap₂, _∙_}
 use Rattle.rounding.specs.Format.{binary32}
 use Rattle.binary32.specs.Exact.{plus, finer}
 use Rattle.binary32.specs.Classes.{classOf}
-use Rattle.binary32.specs.Sums.{larger, smaller, FarApart}
+use Rattle.binary32.specs.Unrounded.{larger, smaller, FarApart}
 use Rattle.binary32.proofs.Classified.{class-value, class-operand, picked-descending}
 use Rattle.binary32.proofs.Exacts.{same-sum, ordered-sum}
 use Rattle.binary32.proofs.exact.sum.Statement.{statement}

@@ -2,7 +2,7 @@ use borrow.Author.Needs.{needs}
 use Rattle.rounding.specs.Value.{finite}
 use Rattle.binary32.specs.Exact.{times}
 use Rattle.binary32.specs.Classes.{valueOf}
-use Rattle.binary32.specs.Inner.{Product}
+use Rattle.binary32.specs.Unrounded.{Product}
 use mathlib.Core.Path.{refl, ap}
 use Prim.Native.Nat.{_+_, _*_}
 use native.Mathlib.Nat.{le-trans}

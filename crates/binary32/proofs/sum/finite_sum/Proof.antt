@@ -29,7 +29,7 @@ add-t12 c = search needs
 returns-2 : tie.Need-returns-2
 returns-2 c =
     let b = c .before .before in
-    near-sum _ (b .args .m) (b .args .e) _ (b .args .n) (b .args .d) (b .pre .1 .0 .sig) (b .pre .0) (let g = c .before .if1 .left in omega arith) _ _ (c .signed-sum .ensures)
+    near-sum _ (b .args .m) (b .args .e) _ (b .args .n) (b .args .d) (b .pre .1 .0 .sig) (b .pre .1 .1 .sig) (b .pre .0) (let g = c .before .if1 .left in omega arith) _ _ (c .signed-sum .ensures)
 
 pub finite-sum-spec : {M : Type 1} → statement M
 finite-sum-spec =

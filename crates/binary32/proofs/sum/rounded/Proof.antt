@@ -33,7 +33,7 @@ returns : tie.Need-returns
 unfolding addValue round
 returns c =
     let b = c .before .before .before .before in
-    c .round .ensures ∙ ap (λ (v : Value). encode binary32 (round ToEven binary32 v)) (sym (rw (c .before .before .sum .given .1) at (b .pre)))
+    c .round .ensures ∙ ap (λ (v : Value). encode binary32 (round ToEven binary32 v)) (sym ((rw (c .before .before .sum .given .1) at (b .pre)) .is))
 
 returns-2 : tie.Need-returns-2
 unfolding addValue

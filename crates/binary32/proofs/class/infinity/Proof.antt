@@ -1,6 +1,6 @@
 use Rattle.rounding.specs.Value.{encode}
-use Rattle.binary32.proofs.sum.infinity.Statement.{statement}
-use Rattle.binary32.proofs.sum.infinity.Tie as tie
+use Rattle.binary32.proofs.class.infinity.Statement.{statement}
+use Rattle.binary32.proofs.class.infinity.Tie as tie
 
 returns : tie.Need-returns
 unfolding encode

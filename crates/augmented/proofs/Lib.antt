@@ -1,2 +1,14 @@
 pub mod Second
 pub mod Table
+pub mod Read
+pub mod Distance
+pub mod FiniteOperands
+pub mod AddsUp
+pub mod Nearest
+pub mod FlagSets
+pub mod Theorems
+pub mod Patterns
+pub mod Answered
+pub mod Rests
+pub mod Packed
+pub mod Apart

@@ -28,11 +28,11 @@ not-same : (s : Bool) → Bool·beq s (not s) ≡ false
 not-same true = refl
 not-same false = refl
 
-unlike-true : (s : Bool) → unlike s true ≡ not s
+pub unlike-true : (s : Bool) → unlike s true ≡ not s
 unlike-true true = refl
 unlike-true false = refl
 
-unlike-false : (s : Bool) → unlike s false ≡ s
+pub unlike-false : (s : Bool) → unlike s false ≡ s
 unlike-false true = refl
 unlike-false false = refl
 

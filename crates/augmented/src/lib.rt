@@ -35,7 +35,7 @@ pub fn sum(x: u32, y: u32) -> Pair
             sign: s,
             sig: m,
             exp: e,
-        } => finite::sum_pair(s, m, e),
+        } => finite::with_rest(s, m, e),
         ExactSum::Apart => finite::apart(exact::larger(x, y), exact::smaller(x, y)),
         ExactSum::Infinite(s) => special::infinite(s),
         ExactSum::NotANumber => special::not_a_number(x, y),

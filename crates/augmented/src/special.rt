@@ -3,13 +3,13 @@ use crate::Flags;
 use crate::Pair;
 use binary32::class::NAN;
 use binary32::class::infinity;
+use rounding::pick::pick_sign;
 ghost use mathlib.Core.Path.{_≡_};
-ghost use mathlib.Core.Bool.{_&&_, _||_, not};
-ghost use Prim.Native.Nat.{ℕ};
+ghost use mathlib.Core.Bool.{false};
 ghost use Rattle.rounding.specs.Format.{binary32};
 ghost use Rattle.rounding.specs.Value.{infinite, encode, decode, isNaN, signalling};
 ghost use Rattle.augmented.specs.Flags.{flagsOf, none};
-ghost use Rattle.augmented.specs.Inner.{twice};
+ghost use Rattle.augmented.specs.Inner.{twice, invalidNaN};
 
 // From an infinite operand: no flag.
 pub fn infinite(sign: bool) -> Pair
@@ -19,12 +19,9 @@ pub fn infinite(sign: bool) -> Pair
 }
 
 pub fn not_a_number(x: u32, y: u32) -> Pair
-    ensures { λ r. ⌜ r ≡ twice 0x7fc0_0000 (flagsOf (signalling binary32 x || signalling binary32 y || (not (isNaN (decode binary32 x)) && not (isNaN (decode binary32 y)))) false false) ⌝ }
+    ensures { λ r. ⌜ r ≡ twice 0x7fc0_0000 (flagsOf (invalidNaN x y) false false) ⌝ }
 {
-    both(
-        NAN,
-        signalling(x) || signalling(y) || (!is_nan(x) && !is_nan(y)),
-    )
+    both(NAN, invalid(x, y))
 }
 
 fn both(half: u32, invalid: bool) -> Pair
@@ -43,6 +40,15 @@ fn both(half: u32, invalid: bool) -> Pair
     }
 }
 
+// Whether a NaN result is an invalid one: a signalling operand, or no NaN among the operands.
+fn invalid(x: u32, y: u32) -> bool
+    ensures { λ r. ⌜ r ≡ invalidNaN x y ⌝ }
+{
+    let signals = pick_sign(signalling(x), true, signalling(y));
+    let numbers = pick_sign(is_nan(x), false, !is_nan(y));
+    pick_sign(signals, true, numbers)
+}
+
 fn is_nan(x: u32) -> bool
     ensures { λ r. ⌜ r ≡ isNaN (decode binary32 x) ⌝ }
 {
@@ -53,5 +59,5 @@ fn is_nan(x: u32) -> bool
 fn signalling(x: u32) -> bool
     ensures { λ r. ⌜ r ≡ signalling binary32 x ⌝ }
 {
-    is_nan(x) && x / 0x40_0000 % 2 == 0
+    pick_sign(is_nan(x), x / 0x40_0000 % 2 == 0, false)
 }

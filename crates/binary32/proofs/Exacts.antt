@@ -17,7 +17,7 @@ use Rattle.binary32.specs.Unrounded.{larger, smaller, FarApart, SumIs, B
 use Rattle.binary32.specs.Inner.{Operand}
 use Rattle.binary32.proofs.Classified.{value-class, class-operand}
 use Rattle.binary32.proofs.Special.{plus-comm}
-use Rattle.binary32.proofs.Far.{far-sum}
+use Rattle.binary32.proofs.Far.{far-below, far-sum}
 
 pub same-sum : {v w : Value} {A B : Type 0} (r : ExactSum) → w ≡ v → (A → B) → SumIs v A r → SumIs w B r
 same-sum (sums.Finite s m e) q f i = record { is = q ∙ i .is; unit = i .unit; left = i .left }
@@ -56,17 +56,33 @@ Number nan = ⊥
 Number (infinite s) = Unit {0}
 Number (finite s a) = Unit {0}
 
-apart-number : (a b : Class) → FarApart a b → valueOf a ≡ nan → ⊥
+-- both operands are finite, and the larger one is above the other
+pub record Apart (v w : Value) : Type 0 where
+  pub s : Bool
+  pub a : ℕ
+  pub t : Bool
+  pub b : ℕ
+  pub first : v ≡ finite s a
+  pub second : w ≡ finite t b
+  pub below : b < a
+
+classes-apart : (a b : Class) → Bounded Operand a → Bounded Operand b → FarApart a b → Apart (valueOf a) (valueOf b)
 unfolding valueOf
-apart-number (Finite s m e) b f n = subst Number n tt
-apart-number (Infinite s) b f n = absurd f
-apart-number NotANumber b f n = absurd f
+classes-apart (Finite s m e) (Finite r n d) o p f = record { s = s; a = m * 2 ^ e; t = r; b = n * 2 ^ d; first = refl; second = refl; below = far-below m e n d o p f }
+classes-apart (Finite s m e) (Infinite r) o p f = absurd f
+classes-apart (Finite s m e) NotANumber o p f = absurd f
+classes-apart (Infinite s) b o p f = absurd f
+classes-apart NotANumber b o p f = absurd f
+
+pub values-apart : (p q : ℕ) → FarApart (classOf p) (classOf q) → Apart (decode binary32 p) (decode binary32 q)
+values-apart p q f =
+    rw (← value-class p, ← value-class q) (classes-apart (classOf p) (classOf q) (class-operand p (classOf p) refl) (class-operand q (classOf q) refl) f)
 
 pub apart-pattern : (t : Ties) (x y : ℕ) → x < 2 ^ 32 → y < 2 ^ 32 → FarApart (classOf (larger x y)) (classOf (smaller x y))
     → encode binary32 (round t binary32 (finer binary32 (plus (decode binary32 x) (decode binary32 y)))) ≡ larger x y
 apart-pattern t x y h k f =
     ap (encode binary32) (apart-rounds t x y f)
-    ∙ encode-decode binary32 (larger x y) (fits (ltb (x % 2 ^ 31) (y % 2 ^ 31))) (λ n. apart-number (classOf (larger x y)) (classOf (smaller x y)) f (value-class (larger x y) ∙ n))
+    ∙ encode-decode binary32 (larger x y) (fits (ltb (x % 2 ^ 31) (y % 2 ^ 31))) (λ n. subst Number (sym (values-apart (larger x y) (smaller x y) f .first) ∙ n) tt)
   where
     fits : (w : Bool) → cond w y x < 2 ^ 32
     fits true = k

@@ -46,6 +46,12 @@ dist-plus A B = omega arith
 dist-minus : (A B : ℕ) → B ≤ A → dist A (A - B) ≡ B
 dist-minus A B h = omega arith
 
+pub far-below : (m e n d : ℕ) → Operand m e → Operand n d → d + 26 ≤ e → n * 2 ^ d < m * 2 ^ e
+far-below m e n d o p g =
+    lt-of-lt-of-le (mul-lt-mul-of-pos-right (p .sig) (pow-pos d))
+    (le-trans (le-of-eq (sym (pow-add 2 24 d)))
+    (le-trans (pow-mono (let z : 24 + d ≤ 23 + e = omega arith in z)) (le-trans (le-of-eq (pow-add 2 23 e)) (mul-le-mul-right (2 ^ e) (o .leads (omega arith))))))
+
 pub far-sum : (w : Ties) (s : Bool) (m e : ℕ) (t : Bool) (n d : ℕ) → Operand m e → Operand n d → d + 26 ≤ e → round w binary32 (finer binary32 (plus (finite s (m * 2 ^ e)) (finite t (n * 2 ^ d)))) ≡ finite s (m * 2 ^ e)
 unfolding round plus finer
 far-sum w s m e t n d o p g =
@@ -53,11 +59,7 @@ far-sum w s m e t n d o p g =
     let B = n * 2 ^ d in
     let P = 2 ^ 149 in
     let small = quarter n d e 149 (p .sig) g (omega arith) in
-    let below : B < A =
-    lt-of-lt-of-le (mul-lt-mul-of-pos-right (p .sig) (pow-pos d))
-    (le-trans (le-of-eq (sym (pow-add 2 24 d)))
-    (le-trans (pow-mono (let z : 24 + d ≤ 23 + e = omega arith in z)) (le-trans (le-of-eq (pow-add 2 23 e)) (mul-le-mul-right (2 ^ e) (o .leads (omega arith))))))
-    in
+    let below = far-below m e n d o p g in
     elim (like? s t) [
       | inl q ↦ ap (λ (v : Value). round w binary32 (finer binary32 v)) (sum-same s A t B q)
           ∙ near-operand w m e o (omega arith) s ((A + B) * P) (le-trans (le-of-eq (ap suc (ap (dist (A * P)) (add-mul A B P) ∙ dist-plus (A * P) (B * P)))) small)

@@ -38,7 +38,7 @@ like? true false = inr refl
 like? false true = inr refl
 like? false false = inl refl
 
-like-eq : (s t : Bool) → Bool·beq s t ≡ true → s ≡ t
+pub like-eq : (s t : Bool) → Bool·beq s t ≡ true → s ≡ t
 like-eq true true e = refl
 like-eq true false e = sym e
 like-eq false true e = e

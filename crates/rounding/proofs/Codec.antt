@@ -1,5 +1,5 @@
 -- Patterns and values: each is read back from the other, and rounding gives values of the format. Assumes nothing.
-use mathlib.Core.Path.{_≡_, refl, sym, ap, ap₂, _∙_}
+use mathlib.Core.Path.{_≡_, refl, sym, ap, ap₂, _∙_, subst}
 use mathlib.Core.Logic.{inl, inr}
 use mathlib.Core.Bool.{Bool, true, false}
 use mathlib.Core.List.{[]}
@@ -15,6 +15,7 @@ use Rattle.rounding.specs.Format.{Format, low, limit, infinity, signBit}
 use Rattle.rounding.specs.Nearest.{Rep}
 use Rattle.rounding.specs.Value.{Value, nan, infinite, finite, Fits, magnitude, unsigned, decode, nanOf, bits, signed, encode}
 use Rattle.rounding.proofs.Compare.{tri}
+use Rattle.rounding.proofs.Scaled.{rep-up}
 use Rattle.rounding.proofs.Bits.{mag-at, bits-at, bits-mono, bits-magnitude, magnitude-bits, magnitude-rep, magnitude-mono}
 
 -- ---- the infinity's bits are those of the limit
@@ -136,3 +137,10 @@ unsigned-fits F pos s c =
 pub decode-fits : (F : Format) → 0 < F .fraction → (x : ℕ) → Fits F (decode F x)
 unfolding decode
 decode-fits F pos x = unsigned-fits F pos (leb (signBit F) x) (x % signBit F)
+
+-- a finite pattern's magnitude is representable, in units of u * u too
+pub pattern-rep : (F : Format) → 0 < F .fraction → (x : ℕ) (r : Bool) (b : ℕ) → decode F x ≡ finite r b → Rep (suc (F .fraction)) (low F) (b * 2 ^ low F)
+unfolding Fits
+pattern-rep F pos x r b e =
+    let fits : Fits F (finite r b) = rw e at (decode-fits F pos x) in
+    subst (λ (l : ℕ). Rep (suc (F .fraction)) l (b * 2 ^ low F)) (zero-add (low F)) (rep-up (low F) (fits .0))

@@ -23,6 +23,10 @@ pub place-ge : (f L N : ℕ) → L ≤ lastPlace f L N
 unfolding lastPlace
 place-ge f L N = omega arith
 
+pub place-le : (f L k N : ℕ) → L ≤ k → N < 2 ^ (suc f + k) → lastPlace f L N ≤ k
+unfolding lastPlace
+place-le f L k N l h = omega (arith, size-le N (suc f + k) h)
+
 pub place-gt : (f L h N : ℕ) → 2 ^ (suc f + h) ≤ N → h < lastPlace f L N
 unfolding lastPlace
 place-gt f L h N g = omega (arith, size-gt N (suc f + h) g)

@@ -4,7 +4,9 @@ pub mod Keep
 pub mod Multiple
 pub mod Representable
 pub mod NearLaws
+pub mod SumError
 pub mod Rounded
+pub mod HalfPlace
 pub mod Sticky
 pub mod Bits
 pub mod Codec

@@ -1,10 +1,12 @@
--- What follows from being nearest: exact on representable numbers, within bounds, monotone, and where the two tie rules part. Assumes nothing.
+-- What follows from being nearest: exact on representable numbers, within bounds, a multiple, monotone, and where the two tie rules part. Assumes nothing.
 use mathlib.Core.Path.{_≡_, sym}
 use mathlib.Core.Logic.{_⊎_, inl, inr}
-use Prim.Native.Nat.{ℕ, _+_, _*_, _≤_, _<_}
+use Prim.Native.Nat.{ℕ, suc, _+_, _*_, _^_, _≤_, _<_}
 use native.Mathlib.Decide.{decLe}
 use native.Mathlib.Omega.{arith}
 use Rattle.rounding.specs.Nearest.{dist, Rep, Near, Near0}
+use Rattle.rounding.proofs.Multiple.{Mult, mult-down}
+use Rattle.rounding.proofs.Representable.{rep-mult, rep-pow, rep-lt, rep-top}
 
 pub near-exact : {p l n a : ℕ} → Near p l n a → Rep p l n → a ≡ n
 near-exact {n = n} {a = a} h r = omega (arith, h .best n r)
@@ -14,6 +16,18 @@ near-ge h {m} r g = omega (arith, h .best m r)
 
 pub near-le : {p l n a : ℕ} → Near p l n a → {m : ℕ} → Rep p l m → n ≤ m → a ≤ m
 near-le h {m} r g = omega (arith, h .best m r)
+
+-- a multiple of 2 ^ g is rounded to a multiple of 2 ^ g
+pub near-mult : {p l n a : ℕ} (g : ℕ) → Near (suc p) l n a → Mult g n → Mult g a
+near-mult {p} {l} {n} {a} g h c =
+    let r = h .rep in
+    elim (decLe g (r .e)) [
+      | yes k ↦ mult-down a k (rep-mult r)
+      | no k ↦ elim (decLe (2 ^ suc p * 2 ^ r .e) n) [
+        | yes b ↦ absurd (omega (arith, near-ge h (rep-pow p l (r .e) (r .low)) b, rep-top r))
+        | no b ↦ rw (near-exact h (rep-lt (r .e) n (r .low) (mult-down n (omega arith) c) (omega arith))) c
+      ]
+    ]
 
 -- the nearest number with ties to the smaller one is unique
 pub near0-one : {p l n a b : ℕ} → Near0 p l n a → Near0 p l n b → a ≡ b

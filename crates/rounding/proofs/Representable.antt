@@ -1,7 +1,7 @@
 -- Numbers of the format: how to make one, and which lie around a given number. Assumes nothing.
 use mathlib.Core.Path.{_≡_, refl, sym, ap, _∙_}
 use Prim.Native.Nat.{ℕ, suc, _+_, _*_, _/_, _^_, _≤_, _<_}
-use native.Mathlib.Nat.{le-refl, le-trans, le-of-eq, zero-mul, one-mul, mul-le-mul-right, mul-lt-mul-of-pos-right, lt-of-lt-of-le, le-div-iff-mul-le, div-lt-iff-lt-mul}
+use native.Mathlib.Nat.{le-refl, le-trans, le-of-eq, zero-mul, one-mul, mul-le-mul-right, mul-lt-mul-of-pos-right, lt-of-mul-lt-mul-right, lt-of-le-of-lt, lt-of-lt-of-le, le-div-iff-mul-le, div-lt-iff-lt-mul}
 use native.Mathlib.Decide.{decLe}
 use native.Mathlib.Omega.{arith}
 use lib.Pow.{pow-add, pow-pos, pow-mono}
@@ -28,13 +28,18 @@ rep-le p l q k h b =
       | no s ↦ let e : q ≡ 2 ^ suc p = omega arith in rw e (rep-pow p l k h)
     ]
 
+pub rep-lt : {p l : ℕ} (g n : ℕ) → l ≤ g → Mult g n → n < 2 ^ p * 2 ^ g → Rep p l n
+rep-lt g n h c b = record { e = g; m = c .0; low = h; small = lt-of-mul-lt-mul-right (2 ^ g) (rw (c .1) at b); is = c .1 }
+
 -- ---- what the exponent says of the size
+pub rep-top : {p l n : ℕ} (r : Rep p l n) → n < 2 ^ p * 2 ^ r .e
+rep-top r = le-trans (le-of-eq (ap suc (r .is))) (mul-lt-mul-of-pos-right (r .small) (pow-pos (r .e)))
+
 -- at an exponent below k: below 2 ^ p units of 2 ^ k
 pub rep-under : {p l n k : ℕ} (r : Rep (suc p) l n) → r .e < k → n < 2 ^ p * 2 ^ k
 rep-under {p} {k = k} r h =
-    le-trans (le-of-eq (ap suc (r .is)))
-    (le-trans (mul-lt-mul-of-pos-right (r .small) (pow-pos (r .e)))
-    (le-trans (le-of-eq (sym (pow-add 2 (suc p) (r .e)))) (le-trans (pow-mono (let z : suc p + r .e ≤ p + k = omega arith in z)) (le-of-eq (pow-add 2 p k)))))
+    le-trans (rep-top r)
+    (le-trans (le-of-eq (sym (pow-add 2 (suc p) (r .e)))) (le-trans (pow-mono (let z : suc p + r .e ≤ p + k = omega arith in z)) (le-of-eq (pow-add 2 p k))))
 
 -- a representable number from 2 ^ p units of 2 ^ k on is a multiple of 2 ^ k
 pub rep-unit : {p l n k : ℕ} → Rep (suc p) l n → (l < k → 2 ^ p * 2 ^ k ≤ n) → Mult k n
@@ -42,6 +47,14 @@ rep-unit {n = n} {k = k} r h =
     elim (decLe k (r .e)) [
       | yes g ↦ mult-down n g (rep-mult r)
       | no g ↦ let b = r .low in absurd (omega (arith, h (omega arith), rep-under {k = k} r (omega arith)))
+    ]
+
+-- a number that is no larger than x and y, and a multiple of 2 ^ g wherever both are
+pub rep-within : {p l x y : ℕ} (d : ℕ) → Rep p l x → Rep p l y → ((g : ℕ) → Mult g x → Mult g y → Mult g d) → d ≤ x → d ≤ y → Rep p l d
+rep-within {x = x} {y = y} d r s f u v =
+    elim (decLe (r .e) (s .e)) [
+      | yes h ↦ rep-lt (r .e) d (r .low) (f (r .e) (rep-mult r) (mult-down y h (rep-mult s))) (lt-of-le-of-lt u (rep-top r))
+      | no h ↦ rep-lt (s .e) d (s .low) (f (s .e) (mult-down x (omega arith) (rep-mult r)) (rep-mult s)) (lt-of-le-of-lt v (rep-top s))
     ]
 
 -- ---- the representable numbers around n are the multiples of 2 ^ k

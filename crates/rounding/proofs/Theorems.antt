@@ -1,20 +1,19 @@
 -- The theorems of `specs/Theorems.antt`. Assumes nothing.
-use mathlib.Core.Path.{_≡_, refl, sym, ap, _∙_, subst}
+use mathlib.Core.Path.{_≡_, refl, sym, ap, _∙_}
 use Prim.Native.Nat.{ℕ, suc, _-_, _*_, _%_, _^_}
-use native.Mathlib.Nat.{zero-add, le-trans, le-of-eq, mul-assoc, eq-of-mul-eq-mul-right, le-of-mul-le-mul-right, pow-suc}
+use native.Mathlib.Nat.{le-trans, le-of-eq, mul-assoc, eq-of-mul-eq-mul-right, le-of-mul-le-mul-right, pow-suc}
 use native.Mathlib.Omega.{arith}
 use mathlib.Core.Bool.{Bool, true, false}
 use lib.Pow.{pow-pos}
 use Rattle.rounding.specs.Format.{Format, binary32, Proper, low, limit, ones, edge, signBit}
 use Rattle.rounding.specs.Round.{rounded}
-use Rattle.rounding.specs.Nearest.{dist, Rep}
+use Rattle.rounding.specs.Nearest.{dist}
 use Rattle.rounding.specs.Value.{finite, Fits, fields, magnitude, decode, signed, bits, encode}
 use Rattle.rounding.specs.Theorems.{Binary32Numbers, Nearest, TieToZero, TieToEven, TieNeighbour, TieToZeroUnique, HalfUnit, RulesDiffer, Exact, Monotone, Scaling, RoundToOdd, OverflowRNe, OverflowRN0, NearestPattern, TieToEvenPattern, TieToZeroPattern, DecodeLandmarks, LargestFinite, BitsOrder, DecodeEncode, EncodeDecode, DecodeFits, RoundFits}
 use Rattle.rounding.specs.declared.Ties.the-variants.{ToEven, ToZero}
 use Rattle.rounding.proofs.Rounded.{rounded-near, rounded-near0, rounded-half, rounded-differ, rounded-exact, rounded-mono, rounded-scale}
 use Rattle.rounding.proofs.Even.{rounded-even, neighbour-odd}
 use Rattle.rounding.proofs.Sticky.{odd}
-use Rattle.rounding.proofs.Scaled.{rep-up}
 use Rattle.rounding.proofs.Codec as codec
 use Rattle.rounding.proofs.Bits.{magnitude-lt, magnitude-mono, magnitude-bits}
 use Rattle.rounding.proofs.NearLaws.{near0-one}
@@ -67,16 +66,9 @@ largest-magnitude : magnitude 23 0x7f7f_ffff ≡ (2 ^ 128 - 2 ^ 104) * 2 ^ 149
 unfolding magnitude fields
 largest-magnitude = refl
 
--- a finite pattern's magnitude is representable, in units of u * u too
-pattern-rep : (F : Format) → Proper F → (x : ℕ) (r : Bool) (b : ℕ) → decode F x ≡ finite r b → Rep (suc (F .fraction)) (low F) (b * 2 ^ low F)
-unfolding Fits
-pattern-rep F ok x r b e =
-    let fits : Fits F (finite r b) = rw e at (codec.decode-fits F (ok .0) x) in
-    subst (λ (l : ℕ). Rep (suc (F .fraction)) l (b * 2 ^ low F)) (zero-add (low F)) (rep-up (low F) (fits .0))
-
 pub nearest-pattern : NearestPattern
 nearest-pattern t F ok s N a e x r b d =
-    rw (values.round-finite t F s N s a e) (rounded-near t (F .fraction) (low F) N .best (b * 2 ^ low F) (pattern-rep F ok x r b d))
+    rw (values.round-finite t F s N s a e) (rounded-near t (F .fraction) (low F) N .best (b * 2 ^ low F) (codec.pattern-rep F (ok .0) x r b d))
 
 -- the sign bit leaves the last bit alone
 signed-even : (F : Format) → Proper F → (s : Bool) (c : ℕ) → c % 2 ≡ 0 → signed F s c % 2 ≡ 0
@@ -91,12 +83,12 @@ unfolding encode
 tie-to-even-pattern F ok s N a e x r b d ne eq =
     let is = values.round-finite ToEven F s N s a e in
     let far : b * 2 ^ low F ≡ rounded ToEven (F .fraction) (low F) N * 2 ^ low F → ⊥ = λ z. ne (eq-of-mul-eq-mul-right (2 ^ low F) (pow-pos (low F)) b (rounded ToEven (F .fraction) (low F) N) z ∙ sym is) in
-    let even = rounded-even (F .fraction) (low F) N (b * 2 ^ low F) (ok .0) (pattern-rep F ok x r b d) far (eq ∙ ap (λ (y : ℕ). dist (y * 2 ^ low F) N) is) in
+    let even = rounded-even (F .fraction) (low F) N (b * 2 ^ low F) (ok .0) (codec.pattern-rep F (ok .0) x r b d) far (eq ∙ ap (λ (y : ℕ). dist (y * 2 ^ low F) N) is) in
     signed-even F ok s (bits (F .fraction) a) (ap (λ (y : ℕ). bits (F .fraction) y % 2) is ∙ even)
 
 pub tie-to-zero-pattern : TieToZeroPattern
 tie-to-zero-pattern F ok s N a e x r b d =
-    rw (values.round-finite ToZero F s N s a e) (λ h. le-of-mul-le-mul-right (rounded-near0 (F .fraction) (low F) N .tie (b * 2 ^ low F) (pattern-rep F ok x r b d) h) (pow-pos (low F)))
+    rw (values.round-finite ToZero F s N s a e) (λ h. le-of-mul-le-mul-right (rounded-near0 (F .fraction) (low F) N .tie (b * 2 ^ low F) (codec.pattern-rep F (ok .0) x r b d) h) (pow-pos (low F)))
 
 pub decode-landmarks : DecodeLandmarks
 unfolding decode

@@ -1,22 +1,21 @@
 use borrow.Author.Needs.{needs}
+use mathlib.Core.Path.{ap, _∙_}
+use Prim.Native.Nat.{ℕ}
+use Rattle.augmented.specs.declared.Pair.{Pair}
+use Rattle.augmented.specs.Flags.{none}
 use Rattle.augmented.proofs.finite.apart.Statement.{statement}
 use Rattle.augmented.proofs.finite.apart.Tie as tie
-use Rattle.augmented.proofs.finite.apart.Reads as reads
-use Rattle.augmented.proofs.finite.apart.Lts as lts
-use Rattle.augmented.proofs.finite.pair.Reads as pair-reads
-use Rattle.augmented.proofs.finite.zero_takes.Reads as zero-takes-reads
 
--- src/finite.rt:36:9
 zero-takes-requires : tie.Need-zero-takes-requires
 zero-takes-requires c κs = search needs
 
--- src/finite.rt:37:5
 pair-requires : tie.Need-pair-requires
 pair-requires c κs = search needs
 
--- src/finite.rt:33:1
 returns : tie.Need-returns
-returns c = ?
+returns c =
+    let b = c .before .before .args in
+    c .pair .ensures ∙ ap (λ (d : ℕ). record { first = b .larger; second = d; flags = none }) (c .before .zero-takes .ensures)
 
 pub apart-spec : {M : Type 1} → statement M
 apart-spec = tie.close (tie.spec zero-takes-requires pair-requires returns)

@@ -1,15 +1,15 @@
+use borrow.Author.Needs.{needs}
+use mathlib.Core.Path.{ap, _∙_}
+use mathlib.Core.Bool.{Bool, false}
+use Rattle.augmented.proofs.Patterns.{picked-or}
 use Rattle.augmented.proofs.finite.pair.Statement.{statement}
 use Rattle.augmented.proofs.finite.pair.Tie as tie
-use Rattle.augmented.proofs.finite.pair.Reads as reads
-use Rattle.augmented.proofs.finite.pair.Lts as lts
 
--- src/finite.rt:40:1
+pick-sign-requires : tie.Need-pick-sign-requires
+pick-sign-requires c κs = search needs
+
 returns : tie.Need-returns
-returns c = ?
-
--- src/finite.rt:40:1
-returns-2 : tie.Need-returns-2
-returns-2 c = ?
+returns c = rw (c .pick-sign .ensures, picked-or (c .before .args .overflow) (c .before .args .underflow))
 
 pub pair-spec : {M : Type 1} → statement M
-pair-spec = tie.close (tie.spec returns returns-2)
+pair-spec = tie.close (tie.spec pick-sign-requires returns)

@@ -1,22 +1,30 @@
 use borrow.Author.Needs.{needs}
+use mathlib.Core.Path.{sym, ap, _∙_}
+use native.Mathlib.Omega.{arith}
+use Rattle.augmented.proofs.Rests.{product-short, short-loses-nothing}
+use Rattle.rounding.specs.Format.{binary32}
+use Rattle.rounding.specs.Value.{finite}
+use Prim.Native.Nat.{_*_, _^_}
+use Rattle.augmented.specs.Pairs.{pairOf}
+use Rattle.augmented.specs.Inner.{finitePair}
 use Rattle.augmented.proofs.finite.product_pair.Statement.{statement}
 use Rattle.augmented.proofs.finite.product_pair.Tie as tie
-use Rattle.augmented.proofs.finite.product_pair.Reads as reads
-use Rattle.augmented.proofs.finite.product_pair.Lts as lts
-use Rattle.augmented.proofs.finite.pair.Reads as pair-reads
-use Rattle.augmented.proofs.finite.split.Reads as split-reads
 
--- src/finite.rt:28:9
-split-requires : tie.Need-split-requires
-split-requires c κs = search needs
+twice-rounded-requires : tie.Need-twice-rounded-requires
+twice-rounded-requires c κs = search needs
 
--- src/finite.rt:29:5
-pair-requires : tie.Need-pair-requires
-pair-requires c κs = search needs
+with-rest-requires : tie.Need-with-rest-requires
+with-rest-requires c κs = let b = c .before in product-short (b .args .sig) (b .args .exp) (b .pre) (omega arith)
 
--- src/finite.rt:25:1
 returns : tie.Need-returns
-returns c = ?
+returns c = search needs
+
+returns-2 : tie.Need-returns-2
+returns-2 c =
+    let b = c .before .before in
+    c .with-rest .ensures
+    ∙ ap (finitePair (pairOf binary32 (finite (b .args .sign) (b .args .sig * 2 ^ b .args .exp)))) (sym (short-loses-nothing (b .args .sign) (b .args .sig) (b .args .exp) (product-short (b .args .sig) (b .args .exp) (b .pre) (let g = c .before .if1 .left in omega arith))))
 
 pub product-pair-spec : {M : Type 1} → statement M
-product-pair-spec = tie.close (tie.spec split-requires pair-requires returns)
+product-pair-spec =
+    tie.close (tie.spec twice-rounded-requires with-rest-requires returns returns-2)

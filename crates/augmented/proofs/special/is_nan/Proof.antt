@@ -1,11 +1,9 @@
+use Rattle.augmented.proofs.Patterns.{nan-is}
 use Rattle.augmented.proofs.special.is_nan.Statement.{statement}
 use Rattle.augmented.proofs.special.is_nan.Tie as tie
-use Rattle.augmented.proofs.special.is_nan.Reads as reads
-use Rattle.augmented.proofs.special.is_nan.Lts as lts
 
--- src/special.rt:46:1
 returns : tie.Need-returns
-returns c = ?
+returns c = nan-is (c .args .x)
 
 pub is-nan-spec : {M : Type 1} → statement M
 is-nan-spec = tie.close (tie.spec returns)

@@ -17,10 +17,10 @@ enum Who {
 }
 
 /// So many that the branch predictor does not learn them by heart, as it partly does with 4096.
-const QUESTIONS: usize = 32768;
+pub const QUESTIONS: usize = 32768;
 /// Sweeps over the questions in one measurement, long beside the clock's own cost.
-const SWEEPS: usize = 3;
-const REPETITIONS: usize = 31;
+pub const SWEEPS: usize = 3;
+pub const REPETITIONS: usize = 31;
 
 /// One number of the table: who answers which step on which inputs.
 struct Cell {
@@ -153,7 +153,7 @@ fn disagreement(processor: Processor, questions: &[Question]) -> Option<String> 
     None
 }
 
-fn median(mut values: Vec<f64>) -> f64 {
+pub fn median(mut values: Vec<f64>) -> f64 {
     values.sort_by(f64::total_cmp);
     values[values.len() / 2]
 }
@@ -164,7 +164,7 @@ fn times<'a>(cells: &'a [Cell], inputs: &str, step: Step, who: Who) -> Option<&'
 }
 
 /// The median of the ratios, each within one repetition: the processor's pace drifts between them.
-fn ratio(a: Option<&[f64]>, b: Option<&[f64]>) -> Option<f64> {
+pub fn ratio(a: Option<&[f64]>, b: Option<&[f64]>) -> Option<f64> {
     Some(median(a?.iter().zip(b?).map(|(a, b)| a / b).collect()))
 }
 
@@ -193,6 +193,6 @@ fn row(cells: &[Cell], inputs: &str, step: Step) -> String {
     format!("| {inputs} | {} | {a} | {b} | {c} | {to_software} | {to_mul} |", step.name())
 }
 
-fn shown(number: Option<f64>) -> String {
+pub fn shown(number: Option<f64>) -> String {
     number.map_or("-".to_string(), |n| format!("{n:.2}"))
 }

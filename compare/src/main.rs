@@ -1,7 +1,9 @@
-//! `compare check` compares the library with the processor, `compare bench` times it, `compare step` asks it one question.
+//! `compare check` compares the library with its references, `bench` times it, `step` and `pair` ask it one question.
 mod bench;
+mod check;
 mod edges;
 mod fused;
+mod pairs;
 mod pattern;
 mod planted;
 mod processor;
@@ -13,33 +15,43 @@ mod step;
 mod steps;
 mod subject;
 mod sums;
+mod workers;
 
+use check::Options;
+use pairs::subject::Subject as _;
+use pairs::OPERATIONS;
 use processor::Processor;
-use questions::{Source, SHAPES};
 use std::process::ExitCode;
-use std::time::Instant;
 use step::{Question, Step, STEPS};
 use subject::{Library, Subject};
 
-const USAGE: &str = "usage: compare check [--seed N] [--count N] | compare bench [--seed N] | compare step STEP PATTERN PATTERN [PATTERN]
+const USAGE: &str = "usage: compare check [--seed N] [--count N] [--pairs N] | compare bench [--seed N]
+     | compare step STEP PATTERN PATTERN [PATTERN] | compare pair OPERATION PATTERN PATTERN
     STEP        add, sub, mul or fma, which takes three patterns; a pattern is eight upper-case hexadecimal digits
+    OPERATION   sum, dif or mul
     --seed N    the seed of the random questions (default 1)
-    --count N   random questions a step, shared by the shapes (default 24000000)";
-
-struct Options {
-    seed: u64,
-    count: u64,
-}
+    --count N   random questions a step, shared by the shapes (default 24000000)
+    --pairs N   random questions an operation of the pairs, shared by the shapes (default 16800000)";
 
 fn main() -> ExitCode {
     let words: Vec<String> = std::env::args().skip(1).collect();
     let Some((command, rest)) = words.split_first() else {
         return wrong_usage();
     };
-    if command == "step" {
-        return one_step(rest);
-    }
-    let Some(options) = options(rest) else {
+    let answered = match command.as_str() {
+        "step" => one_step(rest),
+        "pair" => one_pair(rest),
+        _ => return measured_or_compared(command, rest),
+    };
+    let Some(answer) = answered else {
+        return wrong_usage();
+    };
+    println!("{answer}");
+    ExitCode::SUCCESS
+}
+
+fn measured_or_compared(command: &str, words: &[String]) -> ExitCode {
+    let Some(options) = options(words) else {
         return wrong_usage();
     };
     let processor = Processor::detect();
@@ -47,10 +59,21 @@ fn main() -> ExitCode {
         println!("the processor's arithmetic is no reference here: {what}");
         return ExitCode::FAILURE;
     }
-    match command.as_str() {
-        "check" => check(processor, &options),
-        "bench" => bench::run(processor, options.seed),
+    match command {
+        "check" => check::run(processor, &options),
+        "bench" => benches(processor, options.seed),
         _ => wrong_usage(),
+    }
+}
+
+fn benches(processor: Processor, seed: u64) -> ExitCode {
+    let of_steps = bench::run(processor, seed);
+    println!();
+    let of_pairs = pairs::bench::run(processor, seed);
+    if of_steps == ExitCode::SUCCESS {
+        of_pairs
+    } else {
+        of_steps
     }
 }
 
@@ -59,75 +82,41 @@ fn wrong_usage() -> ExitCode {
     ExitCode::from(2)
 }
 
-/// Asks the library one question and prints the answer's pattern.
-fn one_step(words: &[String]) -> ExitCode {
-    let Some((name, patterns)) = words.split_first() else {
-        return wrong_usage();
+fn patterns(words: &[String]) -> Option<Vec<u32>> {
+    words.iter().map(|word| pattern::read(word)).collect()
+}
+
+/// Asks the library for one step: the answer's pattern.
+fn one_step(words: &[String]) -> Option<String> {
+    let (name, words) = words.split_first()?;
+    let step = STEPS.into_iter().find(|step| step.name() == name)?;
+    let question = match (step, patterns(words)?.as_slice()) {
+        (Step::Fma, &[x, y, z]) => Question::three(x, y, z),
+        (Step::Add | Step::Sub | Step::Mul, &[x, y]) => Question::two(x, y),
+        _ => return None,
     };
-    let Some(step) = STEPS.into_iter().find(|step| step.name() == name) else {
-        return wrong_usage();
-    };
-    let patterns: Option<Vec<u32>> = patterns.iter().map(|word| pattern::read(word)).collect();
-    let question = match (step, patterns.as_deref()) {
-        (Step::Fma, Some(&[x, y, z])) => Question::three(x, y, z),
-        (Step::Add | Step::Sub | Step::Mul, Some(&[x, y])) => Question::two(x, y),
-        _ => return wrong_usage(),
-    };
-    println!("{:08X}", Library.answer(step, question));
-    ExitCode::SUCCESS
+    Some(format!("{:08X}", Library.answer(step, question)))
+}
+
+/// Asks the library for one pair: first, second and flags, with tabs between.
+fn one_pair(words: &[String]) -> Option<String> {
+    let (name, words) = words.split_first()?;
+    let operation = OPERATIONS.into_iter().find(|operation| operation.name() == name)?;
+    let &[x, y] = patterns(words)?.as_slice() else { return None };
+    Some(pairs::subject::Library.pair(operation, x, y).shown("\t"))
 }
 
 fn options(words: &[String]) -> Option<Options> {
-    let mut options = Options { seed: 1, count: 24_000_000 };
+    let mut options = Options { seed: 1, count: 24_000_000, pairs: 16_800_000 };
     for pair in words.chunks(2) {
         let [name, value] = pair else { return None };
         let value = value.parse().ok()?;
         match name.as_str() {
             "--seed" => options.seed = value,
             "--count" => options.count = value,
+            "--pairs" => options.pairs = value,
             _ => return None,
         }
     }
     Some(options)
-}
-
-fn check(processor: Processor, options: &Options) -> ExitCode {
-    let start = Instant::now();
-    let how = if processor.fused_instruction { "its instruction" } else { "the C library's fmaf" };
-    println!("reference: the processor, fma by {how}; seed {}", options.seed);
-    let edges = edges::patterns();
-    match planted::tried(processor, &edges, options.seed) {
-        Ok(found) => println!("planted faults found in every step, by the edges and by a shape: {found}"),
-        Err(missed) => {
-            println!("the comparison is at fault: it did not find a planted fault: {missed}");
-            return ExitCode::FAILURE;
-        }
-    }
-    let (asked, differences) = compared(processor, &edges, options);
-    println!("{asked} questions, {differences} differences, {:.1} s", start.elapsed().as_secs_f64());
-    if differences == 0 {
-        ExitCode::SUCCESS
-    } else {
-        ExitCode::FAILURE
-    }
-}
-
-/// The edges, then each shape, for each step; how many questions there were, and differences.
-fn compared(processor: Processor, edges: &[u32], options: &Options) -> (u64, usize) {
-    let count = options.count.div_ceil(SHAPES.len() as u64);
-    let shaped = SHAPES.map(|shape| Source::Random { seed: options.seed, shape, count });
-    let (mut asked, mut differences) = (0, 0);
-    for source in [Source::Edges(edges)].iter().chain(&shaped) {
-        for step in STEPS {
-            let outcome = steps::compare(&Library, processor, step, source);
-            steps::report(step, source, &outcome, options.seed, steps::SHOWN - differences);
-            asked += outcome.asked;
-            differences += outcome.differences.len();
-            if differences >= steps::SHOWN {
-                println!("stopped at the tenth difference");
-                return (asked, steps::SHOWN);
-            }
-        }
-    }
-    (asked, differences)
 }

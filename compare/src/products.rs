@@ -85,7 +85,7 @@ fn beside_a_tie(r: &mut Random) -> Question {
 }
 
 /// The inverse of an odd number modulo 2^64. Each turn of Newton's iteration doubles the right bits: 3, 6, .. 96.
-fn inverse(odd: u64) -> u64 {
+pub fn inverse(odd: u64) -> u64 {
     let mut inverse = odd;
     for _ in 0..5 {
         inverse = inverse.wrapping_mul(2u64.wrapping_sub(odd.wrapping_mul(inverse)));

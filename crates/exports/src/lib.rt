@@ -1,6 +1,9 @@
-// The steps for programs in C and Rust.
+// The steps and pairs for programs in C and Rust.
+use augmented::Pair;
 ghost use mathlib.Core.Path.{_≡_};
+ghost use Rattle.rounding.specs.Format.{binary32};
 ghost use Rattle.binary32.specs.Steps.{addStep, subStep, mulStep, fmaStep};
+ghost use Rattle.augmented.specs.Answers.{sumPair, differencePair, productPair};
 
 #[no_mangle]
 pub extern "C" fn jirmeklo_add(x: u32, y: u32) -> u32
@@ -28,4 +31,25 @@ pub extern "C" fn jirmeklo_fma(x: u32, y: u32, z: u32) -> u32
     ensures { λ r. ⌜ r ≡ fmaStep x y z ⌝ }
 {
     binary32::fma(x, y, z)
+}
+
+#[no_mangle]
+pub extern "C" fn jirmeklo_sum(x: u32, y: u32) -> Pair
+    ensures { λ r. ⌜ r ≡ sumPair binary32 x y ⌝ }
+{
+    augmented::sum(x, y)
+}
+
+#[no_mangle]
+pub extern "C" fn jirmeklo_difference(x: u32, y: u32) -> Pair
+    ensures { λ r. ⌜ r ≡ differencePair binary32 x y ⌝ }
+{
+    augmented::difference(x, y)
+}
+
+#[no_mangle]
+pub extern "C" fn jirmeklo_product(x: u32, y: u32) -> Pair
+    ensures { λ r. ⌜ r ≡ productPair binary32 x y ⌝ }
+{
+    augmented::product(x, y)
 }

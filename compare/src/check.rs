@@ -1,0 +1,109 @@
+//! `compare check`: the comparison tried on itself, then the steps, then the pairs.
+use crate::pairs::edges::Edges;
+use crate::pairs::{self, cases, OPERATIONS};
+use crate::processor::Processor;
+use crate::questions::{Source, SHAPES};
+use crate::step::STEPS;
+use crate::subject::Library;
+use crate::workers::SHOWN;
+use crate::{edges, planted, steps};
+use std::process::ExitCode;
+use std::time::Instant;
+
+pub struct Options {
+    pub seed: u64,
+    /// Random questions a step.
+    pub count: u64,
+    /// Random questions an operation of the pairs.
+    pub pairs: u64,
+}
+
+pub fn run(processor: Processor, options: &Options) -> ExitCode {
+    let start = Instant::now();
+    let how = if processor.fused_instruction { "its instruction" } else { "the C library's fmaf" };
+    println!("reference: the processor, fma by {how}; seed {}", options.seed);
+    if let Some(what) = cases::distrusted(processor) {
+        println!("a reference for the pairs is at fault: {what}");
+        return ExitCode::FAILURE;
+    }
+    let (step_edges, pair_edges) = (edges::patterns(), Edges::new());
+    if !finds_planted(processor, &step_edges, &pair_edges, options.seed) {
+        return ExitCode::FAILURE;
+    }
+    println!("the comparison tried on itself, {:.1} s", start.elapsed().as_secs_f64());
+    let of_steps = timed("", || compared_steps(processor, &step_edges, options));
+    let of_pairs = timed(" of pairs", || compared_pairs(processor, &pair_edges, options));
+    if of_steps + of_pairs == 0 {
+        ExitCode::SUCCESS
+    } else {
+        ExitCode::FAILURE
+    }
+}
+
+fn finds_planted(processor: Processor, step_edges: &[u32], pair_edges: &Edges, seed: u64) -> bool {
+    let tried = [
+        ("step", planted::tried(processor, step_edges, seed)),
+        ("operation of the pairs that can have them", pairs::planted::tried(processor, pair_edges, seed)),
+    ];
+    for (each, result) in &tried {
+        match result {
+            Ok(found) => {
+                println!("planted faults found in every {each}, by the edges and by a shape: {found}")
+            }
+            Err(missed) => {
+                println!("the comparison is at fault: it did not find a planted fault: {missed}");
+            }
+        }
+    }
+    tried.iter().all(|(_, result)| result.is_ok())
+}
+
+/// Prints what a comparison came to; the number of differences.
+fn timed(what: &str, compared: impl FnOnce() -> (u64, usize)) -> usize {
+    let start = Instant::now();
+    let (asked, differences) = compared();
+    println!("{asked} questions{what}, {differences} differences, {:.1} s", start.elapsed().as_secs_f64());
+    differences
+}
+
+/// The edges, then each shape, for each step; how many questions there were, and differences.
+fn compared_steps(processor: Processor, edges: &[u32], options: &Options) -> (u64, usize) {
+    let count = options.count.div_ceil(SHAPES.len() as u64);
+    let shaped = SHAPES.map(|shape| Source::Random { seed: options.seed, shape, count });
+    let (mut asked, mut differences) = (0, 0);
+    for source in [Source::Edges(edges)].iter().chain(&shaped) {
+        for step in STEPS {
+            let outcome = steps::compare(&Library, processor, step, source);
+            steps::report(step, source, &outcome, options.seed, SHOWN - differences);
+            asked += outcome.asked;
+            differences += outcome.differences.len();
+            if differences >= SHOWN {
+                println!("stopped at the tenth difference");
+                return (asked, SHOWN);
+            }
+        }
+    }
+    (asked, differences)
+}
+
+/// The same for each operation of the pairs.
+fn compared_pairs(processor: Processor, edges: &Edges, options: &Options) -> (u64, usize) {
+    let (mut asked, mut differences) = (0, 0);
+    for operation in OPERATIONS {
+        let shapes = pairs::questions::shapes(operation);
+        let count = options.pairs.div_ceil(shapes.len() as u64);
+        let shaped =
+            shapes.iter().map(|&shape| pairs::questions::Source::Random { seed: options.seed, shape, count });
+        for source in std::iter::once(pairs::questions::Source::Edges(edges)).chain(shaped) {
+            let outcome = pairs::compare::compare(&pairs::subject::Library, processor, operation, &source);
+            pairs::compare::report(operation, &source, &outcome, options.seed, SHOWN - differences);
+            asked += outcome.asked;
+            differences += outcome.differences.len();
+            if differences >= SHOWN {
+                println!("stopped at the tenth difference");
+                return (asked, SHOWN);
+            }
+        }
+    }
+    (asked, differences)
+}

@@ -21,8 +21,8 @@ use Rattle.binary32.proofs.Integers.{int-scale}
 use Rattle.augmented.specs.declared.Pair.{Pair}
 use Rattle.augmented.specs.Pairs.{pairOf, exactProduct}
 use Rattle.augmented.specs.Flags.{overflowed, underflowed}
-use Rattle.augmented.specs.Answers.{Operation, sum, difference, product, answer, productPair, pairFor}
-use Rattle.augmented.specs.Theorems.{exactly, inUnits, Finite}
+use Rattle.augmented.specs.Answers.{Operation, sum, difference, product, answer, productPair, directPair}
+use Rattle.augmented.specs.Theorems.{exactly, finerInt, FiniteOperands}
 use Rattle.augmented.proofs.Second.{head, first-finite, underflowed-is}
 use Rattle.augmented.proofs.Distance.{int-one, int-zero, scaled-size, sum-size, difference-size, left-is}
 use Rattle.augmented.proofs.FiniteOperands.{number, rest, side, secondSize, secondSign, lost, Halved}
@@ -30,15 +30,15 @@ use Rattle.augmented.proofs.FiniteOperands.{number, rest, side, secondS
 -- ---- the rest, and the sum of the halves, as whole numbers
 module _ {F : Format} {E : ℤ} {p : Pair} {q : Bool} {c : ℕ} (h : Halved F E p q c) where
   abbrev first : ℤ
-  first = inUnits F q c
+  first = finerInt F q c
 
   abbrev second : ℤ
-  second = inUnits F (secondSign F E q) (secondSize F E q)
+  second = finerInt F (secondSign F E q) (secondSize F E q)
 
   pub rest-exact : int (side F E q) (rest F E q) ≡ E -ℤ first
   rest-exact =
       let A = head F q (natAbs E) * 2 ^ low F in
-      let f : int q A ≡ first = int-scale q (head F q (natAbs E)) (2 ^ low F) ∙ ap (inUnits F q) (sym (h .first)) in
+      let f : int q A ≡ first = int-scale q (head F q (natAbs E)) (2 ^ low F) ∙ ap (finerInt F q) (sym (h .first)) in
       left-is q (natAbs E) A ∙ ap (λ (k : ℤ). k -ℤ int q A) (h .exact) ∙ ap (λ (k : ℤ). E -ℤ k) f
 
   second-exact : second ≡ int (side F E q) (secondSize F E q * 2 ^ low F)
@@ -66,7 +66,7 @@ exact-size sum n F s a t b = finer-size (int s a +ℤ int t b) a b (2 ^ low F) (
 exact-size difference n F s a t b = finer-size (int s a -ℤ int t b) a b (2 ^ low F) (difference-size s a t b)
 exact-size product n F s a t b = absurd (n refl)
 
-left-rep : {o : Operation} {F : Format} {E : ℤ} {z : Bool} {p : Pair} → o ≢ product → Finite o F E z p
+left-rep : {o : Operation} {F : Format} {E : ℤ} {z : Bool} {p : Pair} → o ≢ product → FiniteOperands o F E z p
     → Rep (suc (F .fraction)) (low F) (leftOver ToZero (F .fraction) (low F) (natAbs E))
 left-rep {o} {F} n h =
     let x = pattern-rep F (h .proper .0) (h .x) (h .s) (h .a) (h .left) in
@@ -77,19 +77,19 @@ left-rep {o} {F} n h =
     ])
 
 -- so second is the whole of it
-pub sum-lost : {o : Operation} {F : Format} {E : ℤ} {z : Bool} {p : Pair} → o ≢ product → Finite o F E z p → (q : Bool) → lost F E q ≡ 0
+pub sum-lost : {o : Operation} {F : Format} {E : ℤ} {z : Bool} {p : Pair} → o ≢ product → FiniteOperands o F E z p → (q : Bool) → lost F E q ≡ 0
 sum-lost {F = F} {E = E} n h q = let e = rounded-exact ToZero (F .fraction) (low F) (rest F E q) (left-rep n h) in omega arith
 
 -- ---- U and X of a finite product pair: something is left over
-module _ {F : Format} {E : ℤ} {z : Bool} {p : Pair} {q : Bool} {c : ℕ} (h : Finite product F E z p) (k : Halved F E p q c) where
+module _ {F : Format} {E : ℤ} {z : Bool} {p : Pair} {q : Bool} {c : ℕ} (h : FiniteOperands product F E z p) (k : Halved F E p q c) where
   pub product-underflow : p .flags .underflow ≡ not (eqb (lost F E q) 0)
-  unfolding pairFor productPair answer
+  unfolding directPair productPair answer
   product-underflow =
       ap (λ (r : Pair). r .flags .underflow) (h .pair) ∙ ap (λ (v : Value). underflowed F v (pairOf F v)) (number h .value)
       ∙ underflowed-is F (number h .sign) (natAbs E) (k .below)
 
   pub product-inexact : p .flags .underflow ≡ p .flags .inexact
-  unfolding pairFor productPair answer overflowed
+  unfolding directPair productPair answer overflowed
   product-inexact =
       let f : pairOf F (exactProduct F (h .x) (h .y)) .first ≡ finite (number h .sign) (head F q (natAbs E)) =
       ap (λ (v : Value). pairOf F v .first) (number h .value) ∙ first-finite F (number h .sign) (natAbs E) (k .below) in

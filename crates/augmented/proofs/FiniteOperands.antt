@@ -19,7 +19,7 @@ use Rattle.binary32.proofs.Integers.{plus-exact, times-exact, int-not, int-scal
 use Rattle.augmented.specs.declared.Pair.{Pair}
 use Rattle.augmented.specs.Pairs.{pairOf, exactProduct}
 use Rattle.augmented.specs.Answers.{Operation, sum, difference, product}
-use Rattle.augmented.specs.Theorems.{exactly, zeroSign, Finite}
+use Rattle.augmented.specs.Theorems.{exactly, zeroSign, FiniteOperands}
 use Rattle.augmented.proofs.Distance.{int-size}
 use Rattle.augmented.proofs.Read.{exactFor, first-read, second-read}
 use Rattle.augmented.proofs.Second.{head, left, up, tail, first-finite, pair-second, first-infinite}
@@ -54,7 +54,7 @@ exact-number difference F x y w s a t b p q = rw (p, decode-flip F y w, q, ← i
 exact-number product F x y w s a t b p q = number-of (exactProduct F x y) _ (unlike s t) (unlike s t) (a * b) (ap₂ times p q) (times-exact s a t b) (λ e. refl)
 
 -- ---- the pair of finite operands is that of their exact number
-module _ {o : Operation} {F : Format} {E : ℤ} {z : Bool} {p : Pair} (h : Finite o F E z p) where
+module _ {o : Operation} {F : Format} {E : ℤ} {z : Bool} {p : Pair} (h : FiniteOperands o F E z p) where
   pub number : Number (exactFor o F (h .x) (h .y)) E z
   number = rw (h .exact, h .zero) (exact-number o F (h .x) (h .y) (h .width) (h .s) (h .a) (h .t) (h .b) (h .left) (h .right))
 
@@ -90,7 +90,7 @@ pub record Halved (F : Format) (E : ℤ) (p : Pair) (q : Bool) (c : ℕ) : Type 
   pub first : c ≡ head F q (natAbs E)
   pub second : decode F (p .second) ≡ finite (secondSign F E q) (secondSize F E q)
 
-module _ {o : Operation} {F : Format} {E : ℤ} {z : Bool} {p : Pair} (h : Finite o F E z p) (q : Bool) (c : ℕ) (e : decode F (p .first) ≡ finite q c) where
+module _ {o : Operation} {F : Format} {E : ℤ} {z : Bool} {p : Pair} (h : FiniteOperands o F E z p) (q : Bool) (c : ℕ) (e : decode F (p .first) ≡ finite q c) where
   pub halved : Halved F E p q c
   halved =
       let r = number h .sign in

@@ -1,8 +1,8 @@
 -- Only the flag sets -, I, OX and UX occur: a NaN first raises neither O nor U, an infinite one neither I nor U, a finite one neither I nor O.
 -- Assumes nothing.
-use mathlib.Core.Path.{_≡_, refl}
+use mathlib.Core.Path.{_≡_, refl, sym}
 use mathlib.Core.Logic.{_⊎_, inl, inr}
-use mathlib.Core.Bool.{Bool, true, false}
+use mathlib.Core.Bool.{Bool, true, false, _&&_, and-true}
 use Prim.Native.Nat.{ℕ}
 use Rattle.rounding.specs.Format.{Format}
 use Rattle.rounding.specs.Value.{Value, nan, infinite, finite, decode, isNaN, signalling, round}
@@ -11,8 +11,8 @@ use Rattle.binary32.specs.Classes.{flip}
 use Rattle.binary32.proofs.Special.{plus-comm}
 use Rattle.augmented.specs.declared.Flags.{Flags}
 use Rattle.augmented.specs.Pairs.{Halves, pairOf, exactSum, exactProduct}
-use Rattle.augmented.specs.Flags.{isFinite, invalid, overflowed, underflowed, flagsOf, none, I, OX, UX}
-use Rattle.augmented.specs.Answers.{sum, difference, product, answer, sumPair, differencePair, productPair, pairFor}
+use Rattle.augmented.specs.Flags.{isFinite, isInfinite, invalid, overflowed, underflowed, flagsOf, none, I, OX, UX}
+use Rattle.augmented.specs.Answers.{sum, difference, product, answer, sumPair, differencePair, productPair, directPair}
 use Rattle.augmented.specs.Theorems.{FlagSets}
 
 abbrev OneOf : Flags → Type 0
@@ -30,12 +30,24 @@ only-u : (u : Bool) → OneOf (flagsOf false false u)
 only-u false = inl refl
 only-u true = inr (inr (inr refl))
 
+pub finite-number : (v : Value) → isFinite v ≡ true → isNaN v ≡ false
+finite-number nan e = sym e
+finite-number (infinite s) e = refl
+finite-number (finite s a) e = refl
+
 -- ---- by the class of first
 module _ (F : Format) (x y : ℕ) where
   -- I from operands that are not NaN is a NaN first
   pub invalid-none : (first : Value) → isNaN (decode F x) ≡ false → isNaN (decode F y) ≡ false → isNaN first ≡ false → invalid F x y first ≡ false
   unfolding invalid signalling
   invalid-none first a b c = rw (a, b, c)
+
+  -- of finite operands
+  pub finite-flags : (first : Value) (u : Bool) → isFinite (decode F x) ≡ true → isFinite (decode F y) ≡ true → isNaN first ≡ false
+      → flagsOf (invalid F x y first) (overflowed F x y first) u ≡ flagsOf false (isInfinite first) u
+  unfolding overflowed
+  finite-flags first u a b n =
+      rw (invalid-none first (finite-number (decode F x) a) (finite-number (decode F y) b) n, a, b, and-true (isInfinite first && true), and-true (isInfinite first))
 
   by-first : (first : Value) (u : Bool) → (isNaN first ≡ false → (isNaN (decode F x) ≡ false) × (isNaN (decode F y) ≡ false)) → (isFinite first ≡ false → u ≡ false)
       → OneOf (flagsOf (invalid F x y first) (overflowed F x y first) u)
@@ -45,7 +57,7 @@ module _ (F : Format) (x y : ℕ) where
   by-first (finite s a) u n h = rw (invalid-none (finite s a) (n refl .0) (n refl .1) refl) (only-u u)
 
 -- ---- where first is no NaN, no operand is one
-times-nan : (v : Value) → times v nan ≡ nan
+pub times-nan : (v : Value) → times v nan ≡ nan
 unfolding times
 times-nan nan = refl
 times-nan (infinite s) = refl
@@ -89,7 +101,7 @@ module _ (F : Format) where
       (underflow-none (exactProduct F x y) p)
 
 pub flag-sets : FlagSets
-unfolding pairFor differencePair
+unfolding directPair differencePair
 flag-sets sum F x y = sum-sets F x y
 flag-sets difference F x y = sum-sets F x (flip F y)
 flag-sets product F x y = product-sets F x y

@@ -1,12 +1,12 @@
 -- What the bits of a binary32 pattern show: NaN, infinite, zero. Assumes nothing.
 use mathlib.Core.Path.{_≡_, refl, sym, ap, _∙_}
 use mathlib.Core.Logic.{inl, inr}
-use mathlib.Core.Bool.{Bool, true, false, not, cond, _&&_, _||_}
-use Prim.Native.Nat.{ℕ, _+_, _%_, _^_, _<_}
+use mathlib.Core.Bool.{Bool, true, false, cond, _&&_, _||_}
+use Prim.Native.Nat.{ℕ, _+_, _%_, _^_, _≤_, _<_}
 use native.Mathlib.Nat.{le-of-eq, le-of-lt, lt-irrefl}
 use native.Mathlib.Omega.{arith}
 use lib.Dec.{ltb, leb, eqb}
-use borrow.Author.Tests.{lt-ltb, le-ltb, eqb-true, ne-eqb}
+use borrow.Author.Tests.{lt-ltb, le-ltb, eqb-true, eq-eqb, ne-eqb}
 use Rattle.rounding.specs.Format.{binary32, infinity, limit}
 use Rattle.rounding.specs.Nearest.{Rep}
 use Rattle.rounding.specs.Value.{Value, nan, infinite, finite, unsigned, magnitude, decode, bits, encode, isNaN}
@@ -15,7 +15,7 @@ use Rattle.rounding.proofs.Representable.{rep-zero}
 use Rattle.rounding.proofs.Bits.{bits-at, magnitude-bits}
 use Rattle.rounding.proofs.Codec.{bits-below, unsigned-finite, unsigned-infinite, unsigned-nan}
 use Rattle.augmented.specs.Pairs.{zeroTakes}
-use Rattle.augmented.specs.Flags.{isInfinite}
+use Rattle.augmented.specs.Flags.{isFinite, isInfinite}
 use Rattle.augmented.specs.Inner.{zeroPattern}
 
 -- ---- NaN
@@ -32,6 +32,34 @@ nan-unsigned s c =
 pub nan-is : (x : ℕ) → ltb 0x7f80_0000 (x % 2 ^ 31) ≡ isNaN (decode binary32 x)
 unfolding decode
 nan-is x = nan-unsigned (leb (2 ^ 31) x) (x % 2 ^ 31)
+
+finite-unsigned : (s : Bool) (c : ℕ) → ltb c 0x7f80_0000 ≡ isFinite (unsigned binary32 s c)
+finite-unsigned s c =
+    elim (tri c (infinity binary32)) [
+      | inl h ↦ lt-ltb c 0x7f80_0000 h ∙ sym (ap isFinite (unsigned-finite binary32 s c h))
+      | inr o ↦ elim o [
+        | inl e ↦ le-ltb c 0x7f80_0000 (le-of-eq (sym e)) ∙ sym (ap isFinite (unsigned-infinite binary32 s c e))
+        | inr h ↦ le-ltb c 0x7f80_0000 (le-of-lt h) ∙ sym (ap isFinite (unsigned-nan binary32 s c h))
+      ]
+    ]
+
+pub finite-is : (x : ℕ) → ltb (x % 2 ^ 31) 0x7f80_0000 ≡ isFinite (decode binary32 x)
+unfolding decode
+finite-is x = finite-unsigned (leb (2 ^ 31) x) (x % 2 ^ 31)
+
+infinite-unsigned : (s : Bool) (c : ℕ) → eqb c 0x7f80_0000 ≡ isInfinite (unsigned binary32 s c)
+infinite-unsigned s c =
+    elim (tri c (infinity binary32)) [
+      | inl h ↦ ne-eqb c 0x7f80_0000 (λ (e : c ≡ 0x7f80_0000). omega arith) ∙ sym (ap isInfinite (unsigned-finite binary32 s c h))
+      | inr o ↦ elim o [
+        | inl e ↦ eq-eqb c 0x7f80_0000 e ∙ sym (ap isInfinite (unsigned-infinite binary32 s c e))
+        | inr h ↦ ne-eqb c 0x7f80_0000 (λ (e : c ≡ 0x7f80_0000). omega arith) ∙ sym (ap isInfinite (unsigned-nan binary32 s c h))
+      ]
+    ]
+
+pub infinite-is : (x : ℕ) → eqb (x % 2 ^ 31) 0x7f80_0000 ≡ isInfinite (decode binary32 x)
+unfolding decode
+infinite-is x = infinite-unsigned (leb (2 ^ 31) x) (x % 2 ^ 31)
 
 -- ---- the bits below the sign
 below-sign : (s : Bool) (c : ℕ) → c < 2 ^ 31 → (cond s (2 ^ 31) 0 + c) % 2 ^ 31 ≡ c
@@ -91,6 +119,6 @@ pub picked-and : (a b : Bool) → cond a b false ≡ a && b
 picked-and true b = refl
 picked-and false b = refl
 
-pub picked-neither : (a b : Bool) → cond a false (not b) ≡ not a && not b
-picked-neither true b = refl
-picked-neither false b = refl
+pub never : (a : Bool) → a || false ≡ a
+never true = refl
+never false = refl

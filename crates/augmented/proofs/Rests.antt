@@ -24,7 +24,7 @@ use Rattle.binary32.proofs.Products.{none, some-left}
 use Rattle.augmented.specs.declared.Pair.{Pair}
 use Rattle.augmented.specs.Pairs.{pairOf, zeroTakes}
 use Rattle.augmented.specs.Flags.{isFinite, isInfinite, underflowed, flagsOf}
-use Rattle.augmented.specs.Inner.{finitePair, zeroPattern, ShortRest}
+use Rattle.augmented.specs.Inner.{join, finitePair, zeroPattern, ShortRest}
 use Rattle.augmented.proofs.Second.{head, left, up, tail, tail-le, first-finite, pair-second, first-infinite, second-infinite, underflowed-is}
 use Rattle.augmented.proofs.Patterns.{finite-shows, infinite-shows, zero-pattern}
 use Rattle.augmented.proofs.Answered.{same-pair}
@@ -47,20 +47,29 @@ module _ (s : Bool) (N : ℕ) where
         | no h ↦ let l : head binary32 s N < limit binary32 = omega arith in ap (encode binary32) (round-below ToZero binary32 s N l ∙ sym (first-finite binary32 s N l))
       ]
 
-  pub pair-infinite : (u : Bool) → limit binary32 ≤ head binary32 s N → (c : ℕ) → c ≡ encode binary32 (roundFinite ToZero binary32 s N)
-      → record { first = c; second = c; flags = flagsOf false true u } ≡ finitePair (pairOf binary32 (finite s N)) u
-  pair-infinite u h c e =
+  -- c and d are the patterns of both halves, and `over` says whether first is infinite
+  pub record Halved (c d : ℕ) (over : Bool) : Type 0 where
+    pub first : c ≡ encode binary32 (pairOf binary32 (finite s N) .first)
+    pub second : d ≡ encode binary32 (pairOf binary32 (finite s N) .second)
+    pub infinite : over ≡ isInfinite (pairOf binary32 (finite s N) .first)
+
+  halved-infinite : limit binary32 ≤ head binary32 s N → (c : ℕ) → c ≡ encode binary32 (roundFinite ToZero binary32 s N) → Halved c c true
+  halved-infinite h c e =
       let c' = e ∙ ap (encode binary32) (round-above ToZero binary32 s N h) in
       let a = first-infinite binary32 s N h in
-      let b = second-infinite binary32 s N h in
-      same-pair (c' ∙ sym (ap (encode binary32) a)) (c' ∙ sym (ap (encode binary32) b)) (ap (λ (o : Bool). flagsOf false o u) (sym (ap isInfinite a)))
+      record { first = c' ∙ sym (ap (encode binary32) a); second = c' ∙ sym (ap (encode binary32) (second-infinite binary32 s N h)); infinite = sym (ap isInfinite a) }
 
-  pub pair-finite : (u : Bool) → head binary32 s N < limit binary32 → (c d : ℕ) → c ≡ encode binary32 (roundFinite ToZero binary32 s N)
-      → d ≡ encode binary32 (finite (cond (eqb (tail binary32 s N) 0) s (unlike s (up binary32 s N))) (tail binary32 s N))
-      → record { first = c; second = d; flags = flagsOf false false u } ≡ finitePair (pairOf binary32 (finite s N)) u
-  pair-finite u h c d e g =
-      let a = first-finite binary32 s N h in
-      same-pair (e ∙ first-encodes) (g ∙ sym (ap (encode binary32) (pair-second binary32 s N h))) (ap (λ (o : Bool). flagsOf false o u) (sym (ap isInfinite a)))
+  halved-finite : head binary32 s N < limit binary32 → (c d : ℕ) → c ≡ encode binary32 (roundFinite ToZero binary32 s N)
+      → d ≡ encode binary32 (finite (cond (eqb (tail binary32 s N) 0) s (unlike s (up binary32 s N))) (tail binary32 s N)) → Halved c d false
+  halved-finite h c d e g =
+      record { first = e ∙ first-encodes; second = g ∙ sym (ap (encode binary32) (pair-second binary32 s N h)); infinite = sym (ap isInfinite (first-finite binary32 s N h)) }
+
+  -- as a pair with flags, and in one word
+  pub halved-pair : {c d : ℕ} {over : Bool} (u : Bool) → Halved c d over → record { first = c; second = d; flags = flagsOf false over u } ≡ finitePair (pairOf binary32 (finite s N)) u
+  halved-pair u h = same-pair (h .first) (h .second) (ap (λ (o : Bool). flagsOf false o u) (h .infinite))
+
+  pub halved-word : {c d : ℕ} {over : Bool} → Halved c d over → c + d * 2 ^ 32 ≡ join (pairOf binary32 (finite s N))
+  halved-word h = ap₂ (λ (a b : ℕ). a + b * 2 ^ 32) (h .first) (h .second)
 
   pub infinite-loses-nothing : limit binary32 ≤ head binary32 s N → underflowed binary32 (finite s N) (pairOf binary32 (finite s N)) ≡ false
   infinite-loses-nothing h = underflow-none binary32 (finite s N) (pairOf binary32 (finite s N)) (ap isFinite (first-infinite binary32 s N h))
@@ -123,16 +132,14 @@ module _ (s : Bool) (m e : ℕ) (short : ShortRest m e) (rest : ℕ) (rest-is : 
         ],
       )
 
-      pub with-rest-is : (d half : ℕ) (r : Pair) → d ≡ encode binary32 (finite (cond (eqb rest 0) s (unlike s (up binary32 s N))) (rest * 2 ^ unit)) → half ≡ cond over c d
-          → r ≡ record { first = c; second = half; flags = flagsOf false over false } → r ≡ finitePair (pairOf binary32 (finite s N)) false
-      with-rest-is d half r d-is half-is r-is =
-          r-is
-          ∙ elim (decLe (limit binary32) (head binary32 s N)) [
-            | yes h ↦ rw (half-is, when-infinite h) (pair-infinite s N false h c is)
+      pub with-rest-is : (d half : ℕ) → d ≡ encode binary32 (finite (cond (eqb rest 0) s (unlike s (up binary32 s N))) (rest * 2 ^ unit)) → half ≡ cond over c d → Halved s N c half over
+      with-rest-is d half d-is half-is =
+          elim (decLe (limit binary32) (head binary32 s N)) [
+            | yes h ↦ rw (half-is, when-infinite h) (halved-infinite s N h c is)
             | no h ↦
                 let l : head binary32 s N < limit binary32 = omega arith in
                 let z : unit ≡ e - 149 = rw (when-finite l) at unit-is in
-                rw (half-is, when-finite l) (pair-finite s N false l c d is (d-is ∙ rw (z, ← tail-is, ← tail-none) refl))
+                rw (half-is, when-finite l) (halved-finite s N l c d is (d-is ∙ rw (z, ← tail-is, ← tail-none) refl))
           ]
 
 -- what is left over of a multiple of 2 ^ e is one
@@ -175,7 +182,7 @@ module _ (s : Bool) (N : ℕ) (c : ℕ) (is : c ≡ encode binary32 (roundFinite
 
   pub twice-infinite : (r : Pair) → r ≡ record { first = c; second = c; flags = flagsOf false true false } → limit binary32 ≤ head binary32 s N
       → r ≡ finitePair (pairOf binary32 (finite s N)) (underflowed binary32 (finite s N) (pairOf binary32 (finite s N)))
-  twice-infinite r e h = e ∙ pair-infinite s N false h c is ∙ ap (finitePair (pairOf binary32 (finite s N))) (sym (infinite-loses-nothing s N h))
+  twice-infinite r e h = e ∙ halved-pair s N false (halved-infinite s N h c is) ∙ ap (finitePair (pairOf binary32 (finite s N))) (sym (infinite-loses-nothing s N h))
 
   module _ (e rest : ℕ) (v : Bool) (rest-is : rest * 2 ^ e ≡ leftOver ToZero 23 149 N) (up-is : v ≡ roundedUp ToZero 23 149 N) (h : head binary32 s N < limit binary32) where
     second-pattern : (d half : ℕ) → d ≡ encode binary32 (roundFinite ToZero binary32 (unlike s v) (rest * 2 ^ e)) → half ≡ zeroPattern s d
@@ -203,4 +210,4 @@ module _ (s : Bool) (N : ℕ) (c : ℕ) (is : c ≡ encode binary32 (roundFinite
         → k * 2 ^ e ≡ leftOver ToZero 23 149 (rest * 2 ^ e) → r ≡ record { first = c; second = half; flags = flagsOf false false (not (eqb k 0)) }
         → r ≡ finitePair (pairOf binary32 (finite s N)) (underflowed binary32 (finite s N) (pairOf binary32 (finite s N)))
     twice-is d half k r d-is half-is k-is r-is =
-        r-is ∙ pair-finite s N (not (eqb k 0)) h c half is (second-pattern d half d-is half-is) ∙ ap (finitePair (pairOf binary32 (finite s N))) (lost-is k k-is)
+        r-is ∙ halved-pair s N (not (eqb k 0)) (halved-finite s N h c half is (second-pattern d half d-is half-is)) ∙ ap (finitePair (pairOf binary32 (finite s N))) (lost-is k k-is)

@@ -2,26 +2,25 @@
 use mathlib.Core.Path.{_≡_, refl, sym, ap, ap₂, _∙_}
 use mathlib.Core.Logic.{_⊎_, inl, inr}
 use mathlib.Core.Bool.{Bool, true, false, not, Bool·beq, cond, _&&_}
-use Prim.Native.Nat.{ℕ, zero, suc, _+_, _-_, _*_, _^_, _≤_, _<_}
-use native.Mathlib.Nat.{le-refl, le-trans, le-of-lt, le-of-eq, lt-of-le-of-lt, zero-mul}
+use Prim.Native.Nat.{ℕ, suc, _+_, _-_, _*_, _^_, _≤_, _<_}
+use native.Mathlib.Nat.{le-trans, le-of-lt, le-of-eq, lt-of-le-of-lt, zero-mul}
 use native.Mathlib.Omega.{arith}
 use lib.Dec.{ltb, eqb}
 use lib.Ieee.{unlike}
 use lib.Pow.{pow-pos}
 use borrow.Author.Tests.{lt-ltb, le-ltb, ne-eqb}
-use Rattle.rounding.specs.declared.Ties.{Ties}
 use Rattle.rounding.specs.declared.Ties.the-variants.{ToZero}
 use Rattle.rounding.specs.Format.{Format, low, limit}
 use Rattle.rounding.specs.Round.{rounded, leftOver, roundedUp}
 use Rattle.rounding.specs.Nearest.{dist}
-use Rattle.rounding.specs.Value.{Value, nan, infinite, finite, round, roundFinite}
+use Rattle.rounding.specs.Value.{Value, infinite, finite, round, roundFinite}
 use Rattle.rounding.proofs.Compare.{tri}
 use Rattle.rounding.proofs.Representable.{rep-zero}
 use Rattle.rounding.proofs.Rounded.{rounded-near, rounded-none, rounded-mono}
 use Rattle.rounding.proofs.RoundValue.{round-below, round-above}
 use Rattle.binary32.specs.Exact.{negate, plusFinite, plus, finer}
 use Rattle.binary32.proofs.Sums.{like?, sum-same, sum-left, sum-right, sum-none}
-use Rattle.augmented.specs.Pairs.{Halves, rest, zeroTakes, secondOf, pairOf}
+use Rattle.augmented.specs.Pairs.{rest, zeroTakes, secondOf, pairOf}
 use Rattle.augmented.specs.Flags.{isFinite, isZero, addsUp, underflowed}
 
 not-same : (s : Bool) → Bool·beq s (not s) ≡ false

@@ -3,9 +3,9 @@ use mathlib.Core.Path.{refl}
 use lib.Ieee.{size}
 use Rattle.rounding.specs.Round.{keep, lastPlace}
 use Rattle.binary32.specs.Exact.{times}
-use Rattle.augmented.specs.Answers.{pairFor}
+use Rattle.augmented.specs.Answers.{directPair}
 use Rattle.augmented.specs.Cases.{Table}
 
 pub table : Table
-unfolding pairFor times keep lastPlace size
+unfolding directPair times keep lastPlace size
 table = (refl, (refl, (refl, (refl, (refl, (refl, (refl, (refl, (refl, (refl, (refl, tt)))))))))))

@@ -8,19 +8,22 @@ use borrow.Author.Tests.{eqb-true, eq-eqb, not-false}
 use lib.Dec.{eqb}
 use lib.IntN.{natAbs}
 use Rattle.rounding.specs.declared.Ties.the-variants.{ToZero}
-use Rattle.rounding.specs.Format.{low}
+use Rattle.rounding.specs.Format.{binary32, low}
 use Rattle.rounding.specs.Value.{nan, infinite, encode, round}
 use Rattle.rounding.proofs.Codec.{pattern-rep}
 use Rattle.rounding.proofs.HalfPlace.{left-half}
 use Rattle.rounding.proofs.RoundValue.{round-below, over-edge, zero-at-edge}
 use Rattle.augmented.specs.Pairs.{secondOf, pairOf}
 use Rattle.augmented.specs.Cases.{Table}
-use Rattle.augmented.specs.Theorems.{FirstRounded, FirstNearest, Overflow, SecondRounded, HalfUnit, SumAddsUp, ProductAddsUp, FlagSets, InfiniteTwice, NaNTwice}
+use Rattle.augmented.specs.Theorems.{FirstRounded, FirstNearest, Overflow, SecondRounded, SecondNearest, HalfUnit, SumAddsUp, ProductAddsUp, FlagsOfFinite, NaNOperand, OppositeInfinities, ZeroTimesInfinity, InfiniteOperand, FlagSets, InfiniteTwice, NaNTwice, PatternWidth}
 use Rattle.augmented.proofs.Second.{head, tail-le, first-finite, first-infinite}
-use Rattle.augmented.proofs.Read.{exactFor, first, first-pattern, second-pattern, first-read}
+use Rattle.augmented.proofs.Read.{exactFor, first, second, first-pattern, second-pattern, first-fits, second-fits, first-read}
+use Rattle.augmented.proofs.Width.{encode-width}
 use Rattle.augmented.proofs.FiniteOperands.{number, first-is, rest, side, secondSize, secondSign, lost, halved}
 use Rattle.augmented.proofs.AddsUp.{rest-exact, adds-up, added-up, sum-lost, product-underflow, product-inexact}
-use Rattle.augmented.proofs.Nearest.{first-near}
+use Rattle.augmented.proofs.Nearest.{first-near, second-near}
+use Rattle.augmented.proofs.FiniteFlags.{flags-above, sum-flags, product-flags}
+use Rattle.augmented.proofs.SpecialOperands as special
 use Rattle.augmented.proofs.FlagSets as flags
 use Rattle.augmented.proofs.Table as cases
 
@@ -46,6 +49,9 @@ second-rounded o F E z p h q c e =
     let below = lt-of-le-of-lt (tail-le F q (natAbs E)) (k .below) in
     (side F E q, rest F E q, secondSize F E q, rest-exact k, round-below ToZero F (side F E q) (rest F E q) below, k .second)
 
+pub second-nearest : SecondNearest
+second-nearest o F E z p h q c e t d f w r b g = second-near (halved h q c e) r b (pattern-rep F (h .proper .0) w r b g) t d f
+
 pub half-unit : HalfUnit
 half-unit o F E z p h q c e =
     let k = halved h q c e in
@@ -69,6 +75,23 @@ product-adds-up F E z p h q c e =
       λ f s. let i : true ≡ false = sym f ∙ u ∙ ap not (eq-eqb (lost F E q) 0 (added-up k s)) in let n : _≡_ {A = ℕ} 0 1 = cc in omega arith,
     )
 
+-- ---- flags of finite operands
+pub flags-of-finite : FlagsOfFinite
+flags-of-finite o F E z p h = (flags-above h, sum-flags h, product-flags h)
+
+-- ---- special operands
+pub nan-operand : NaNOperand
+nan-operand = special.nan-operand
+
+pub opposite-infinities : OppositeInfinities
+opposite-infinities = special.opposite-infinities
+
+pub zero-times-infinity : ZeroTimesInfinity
+zero-times-infinity = special.zero-times-infinity
+
+pub infinite-operand : InfiniteOperand
+infinite-operand = special.infinite-operand
+
 -- ---- all patterns
 pub flag-sets : FlagSets
 flag-sets = flags.flag-sets
@@ -81,9 +104,17 @@ infinite-twice o F ok x y s e =
 
 pub nan-twice : NaNTwice
 unfolding pairOf secondOf encode
-nan-twice o F ok x y e =
-    let is : first o F x y ≡ nan = sym (first-read o F ok x y) ∙ e in
-    (first-pattern o F x y ∙ ap (encode F) is, second-pattern o F x y ∙ ap (encode F) (ap (secondOf F (exactFor o F x y)) is))
+nan-twice o x y e =
+    let is : first o binary32 x y ≡ nan = sym (first-read o binary32 (omega arith) x y) ∙ e in (
+      first-pattern o binary32 x y ∙ ap (encode binary32) is,
+      second-pattern o binary32 x y ∙ ap (encode binary32) (ap (secondOf binary32 (exactFor o binary32 x y)) is),
+    )
+
+pub pattern-width : PatternWidth
+pattern-width o F ok x y = (
+  rw (first-pattern o F x y) (encode-width F (ok .0) (first o F x y) (first-fits o F x y)),
+  rw (second-pattern o F x y) (encode-width F (ok .0) (second o F x y) (second-fits o F x y)),
+)
 
 -- ---- document 01's cases
 pub table : Table

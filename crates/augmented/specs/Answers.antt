@@ -9,17 +9,18 @@ use Rattle.augmented.specs.declared.Pair.{Pair}
 use Rattle.augmented.specs.Pairs.{Halves, pairOf, exactSum, exactProduct}
 use Rattle.augmented.specs.Flags.{invalid, overflowed, underflowed, flagsOf}
 
--- the patterns of a pair, with the flags; u says whether U is raised
+-- the patterns of a pair, with the flags; `underflow` says whether U is raised
 unfoldable pub answer : Format → ℕ → ℕ → Halves → Bool → Pair
 unfolding result invalid overflowed
-answer F x y p u =
+answer F x y p underflow =
     record {
       first = result F (x ∷ y ∷ []) (p .first);
       second = result F (x ∷ y ∷ []) (p .second);
-      flags = flagsOf (invalid F x y (p .first)) (overflowed F x y (p .first)) u;
+      flags = flagsOf (invalid F x y (p .first)) (overflowed F x y (p .first)) underflow;
     }
 
--- "The sum pair is first = RN0(x + y), second = the exact rest."
+-- "The sum pair is first = RN0(x + y), second = the exact rest." Here second is RN0 of the rest; `SumAddsUp` says that in a sum that
+-- is the rest itself.
 unfoldable pub sumPair : Format → ℕ → ℕ → Pair
 unfolding answer pairOf
 sumPair F x y = answer F x y (pairOf F (exactSum F x y)) false
@@ -39,8 +40,9 @@ pub data Operation : Type 0 where
   difference : Operation
   product : Operation
 
-unfoldable pub pairFor : Operation → Format → ℕ → ℕ → Pair
+-- document 01's "direct pair"
+unfoldable pub directPair : Operation → Format → ℕ → ℕ → Pair
 unfolding sumPair differencePair productPair
-pairFor sum = sumPair
-pairFor difference = differencePair
-pairFor product = productPair
+directPair sum = sumPair
+directPair difference = differencePair
+directPair product = productPair

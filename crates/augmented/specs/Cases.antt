@@ -1,12 +1,12 @@
--- Document 01's table, "Cases to be proved", and the theorem over all its rows. Assumes nothing.
+-- Document 01's table, "Cases to be proved", and the theorem over all its rows, `Table`: `proofs/Theorems.antt` has its proof, `table`.
+-- Assumes nothing.
 use Prim.Native.Nat.{ℕ}
 use mathlib.Core.Path.{_≡_}
 use mathlib.Core.List.{List, [], _∷_}
 use Rattle.rounding.specs.Format.{binary32}
 use Rattle.augmented.specs.declared.Flags.{Flags}
-use Rattle.augmented.specs.declared.Pair.{Pair}
 use Rattle.augmented.specs.Flags.{none, I, OX, UX}
-use Rattle.augmented.specs.Answers.{Operation, sum, product, pairFor}
+use Rattle.augmented.specs.Answers.{Operation, sum, product, directPair}
 
 -- operation, operands, first, second, flags
 pub data Case : Type 0 where
@@ -28,7 +28,7 @@ table =
     ∷ []
 
 abbrev pub Holds : Case → Type 0
-Holds (row o x y a b f) = pairFor o binary32 x y ≡ record { first = a; second = b; flags = f }
+Holds (row o x y a b f) = directPair o binary32 x y ≡ record { first = a; second = b; flags = f }
 
 abbrev pub Every : (Case → Type 0) → List Case → Type 0
 Every P [] = Unit {0}

@@ -32,7 +32,7 @@ unfoldable pub overflowed : Format → ℕ → ℕ → Value → Bool
 unfolding decode
 overflowed F x y first = isInfinite first && isFinite (decode F x) && isFinite (decode F y)
 
--- a pair adds up to an exact result: nothing is left when both halves are taken from it
+-- first + second = exact, for finite halves; false otherwise
 unfoldable pub addsUp : Format → Value → Halves → Bool
 unfolding rest
 addsUp F exact p = isZero (rest F (rest F exact (p .first)) (p .second))
@@ -42,19 +42,19 @@ unfoldable pub underflowed : Format → Value → Halves → Bool
 unfolding addsUp
 underflowed F exact p = isFinite (p .first) && isFinite (p .second) && not (addsUp F exact p)
 
--- of two operands, with O and U: "None otherwise."
+-- The flags from I, O and U: X is raised with O and with U, and never alone.
 abbrev pub flagsOf : Bool → Bool → Bool → Flags
-flagsOf i o u = record { invalid = i; overflow = o; underflow = u; inexact = o || u }
+flagsOf isInvalid isOverflow isUnderflow = record { invalid = isInvalid; overflow = isOverflow; underflow = isUnderflow; inexact = isOverflow || isUnderflow }
 
--- the four sets that occur: "-", "I", "OX" and "UX"
+-- the four sets that occur: `-` ("None otherwise."), I, OX and UX
 abbrev pub none : Flags
-none = flagsOf false false false
+none = record { invalid = false; overflow = false; underflow = false; inexact = false }
 
 abbrev pub I : Flags
-I = flagsOf true false false
+I = record { invalid = true; overflow = false; underflow = false; inexact = false }
 
 abbrev pub OX : Flags
-OX = flagsOf false true false
+OX = record { invalid = false; overflow = true; underflow = false; inexact = true }
 
 abbrev pub UX : Flags
-UX = flagsOf false false true
+UX = record { invalid = false; overflow = false; underflow = true; inexact = true }

@@ -1,11 +1,10 @@
-// Direct pairs of two binary32 patterns: the result rounded to nearest with ties to zero, what that left over, and the flags.
-mod finite;
-mod special;
+// Direct pairs of two binary32 patterns: the result rounded to nearest with ties to zero, RN0 of what that left over, and the flags.
+mod parts;
+mod products;
+mod raised;
+mod sums;
 
-use binary32::class::Class;
 use binary32::class::flipped;
-use binary32::exact;
-use binary32::exact::ExactSum;
 ghost use mathlib.Core.Path.{_≡_};
 ghost use Rattle.rounding.specs.Format.{binary32};
 ghost use Rattle.augmented.specs.Answers.{sumPair, differencePair, productPair};
@@ -29,17 +28,8 @@ pub struct Pair {
 pub fn sum(x: u32, y: u32) -> Pair
     ensures { λ r. ⌜ r ≡ sumPair binary32 x y ⌝ }
 {
-    let total = exact::sum(x, y);
-    match total {
-        ExactSum::Finite {
-            sign: s,
-            sig: m,
-            exp: e,
-        } => finite::with_rest(s, m, e),
-        ExactSum::Apart => finite::apart(exact::larger(x, y), exact::smaller(x, y)),
-        ExactSum::Infinite(s) => special::infinite(s),
-        ExactSum::NotANumber => special::not_a_number(x, y),
-    }
+    let both = sums::halves(x, y);
+    sums::pair(x, y, parts::first(both), parts::second(both))
 }
 
 pub fn difference(x: u32, y: u32) -> Pair
@@ -51,14 +41,5 @@ pub fn difference(x: u32, y: u32) -> Pair
 pub fn product(x: u32, y: u32) -> Pair
     ensures { λ r. ⌜ r ≡ productPair binary32 x y ⌝ }
 {
-    let total = exact::product(x, y);
-    match total {
-        Class::Finite {
-            sign: s,
-            sig: m,
-            exp: e,
-        } => finite::product_pair(s, m, e),
-        Class::Infinite(s) => special::infinite(s),
-        Class::NotANumber => special::not_a_number(x, y),
-    }
+    products::of_patterns(x, y)
 }

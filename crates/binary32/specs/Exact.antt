@@ -13,7 +13,7 @@ negate nan = nan
 negate (infinite s) = infinite (not s)
 negate (finite s a) = finite (not s) a
 
--- "An exact zero from add, subtract or fused takes the common sign of the two addends .. else +0."
+-- Signed addition of magnitudes. "An exact zero from add, subtract or fused takes the common sign of the two addends .. else +0."
 unfoldable pub plusFinite : Bool → ℕ → Bool → ℕ → Value
 plusFinite s a t b = cond (Bool·beq s t) (finite s (a + b)) (cond (ltb b a) (finite s (a - b)) (cond (ltb a b) (finite t (b - a)) (finite false 0)))
 

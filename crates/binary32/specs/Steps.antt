@@ -1,15 +1,14 @@
--- The four rounding steps (document 01, "Steps"): the exact result, and one rounding with ties to even. Assumes nothing.
+-- The four rounding steps (document 01, "Steps"): the exact result, and one rounding, RNe. Assumes nothing.
 use Prim.Native.Nat.{ℕ}
 use mathlib.Core.List.{List, [], _∷_}
-use Rattle.rounding.specs.declared.Ties.the-variants.{ToEven}
 use Rattle.rounding.specs.Format.{Format, binary32}
-use Rattle.rounding.specs.Value.{Value, nan, infinite, finite, decode, nanOf, encode, round}
+use Rattle.rounding.specs.Value.{Value, nan, infinite, finite, decode, nanOf, encode, round, RNe}
 use Rattle.binary32.specs.Exact.{negate, plus, times, finer}
 
 -- ---- on values, in any format
 unfoldable pub addValue : Format → Value → Value → Value
 unfolding round plus finer
-addValue F x y = round ToEven F (finer F (plus x y))
+addValue F x y = RNe F (finer F (plus x y))
 
 -- "for subtract, the second flipped"
 unfoldable pub subValue : Format → Value → Value → Value
@@ -18,12 +17,12 @@ subValue F x y = addValue F x (negate y)
 
 unfoldable pub mulValue : Format → Value → Value → Value
 unfolding round times
-mulValue F x y = round ToEven F (times x y)
+mulValue F x y = RNe F (times x y)
 
 -- "one rounding of product plus third operand"
 unfoldable pub fmaValue : Format → Value → Value → Value → Value
 unfolding round plus times finer
-fmaValue F x y z = round ToEven F (plus (times x y) (finer F z))
+fmaValue F x y z = RNe F (plus (times x y) (finer F z))
 
 -- The pattern of a result: `encode`, with the operands at hand for `nanOf`, which today does not look at them.
 unfoldable pub result : Format → List ℕ → Value → ℕ

@@ -1,30 +1,16 @@
-// Exact sums and products of two patterns, before any rounding.
+// Exact sums and products, before any rounding.
 use crate::class::Class;
 use crate::class::classify;
 use crate::product;
 use crate::sum;
+use crate::sum::Signed;
 use rounding::pick::pick_pattern;
 ghost use mathlib.Core.Path.{_≡_};
+ghost use Prim.Native.Nat.{_*_, _%_, _^_};
 ghost use Rattle.rounding.specs.Format.{binary32};
-ghost use Rattle.rounding.specs.Value.{decode};
-ghost use Rattle.binary32.specs.Exact.{plus, times, finer};
-ghost use Rattle.binary32.specs.Classes.{classOf};
-ghost use Rattle.binary32.specs.Unrounded.{ProductIs, SumIs, FarApart, larger, smaller};
-
-// A sum is sig * 2^exp units of 2^-298, and an exact zero has its sign already; or the larger operand is so far above the other one that
-// nothing was added.
-pub enum ExactSum {
-    Finite { sign: bool, sig: u64, exp: u16 },
-    Apart,
-    Infinite(bool),
-    NotANumber,
-}
-
-pub fn sum(x: u32, y: u32) -> ExactSum
-    ensures { λ r. ⌜ SumIs (finer binary32 (plus (decode binary32 x) (decode binary32 y))) (FarApart (classOf (larger x y)) (classOf (smaller x y))) r ⌝ }
-{
-    sum::plus(classify(larger(x, y)), classify(smaller(x, y)))
-}
+ghost use Rattle.rounding.specs.Value.{finite, decode};
+ghost use Rattle.binary32.specs.Exact.{plusFinite, times};
+ghost use Rattle.binary32.specs.Unrounded.{ProductIs, larger, smaller};
 
 // The operand of the larger magnitude, whose exponent then is not below the other's.
 pub fn larger(x: u32, y: u32) -> u32
@@ -39,7 +25,14 @@ pub fn smaller(x: u32, y: u32) -> u32
     pick_pattern(x % 0x8000_0000 < y % 0x8000_0000, x, y)
 }
 
-// The product, in units of 2^-298.
+// ±m * 2^gap ± n for gaps below 32. An exact zero has its sign already.
+pub fn sum(s: bool, m: u32, gap: u16, t: bool, n: u32) -> Signed
+    ensures { λ r. ⌜ plusFinite s (m * 2 ^ (gap % 32)) t n ≡ finite (r .sign) (r .sig) ⌝ }
+{
+    sum::signed_sum(s, (m as u64) << (gap % 32), t, n as u64)
+}
+
+// The product of two patterns, in units of 2^-298.
 pub fn product(x: u32, y: u32) -> Class
     ensures { λ r. ⌜ ProductIs (times (decode binary32 x) (decode binary32 y)) r ⌝ }
 {

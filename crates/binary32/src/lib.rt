@@ -11,13 +11,13 @@ ghost use Rattle.binary32.specs.Steps.{addStep, subStep, mulStep, fmaSte
 pub fn add(x: u32, y: u32) -> u32
     ensures { λ r. ⌜ r ≡ addStep x y ⌝ }
 {
-    sum::rounded(x, y, exact::sum(x, y))
+    sum::of_patterns(x, y)
 }
 
 pub fn sub(x: u32, y: u32) -> u32
     ensures { λ r. ⌜ r ≡ subStep x y ⌝ }
 {
-    add(x, class::flipped(y))
+    sum::of_patterns(x, class::flipped(y))
 }
 
 pub fn mul(x: u32, y: u32) -> u32

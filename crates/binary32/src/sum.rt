@@ -1,9 +1,10 @@
-// Sums of two classes. An addend is a sign, a significand and an exponent: s, m, e and t, n, d.
+// Sums of two patterns, rounded once. An addend is a sign, a significand and an exponent: s, m, e and t, n, d.
 use crate::class::Class;
 use crate::class::NAN;
+use crate::class::classify;
 use crate::class::infinity;
-use crate::exact::ExactSum;
 use crate::exact::larger;
+use crate::exact::smaller;
 use rounding::Ties;
 use rounding::pick::pick;
 use rounding::pick::pick_sign;
@@ -12,37 +13,27 @@ ghost use Prim.Native.Nat.{_+_, _*_, _^_, _≤_, _<_};
 ghost use Rattle.rounding.specs.declared.Ties.the-variants.{ToEven};
 ghost use Rattle.rounding.specs.Format.{binary32};
 ghost use Rattle.rounding.specs.Value.{infinite, finite, decode, encode, round};
-ghost use Rattle.binary32.specs.Exact.{plusFinite, plus, finer};
-ghost use Rattle.binary32.specs.Classes.{classOf, valueOf};
+ghost use Rattle.binary32.specs.Exact.{plusFinite, plus};
 ghost use Rattle.binary32.specs.Steps.{addValue};
-ghost use Rattle.binary32.specs.Unrounded.{SumIs, FarBelow, FarApart, larger, smaller, Bounded};
+ghost use Rattle.binary32.specs.Classes.{valueOf};
+ghost use Rattle.binary32.specs.Unrounded.{Bounded};
 ghost use Rattle.binary32.specs.Inner.{Operand, Below, Descending};
 
-// The rounded sum of two patterns, of which `sum` is the exact one.
-pub fn rounded(x: u32, y: u32, sum: ExactSum) -> u32
-    requires { ⌜ SumIs (finer binary32 (plus (decode binary32 x) (decode binary32 y))) (FarApart (classOf (larger x y)) (classOf (smaller x y))) sum ⌝ }
+// The sum of two patterns.
+pub fn of_patterns(x: u32, y: u32) -> u32
     ensures { λ r. ⌜ r ≡ encode binary32 (addValue binary32 (decode binary32 x) (decode binary32 y)) ⌝ }
 {
-    match sum {
-        ExactSum::Finite {
-            sign: s,
-            sig: m,
-            exp: e,
-        } => rounding::round(Ties::ToEven, s, m, e),
-        ExactSum::Apart => larger(x, y),
-        ExactSum::Infinite(s) => infinity(s),
-        ExactSum::NotANumber => NAN,
-    }
+    plus(classify(larger(x, y)), classify(smaller(x, y)))
 }
 
-pub fn plus(a: Class, b: Class) -> ExactSum
+fn plus(a: Class, b: Class) -> u32
     requires { ⌜ Bounded Operand a ⌝ }
     requires { ⌜ Bounded Operand b ⌝ }
     requires { ⌜ Descending a b ⌝ }
-    ensures { λ r. ⌜ SumIs (finer binary32 (plus (valueOf a) (valueOf b))) (FarApart a b) r ⌝ }
+    ensures { λ r. ⌜ r ≡ encode binary32 (addValue binary32 (valueOf a) (valueOf b)) ⌝ }
 {
     match a {
-        Class::NotANumber => ExactSum::NotANumber,
+        Class::NotANumber => NAN,
         Class::Infinite(s) => infinite_plus(s, b),
         Class::Finite {
             sign: s,
@@ -52,35 +43,30 @@ pub fn plus(a: Class, b: Class) -> ExactSum
     }
 }
 
-fn infinite_plus(s: bool, b: Class) -> ExactSum
-    ensures { λ r. ⌜ SumIs (plus (infinite s) (valueOf b)) ⊥ r ⌝ }
+// An infinity and an operand, which need no rounding.
+pub fn infinite_plus(s: bool, b: Class) -> u32
+    ensures { λ r. ⌜ r ≡ encode binary32 (plus (infinite s) (valueOf b)) ⌝ }
 {
     match b {
-        Class::NotANumber => ExactSum::NotANumber,
-        Class::Infinite(t) => {
-            if s == t {
-                ExactSum::Infinite(s)
-            } else {
-                ExactSum::NotANumber
-            }
-        }
+        Class::NotANumber => NAN,
+        Class::Infinite(t) => { if s == t { infinity(s) } else { NAN } }
         Class::Finite {
             sign: _,
             sig: _,
             exp: _,
-        } => ExactSum::Infinite(s),
+        } => infinity(s),
     }
 }
 
-fn finite_plus(s: bool, m: u64, e: u16, b: Class) -> ExactSum
+fn finite_plus(s: bool, m: u64, e: u16, b: Class) -> u32
     requires { ⌜ Operand m e ⌝ }
     requires { ⌜ Bounded Operand b ⌝ }
     requires { ⌜ Below e b ⌝ }
-    ensures { λ r. ⌜ SumIs (finer binary32 (plus (finite s (m * 2 ^ e)) (valueOf b))) (FarBelow e b) r ⌝ }
+    ensures { λ r. ⌜ r ≡ encode binary32 (addValue binary32 (finite s (m * 2 ^ e)) (valueOf b)) ⌝ }
 {
     match b {
-        Class::NotANumber => ExactSum::NotANumber,
-        Class::Infinite(t) => ExactSum::Infinite(t),
+        Class::NotANumber => NAN,
+        Class::Infinite(t) => infinity(t),
         Class::Finite {
             sign: t,
             sig: n,
@@ -90,22 +76,26 @@ fn finite_plus(s: bool, m: u64, e: u16, b: Class) -> ExactSum
 }
 
 // From 26 places on the second operand does not reach a quarter of the first one's last place; up to 39 the first one's shifted significand fits 63 bits. 31 is between.
-fn finite_sum(s: bool, m: u64, e: u16, t: bool, n: u64, d: u16) -> ExactSum
+fn finite_sum(s: bool, m: u64, e: u16, t: bool, n: u64, d: u16) -> u32
     requires { ⌜ d ≤ e ⌝ }
     requires { ⌜ Operand m e ⌝ }
     requires { ⌜ Operand n d ⌝ }
-    ensures { λ r. ⌜ SumIs (finer binary32 (plus (finite s (m * 2 ^ e)) (finite t (n * 2 ^ d)))) (d + 26 ≤ e) r ⌝ }
+    ensures { λ r. ⌜ r ≡ encode binary32 (addValue binary32 (finite s (m * 2 ^ e)) (finite t (n * 2 ^ d))) ⌝ }
 {
     let gap = e - d;
     if gap > 31 {
-        return ExactSum::Apart;
+        return packed(s, m, e);
     }
-    let sum = signed_sum(s, m << gap, t, n);
-    ExactSum::Finite {
-        sign: sum.sign,
-        sig: sum.sig,
-        exp: d + 149,
-    }
+    round_sum(s, m << gap, t, n, d + 149)
+}
+
+// The pattern of an operand: exponent and significand side by side.
+fn packed(sign: bool, sig: u64, exp: u16) -> u32
+    requires { ⌜ Operand sig exp ⌝ }
+    ensures { λ r. ⌜ r ≡ encode binary32 (finite sign (sig * 2 ^ exp)) ⌝ }
+{
+    let c = (exp as u32) * 0x80_0000 + (sig as u32);
+    if sign { 0x8000_0000 + c } else { c }
 }
 
 // ±a * 2^exp and ±b * 2^exp units of 2^-298.
@@ -124,7 +114,7 @@ pub struct Signed {
 }
 
 // ±a ± b, exactly. Signs are as good as random, so nothing branches on them.
-fn signed_sum(s: bool, a: u64, t: bool, b: u64) -> Signed
+pub fn signed_sum(s: bool, a: u64, t: bool, b: u64) -> Signed
     requires { ⌜ (a < 2 ^ 63) × (b < 2 ^ 63) ⌝ }
     ensures { λ r. ⌜ plusFinite s a t b ≡ finite (r .sign) (r .sig) ⌝ }
 {

@@ -1,9 +1,8 @@
 -- What a rounding leaves over, as the code computes it: the remainder in a word, or what it lacks to the unit. Assumes nothing.
-use mathlib.Core.Path.{_≡_, refl, sym, ap, ap₂, _∙_, subst}
-use mathlib.Core.Logic.{inl, inr}
+use mathlib.Core.Path.{_≡_, refl, sym, ap, ap₂, _∙_}
 use mathlib.Core.Bool.{Bool, true, false, cond}
 use Prim.Native.Nat.{ℕ, suc, _+_, _-_, _*_, _/_, _%_, _^_, _≤_, _<_, max}
-use native.Mathlib.Nat.{le-refl, le-trans, le-of-eq, lt-of-lt-of-le, zero-mul, one-mul, mul-one, mul-right-comm, add-mul, le-of-lt, mul-le-mul-left, eq-of-mul-eq-mul-right, suc-mul, mul-le-mul-right, mul-lt-mul-of-pos-right, mul-div-cancel, mod-eq-of-lt, mod-lt, div-eq-of-lt, div-add-mod'}
+use native.Mathlib.Nat.{le-trans, le-of-eq, lt-of-lt-of-le, zero-mul, one-mul, mul-one, mul-right-comm, add-mul, le-of-lt, mul-le-mul-left, eq-of-mul-eq-mul-right, suc-mul, mul-le-mul-right, mul-lt-mul-of-pos-right, mul-div-cancel, mod-eq-of-lt, mod-lt, div-eq-of-lt, div-add-mod'}
 use native.Mathlib.Decide.{decLe}
 use native.Mathlib.Omega.{arith}
 use lib.Count.{leadingZeros, leading-top}
@@ -11,13 +10,13 @@ use lib.Dec.{ltb}
 use lib.Pow.{pow-pos, pow-mono, pow-lt, shl-lt}
 use borrow.Author.Tests.{lt-ltb, le-ltb}
 use Rattle.rounding.specs.declared.Ties.{Ties}
-use Rattle.rounding.specs.Round.{keep, lastPlace, rounded, leftOver, roundedUp}
+use Rattle.rounding.specs.Round.{keep, rounded, leftOver, roundedUp}
 use Rattle.rounding.specs.Nearest.{dist, Rep}
 use Rattle.rounding.proofs.Keep.{keep-whole}
 use Rattle.rounding.proofs.Multiple.{joined, split-unit, sub-mul}
 use Rattle.rounding.proofs.Remainder.{shifted-back}
 use Rattle.rounding.proofs.Rounded.{rounded-near, rounded-keep, rounded-none}
-use Rattle.rounding.proofs.Normalised.{zeros-lt, at-last-place, at-place}
+use Rattle.rounding.proofs.Normalised.{at-last-place, at-place}
 
 -- ---- in other units
 pub dist-scale : (a b c : ℕ) → dist (a * c) (b * c) ≡ dist a b * c

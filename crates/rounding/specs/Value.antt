@@ -6,6 +6,7 @@ use mathlib.Core.List.{List, []}
 use lib.Dec.{ltb, leb, eqb}
 use lib.Ieee.{size}
 use Rattle.rounding.specs.declared.Ties.{Ties}
+use Rattle.rounding.specs.declared.Ties.the-variants.{ToEven, ToZero}
 use Rattle.rounding.specs.Format.{Format, low, limit, infinity, signBit}
 use Rattle.rounding.specs.Round.{rounded}
 use Rattle.rounding.specs.Nearest.{Rep}
@@ -75,7 +76,8 @@ encode F (finite s a) = signed F s (bits (F .fraction) a)
 
 -- ---- rounding an exact result
 
--- RNe and RN0 of the magnitude N, in units of u * u, with the sign s: a value in units of u. "A result rounded to zero keeps the sign."
+-- RNe and RN0 of the magnitude N, in units of u * u, with the sign s: a value in units of u.
+-- "A result rounded to zero keeps the sign of the exact value."
 unfoldable pub roundFinite : Ties → Format → Bool → ℕ → Value
 unfolding rounded limit
 roundFinite t F s N = let a = rounded t (F .fraction) (low F) N in cond (ltb a (limit F)) (finite s a) (infinite s)
@@ -85,3 +87,11 @@ unfolding roundFinite
 round t F nan = nan
 round t F (infinite s) = infinite s
 round t F (finite s N) = roundFinite t F s N
+
+-- "RNe is nearest, ties to the even last bit; magnitudes of 2^128 - 2^103 and above become infinite."
+abbrev pub RNe : Format → Value → Value
+RNe = round ToEven
+
+-- "RN0 is nearest, ties to the smaller magnitude; only magnitudes strictly above 2^128 - 2^103 become infinite (source document 002)."
+abbrev pub RN0 : Format → Value → Value
+RN0 = round ToZero

@@ -1,5 +1,7 @@
 use borrow.Author.Needs.{needs}
+use Rattle.rounding.specs.Value.{encode, round}
 use Rattle.binary32.specs.Exact.{plus, finer}
+use Rattle.binary32.specs.Steps.{addValue}
 use Rattle.binary32.specs.Classes.{valueOf}
 use Rattle.binary32.proofs.sum.finite_plus.Statement.{statement}
 use Rattle.binary32.proofs.sum.finite_plus.Tie as tie
@@ -10,6 +12,9 @@ enum-told c = search needs
 enum-known-b : tie.Need-enum-known-b
 enum-known-b c = search needs
 
+infinity-requires : tie.Need-infinity-requires
+infinity-requires c κs = search needs
+
 enum-known-b-2 : tie.Need-enum-known-b-2
 enum-known-b-2 c = search needs
 
@@ -17,12 +22,12 @@ finite-sum-requires : tie.Need-finite-sum-requires
 finite-sum-requires c κs = let b = c .before .before .before in (rw (c .before .b2 .given .1) at (b .pre .1 .1), (b .pre .0, rw (c .before .b2 .given .1) at (b .pre .1 .0)))
 
 returns : tie.Need-returns
-unfolding valueOf plus finer
+unfolding valueOf addValue plus finer round encode
 returns c = rw (c .enum-told .given .1)
 
 returns-2 : tie.Need-returns-2
-unfolding valueOf plus finer
-returns-2 c = rw (c .before .b .given .1)
+unfolding valueOf addValue plus finer round
+returns-2 c = rw (c .before .before .b .given .1) (c .infinity .ensures)
 
 returns-3 : tie.Need-returns-3
 unfolding valueOf
@@ -34,6 +39,7 @@ finite-plus-spec =
     (tie.spec
     enum-told
     enum-known-b
+    infinity-requires
     enum-known-b-2
     finite-sum-requires
     returns

@@ -1,37 +1,57 @@
 use borrow.Author.Needs.{needs}
-use native.Mathlib.Omega.{arith}
+use mathlib.Core.Path.{sym, ap, _∙_}
 use Prim.Native.Nat.{_-_}
+use native.Mathlib.Omega.{arith}
+use Rattle.rounding.specs.declared.Ties.the-variants.{ToEven}
+use Rattle.rounding.specs.Format.{binary32}
+use Rattle.binary32.specs.Steps.{addValue}
+use Rattle.rounding.specs.Value.{encode}
 use Rattle.binary32.proofs.Near.{moved, near-sum}
+use Rattle.binary32.proofs.Far.{far-sum}
 use Rattle.binary32.proofs.sum.finite_sum.Statement.{statement}
 use Rattle.binary32.proofs.sum.finite_sum.Tie as tie
 
 sub-gap : tie.Need-sub-gap
 sub-gap c = search needs
 
+packed-requires : tie.Need-packed-requires
+packed-requires c κs = search needs
+
 returns : tie.Need-returns
-returns c = search needs
+unfolding addValue
+returns c =
+    let b = c .before .before in
+    c .packed .ensures ∙ ap (encode binary32) (sym (far-sum ToEven _ (b .args .m) (b .args .e) _ (b .args .n) (b .args .d) (b .pre .1 .0) (b .pre .1 .1) (omega arith)))
 
-cast-signed-sum : tie.Need-cast-signed-sum
-cast-signed-sum c = search needs
+cast-round-sum : tie.Need-cast-round-sum
+cast-round-sum c = search needs
 
-shl-signed-sum : tie.Need-shl-signed-sum
-shl-signed-sum c = search needs
+shl-round-sum : tie.Need-shl-round-sum
+shl-round-sum c = search needs
 
-signed-sum-requires : tie.Need-signed-sum-requires
-signed-sum-requires c κs =
+add-round-sum : tie.Need-add-round-sum
+add-round-sum c = search needs
+
+round-sum-requires : tie.Need-round-sum-requires
+round-sum-requires c κs =
     let b = c .before in
     let m = moved (b .args .m) 24 (b .args .e - b .args .d) (b .pre .1 .0 .sig) (omega arith) in
     (rw (m .0) (m .1), omega arith)
 
-add-t12 : tie.Need-add-t12
-add-t12 c = search needs
-
 returns-2 : tie.Need-returns-2
 returns-2 c =
     let b = c .before .before in
-    near-sum _ (b .args .m) (b .args .e) _ (b .args .n) (b .args .d) (b .pre .1 .0 .sig) (b .pre .1 .1 .sig) (b .pre .0) (let g = c .before .if1 .left in omega arith) _ _ (c .signed-sum .ensures)
+    c .round-sum .ensures ∙ near-sum _ (b .args .m) (b .args .e) _ (b .args .n) (b .args .d) (b .pre .1 .0 .sig) (b .pre .0) (let g = c .before .if1 .left in omega arith)
 
 pub finite-sum-spec : {M : Type 1} → statement M
 finite-sum-spec =
     tie.close
-    (tie.spec sub-gap returns cast-signed-sum shl-signed-sum signed-sum-requires add-t12 returns-2)
+    (tie.spec
+    sub-gap
+    packed-requires
+    returns
+    cast-round-sum
+    shl-round-sum
+    add-round-sum
+    round-sum-requires
+    returns-2)

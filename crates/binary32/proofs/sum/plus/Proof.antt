@@ -1,10 +1,11 @@
 use borrow.Author.Needs.{needs}
-use mathlib.Core.Path.{sym}
+use mathlib.Core.Path.{sym, ap, _∙_}
 use Rattle.rounding.specs.Format.{binary32}
+use Rattle.rounding.specs.Value.{encode, round}
 use Rattle.binary32.specs.Exact.{plus, finer}
+use Rattle.binary32.specs.Steps.{addValue}
 use Rattle.binary32.specs.Classes.{valueOf}
-use Rattle.binary32.proofs.Special.{finer-infinite-plus}
-use Rattle.binary32.proofs.Exacts.{same-sum}
+use Rattle.binary32.proofs.Special.{add-infinite}
 use Rattle.binary32.proofs.sum.plus.Statement.{statement}
 use Rattle.binary32.proofs.sum.plus.Tie as tie
 
@@ -24,12 +25,12 @@ finite-plus-requires : tie.Need-finite-plus-requires
 finite-plus-requires c κs = let b = c .before .before .before in (rw (c .before .a2 .given .1) at (b .pre .0), (b .pre .1 .0, rw (c .before .a2 .given .1) at (b .pre .1 .1)))
 
 returns : tie.Need-returns
-unfolding valueOf plus finer
+unfolding valueOf addValue plus finer round encode
 returns c = rw (c .enum-told .given .1)
 
 returns-2 : tie.Need-returns-2
 unfolding valueOf
-returns-2 c = rw (c .before .before .a .given .1) (let b = c .before .before .before .before in same-sum {A = ⊥} (c .infinite-plus .result) (finer-infinite-plus binary32 (c .before .before .a .given .0 .0) (valueOf (b .args .b))) (λ f. f) (c .infinite-plus .ensures))
+returns-2 c = rw (c .before .before .a .given .1) (c .infinite-plus .ensures ∙ ap (encode binary32) (sym (add-infinite binary32 _ _)))
 
 returns-3 : tie.Need-returns-3
 unfolding valueOf

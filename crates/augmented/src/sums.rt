@@ -1,0 +1,126 @@
+// Both halves of a sum, in one word: it comes back in a register, and what is large here is compiled once for sums and differences.
+use crate::Flags;
+use crate::Pair;
+use crate::parts::is_finite;
+use crate::parts::is_infinite;
+use crate::parts::joined;
+use crate::parts::packed;
+use crate::parts::zero_takes;
+use crate::raised;
+use binary32::class::Class;
+use binary32::class::classify;
+use binary32::exact;
+use rounding::Ties;
+use rounding::pick::pick_exponent;
+use rounding::pick::pick_pattern;
+use rounding::round_with_rest;
+ghost use mathlib.Core.Path.{_≡_};
+ghost use mathlib.Core.Bool.{true, false};
+ghost use Prim.Native.Nat.{_*_, _%_, _^_, _≤_};
+ghost use Rattle.rounding.specs.Format.{binary32};
+ghost use Rattle.rounding.specs.Value.{finite, decode};
+ghost use Rattle.binary32.specs.Classes.{classOf};
+ghost use Rattle.binary32.specs.Inner.{Operand, Below};
+ghost use Rattle.augmented.specs.Pairs.{pairOf, exactSum};
+ghost use Rattle.augmented.specs.Flags.{isFinite, invalid, overflowed, flagsOf, none};
+ghost use Rattle.augmented.specs.Inner.{join, Apart, ShortRest};
+
+// The larger magnitude comes first, whose exponent then is not below the other's.
+pub fn halves(x: u32, y: u32) -> u64
+    ensures { λ r. ⌜ r ≡ join (pairOf binary32 (exactSum binary32 x y)) ⌝ }
+{
+    let p = exact::larger(x, y);
+    let q = exact::smaller(x, y);
+    let a = classify(p);
+    match a {
+        Class::Finite {
+            sign: s,
+            sig: m,
+            exp: e,
+        } => finite_plus(s, m, e, p, q),
+        Class::Infinite(_) => special(p, q),
+        Class::NotANumber => special(p, q),
+    }
+}
+
+// From 26 places on the second operand does not reach a quarter of the first one's last place; `exact::sum` goes up to 31.
+fn finite_plus(s: bool, m: u64, e: u16, p: u32, q: u32) -> u64
+    requires { ⌜ Operand m e ⌝ }
+    requires { ⌜ decode binary32 p ≡ finite s (m * 2 ^ e) ⌝ }
+    requires { ⌜ Below e (classOf q) ⌝ }
+    ensures { λ r. ⌜ r ≡ join (pairOf binary32 (exactSum binary32 p q)) ⌝ }
+{
+    let b = classify(q);
+    match b {
+        Class::Finite {
+            sign: t,
+            sig: n,
+            exp: d,
+        } => {
+            if e - d > 31 {
+                apart(p, q)
+            } else {
+                let total = exact::sum(s, m as u32, e - d, t, n as u32);
+                near(total.sign, total.sig, d + 149)
+            }
+        }
+        Class::Infinite(_) => special(p, q),
+        Class::NotANumber => special(p, q),
+    }
+}
+
+// An infinite or NaN sum needs no rounding, so that it is the step's.
+fn special(p: u32, q: u32) -> u64
+    requires { ⌜ isFinite (exactSum binary32 p q) ≡ false ⌝ }
+    ensures { λ r. ⌜ r ≡ join (pairOf binary32 (exactSum binary32 p q)) ⌝ }
+{
+    let r = binary32::add(p, q);
+    joined(r, r)
+}
+
+// Two operands so far apart that they are their own pair.
+fn apart(p: u32, q: u32) -> u64
+    requires { ⌜ Apart p q ⌝ }
+    ensures { λ r. ⌜ r ≡ join (pairOf binary32 (exactSum binary32 p q)) ⌝ }
+{
+    joined(p, zero_takes(p >= 0x8000_0000, q))
+}
+
+// The rest of a sum has at most 24 digits, and none below u: it is a number of the format itself.
+fn near(sign: bool, sig: u64, exp: u16) -> u64
+    requires { ⌜ ShortRest sig exp ⌝ }
+    ensures { λ r. ⌜ r ≡ join (pairOf binary32 (finite sign (sig * 2 ^ exp))) ⌝ }
+{
+    let first = round_with_rest(Ties::ToZero, sign, sig, exp);
+    let over = is_infinite(first.pattern);
+    // The rest of an infinite first is not used, and has to stay in range.
+    let unit = pick_exponent(over, 0, exp - 149);
+    let second = packed(sign, first.up, first.rest, unit);
+    joined(first.pattern, pick_pattern(over, first.pattern, second))
+}
+
+// A finite first comes from finite operands, and no sum is inexact.
+pub fn pair(x: u32, y: u32, first: u32, second: u32) -> Pair
+    requires { ⌜ (isFinite (decode binary32 first) ≡ true → flagsOf (invalid binary32 x y (decode binary32 first)) (overflowed binary32 x y (decode binary32 first)) false ≡ none) ⌝ }
+    ensures { λ r. ⌜ r ≡ record { first = first; second = second; flags = flagsOf (invalid binary32 x y (decode binary32 first)) (overflowed binary32 x y (decode binary32 first)) false } ⌝ }
+{
+    if is_finite(first) {
+        let flags = Flags {
+            invalid: false,
+            overflow: false,
+            underflow: false,
+            inexact: false,
+        };
+        return Pair {
+            first,
+            second,
+            flags,
+        };
+    }
+    let flags = raised::of_special(x, y, first);
+    Pair {
+        first,
+        second,
+        flags,
+    }
+}

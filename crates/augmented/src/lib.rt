@@ -35,7 +35,9 @@ pub fn sum(x: u32, y: u32) -> Pair
 pub fn difference(x: u32, y: u32) -> Pair
     ensures { λ r. ⌜ r ≡ differencePair binary32 x y ⌝ }
 {
-    sum(x, flipped(y))
+    let z = flipped(y);
+    let both = sums::halves(x, z);
+    sums::pair(x, z, parts::first(both), parts::second(both))
 }
 
 pub fn product(x: u32, y: u32) -> Pair

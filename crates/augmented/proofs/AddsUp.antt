@@ -19,9 +19,8 @@ use Rattle.rounding.proofs.SumError.{sum-error, difference-error}
 use Rattle.binary32.specs.Exact.{int}
 use Rattle.binary32.proofs.Integers.{int-scale}
 use Rattle.augmented.specs.declared.Pair.{Pair}
-use Rattle.augmented.specs.Pairs.{pairOf, exactProduct}
-use Rattle.augmented.specs.Flags.{overflowed, underflowed}
-use Rattle.augmented.specs.Answers.{Operation, sum, difference, product, answer, productPair, directPair}
+use Rattle.augmented.specs.Pairs.{pairOf, overflowed, underflowed, answer, exactProduct, productPair}
+use Rattle.augmented.specs.Direct.{Operation, sum, difference, product, directPair}
 use Rattle.augmented.specs.Theorems.{exactly, finerInt, FiniteOperands}
 use Rattle.augmented.proofs.Second.{head, first-finite, underflowed-is}
 use Rattle.augmented.proofs.Distance.{int-one, int-zero, scaled-size, sum-size, difference-size, left-is}

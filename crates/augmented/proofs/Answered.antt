@@ -1,6 +1,6 @@
 -- The answer of two patterns by the class of their exact result: what the code hands back in each case. Assumes nothing.
 use mathlib.Core.Path.{_≡_, refl, sym, ap, _∙_}
-use mathlib.Core.Bool.{Bool, true, false, not, Bool·beq, cond, _&&_}
+use mathlib.Core.Bool.{Bool, true, false, Bool·beq, cond, _&&_}
 use mathlib.Core.List.{[], _∷_}
 use Prim.Native.Nat.{ℕ, _+_, _*_, _/_, _%_, _^_, _<_}
 use native.Mathlib.Decide.{decLe}
@@ -8,17 +8,16 @@ use native.Mathlib.Omega.{arith}
 use lib.Dec.{eqb}
 use Rattle.rounding.specs.Format.{Format, binary32, limit}
 use Rattle.rounding.specs.declared.Ties.the-variants.{ToZero}
-use Rattle.rounding.specs.Value.{Value, nan, infinite, finite, Fits, decode, encode, round, isNaN}
+use Rattle.rounding.specs.Value.{Value, nan, infinite, finite, Fits, decode, encode, round, isNaN, isFinite, isInfinite}
 use Rattle.rounding.proofs.Codec.{decode-encode}
 use Rattle.rounding.proofs.RoundValue.{round-fits}
-use Rattle.binary32.specs.Exact.{plusFinite, plus, times, finer}
+use Rattle.binary32.specs.Exact.{plus, times, finer}
 use Rattle.binary32.proofs.Sums.{sum-finite}
 use Rattle.binary32.proofs.Result.{result-encode}
 use Rattle.augmented.specs.declared.Flags.{Flags}
 use Rattle.augmented.specs.declared.Pair.{Pair}
-use Rattle.augmented.specs.Pairs.{Halves, pairOf, secondOf, exactSum, exactProduct}
-use Rattle.augmented.specs.Flags.{isFinite, isInfinite, invalid, overflowed, underflowed, flagsOf, none}
-use Rattle.augmented.specs.Answers.{answer, sumPair, productPair}
+use Rattle.augmented.specs.Pairs.{Halves, secondOf, pairOf, invalid, overflowed, underflowed, flagsOf, answer, exactSum, sumPair, exactProduct, productPair}
+use Rattle.augmented.specs.Direct.{none}
 use Rattle.augmented.specs.Inner.{join, finitePair}
 use Rattle.augmented.proofs.Second.{head, first-finite, first-infinite}
 use Rattle.augmented.proofs.Width.{encode-width}

@@ -6,14 +6,13 @@ use Prim.Native.Nat.{ℕ, _*_, _≤_, _<_}
 use lib.IntN.{ℤ, natAbs}
 use Rattle.rounding.specs.declared.Ties.the-variants.{ToZero}
 use Rattle.rounding.specs.Format.{Format, edge, signBit}
-use Rattle.rounding.specs.Value.{Value, infinite, finite, decode, isNaN}
+use Rattle.rounding.specs.Value.{Value, infinite, finite, decode, isNaN, isFinite, isInfinite}
 use Rattle.rounding.proofs.RoundValue.{over-edge, zero-at-edge}
 use Rattle.binary32.specs.Exact.{negate}
 use Rattle.binary32.proofs.Classified.{decode-flip}
 use Rattle.augmented.specs.declared.Pair.{Pair}
-use Rattle.augmented.specs.Pairs.{pairOf}
-use Rattle.augmented.specs.Flags.{isFinite, isInfinite, invalid, overflowed, flagsOf, none, OX, UX}
-use Rattle.augmented.specs.Answers.{Operation, sum, difference, product, answer}
+use Rattle.augmented.specs.Pairs.{pairOf, invalid, overflowed, flagsOf, answer}
+use Rattle.augmented.specs.Direct.{Operation, sum, difference, product, none, OX, UX}
 use Rattle.augmented.specs.Theorems.{FiniteOperands}
 use Rattle.augmented.proofs.Second.{head, first-finite, first-infinite}
 use Rattle.augmented.proofs.FlagSets.{finite-flags}

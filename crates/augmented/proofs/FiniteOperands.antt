@@ -18,7 +18,7 @@ use Rattle.binary32.proofs.Classified.{decode-flip}
 use Rattle.binary32.proofs.Integers.{plus-exact, times-exact, int-not, int-scale}
 use Rattle.augmented.specs.declared.Pair.{Pair}
 use Rattle.augmented.specs.Pairs.{pairOf, exactProduct}
-use Rattle.augmented.specs.Answers.{Operation, sum, difference, product}
+use Rattle.augmented.specs.Direct.{Operation, sum, difference, product}
 use Rattle.augmented.specs.Theorems.{exactly, zeroSign, FiniteOperands}
 use Rattle.augmented.proofs.Distance.{int-size}
 use Rattle.augmented.proofs.Read.{exactFor, first-read, second-read}

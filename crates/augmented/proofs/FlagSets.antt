@@ -5,14 +5,13 @@ use mathlib.Core.Logic.{_⊎_, inl, inr}
 use mathlib.Core.Bool.{Bool, true, false, _&&_, and-true}
 use Prim.Native.Nat.{ℕ}
 use Rattle.rounding.specs.Format.{Format}
-use Rattle.rounding.specs.Value.{Value, nan, infinite, finite, decode, isNaN, signalling, round}
+use Rattle.rounding.specs.Value.{Value, nan, infinite, finite, decode, isNaN, signalling, round, isFinite, isInfinite}
 use Rattle.binary32.specs.Exact.{plus, times, finer}
 use Rattle.binary32.specs.Classes.{flip}
 use Rattle.binary32.proofs.Special.{plus-comm}
 use Rattle.augmented.specs.declared.Flags.{Flags}
-use Rattle.augmented.specs.Pairs.{Halves, pairOf, exactSum, exactProduct}
-use Rattle.augmented.specs.Flags.{isFinite, isInfinite, invalid, overflowed, underflowed, flagsOf, none, I, OX, UX}
-use Rattle.augmented.specs.Answers.{sum, difference, product, answer, sumPair, differencePair, productPair, directPair}
+use Rattle.augmented.specs.Pairs.{Halves, pairOf, invalid, overflowed, underflowed, flagsOf, answer, exactSum, sumPair, differencePair, exactProduct, productPair}
+use Rattle.augmented.specs.Direct.{sum, difference, product, directPair, none, I, OX, UX}
 use Rattle.augmented.specs.Theorems.{FlagSets}
 
 abbrev OneOf : Flags → Type 0

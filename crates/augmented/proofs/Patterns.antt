@@ -2,20 +2,19 @@
 use mathlib.Core.Path.{_≡_, refl, sym, ap, _∙_}
 use mathlib.Core.Logic.{inl, inr}
 use mathlib.Core.Bool.{Bool, true, false, cond, _&&_, _||_}
-use Prim.Native.Nat.{ℕ, _+_, _%_, _^_, _≤_, _<_}
+use Prim.Native.Nat.{ℕ, _+_, _%_, _^_, _<_}
 use native.Mathlib.Nat.{le-of-eq, le-of-lt, lt-irrefl}
 use native.Mathlib.Omega.{arith}
 use lib.Dec.{ltb, leb, eqb}
 use borrow.Author.Tests.{lt-ltb, le-ltb, eqb-true, eq-eqb, ne-eqb}
 use Rattle.rounding.specs.Format.{binary32, infinity, limit}
 use Rattle.rounding.specs.Nearest.{Rep}
-use Rattle.rounding.specs.Value.{Value, nan, infinite, finite, unsigned, magnitude, decode, bits, encode, isNaN}
+use Rattle.rounding.specs.Value.{infinite, finite, unsigned, magnitude, decode, bits, encode, isNaN, isFinite, isInfinite}
 use Rattle.rounding.proofs.Compare.{tri}
 use Rattle.rounding.proofs.Representable.{rep-zero}
 use Rattle.rounding.proofs.Bits.{bits-at, magnitude-bits}
 use Rattle.rounding.proofs.Codec.{bits-below, unsigned-finite, unsigned-infinite, unsigned-nan}
 use Rattle.augmented.specs.Pairs.{zeroTakes}
-use Rattle.augmented.specs.Flags.{isFinite, isInfinite}
 use Rattle.augmented.specs.Inner.{zeroPattern}
 
 -- ---- NaN

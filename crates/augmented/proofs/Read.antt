@@ -5,15 +5,14 @@ use mathlib.Core.List.{[], _∷_}
 use Prim.Native.Nat.{ℕ}
 use Rattle.rounding.specs.declared.Ties.the-variants.{ToZero}
 use Rattle.rounding.specs.Format.{Format, Proper}
-use Rattle.rounding.specs.Value.{Value, nan, infinite, finite, Fits, decode, encode, round}
+use Rattle.rounding.specs.Value.{Value, nan, infinite, finite, Fits, decode, encode, round, isFinite}
 use Rattle.rounding.proofs.Codec.{decode-encode}
 use Rattle.rounding.proofs.RoundValue.{round-fits}
 use Rattle.binary32.specs.Classes.{flip}
 use Rattle.binary32.proofs.Result.{result-encode}
 use Rattle.augmented.specs.declared.Pair.{Pair}
-use Rattle.augmented.specs.Pairs.{rest, zeroTakes, secondOf, pairOf, exactSum, exactProduct}
-use Rattle.augmented.specs.Flags.{isFinite, underflowed}
-use Rattle.augmented.specs.Answers.{Operation, sum, difference, product, answer, sumPair, differencePair, productPair, directPair}
+use Rattle.augmented.specs.Pairs.{rest, zeroTakes, secondOf, pairOf, underflowed, answer, exactSum, sumPair, differencePair, exactProduct, productPair}
+use Rattle.augmented.specs.Direct.{Operation, sum, difference, product, directPair}
 use Rattle.augmented.proofs.FlagSets.{underflow-none}
 
 -- the exact result of an operation on two patterns

@@ -2,7 +2,7 @@
 use mathlib.Core.Path.{_≡_, refl, sym, ap, ap₂, _∙_}
 use mathlib.Core.Bool.{Bool, true, false, not, cond}
 use Prim.Native.Nat.{ℕ, suc, _+_, _-_, _*_, _%_, _^_, _≤_, _<_}
-use native.Mathlib.Nat.{le-trans, le-of-eq, lt-of-le-of-lt, lt-of-lt-of-le, lt-of-mul-lt-mul-right, eq-of-mul-eq-mul-right, mul-one, zero-mul}
+use native.Mathlib.Nat.{le-trans, le-of-eq, lt-of-le-of-lt, lt-of-lt-of-le, lt-of-mul-lt-mul-right, eq-of-mul-eq-mul-right, mul-one}
 use native.Mathlib.Decide.{decLe}
 use native.Mathlib.Omega.{arith}
 use lib.Dec.{eqb}
@@ -12,8 +12,8 @@ use borrow.Author.Tests.{eq-eqb, ne-eqb}
 use Rattle.rounding.specs.declared.Ties.the-variants.{ToZero}
 use Rattle.rounding.specs.Format.{binary32, limit}
 use Rattle.rounding.specs.Round.{lastPlace, rounded, leftOver, roundedUp}
-use Rattle.rounding.specs.Nearest.{Rep, dist}
-use Rattle.rounding.specs.Value.{Value, infinite, finite, encode, roundFinite}
+use Rattle.rounding.specs.Nearest.{dist}
+use Rattle.rounding.specs.Value.{Value, infinite, finite, encode, roundFinite, isFinite, isInfinite}
 use Rattle.rounding.proofs.Multiple.{joined, mult-dist}
 use Rattle.rounding.proofs.LastPlace.{place-le}
 use Rattle.rounding.proofs.NearLaws.{near-mult}
@@ -22,8 +22,7 @@ use Rattle.rounding.proofs.Scaled.{rounded-rep}
 use Rattle.rounding.proofs.RoundValue.{round-below, round-above}
 use Rattle.binary32.proofs.Products.{none, some-left}
 use Rattle.augmented.specs.declared.Pair.{Pair}
-use Rattle.augmented.specs.Pairs.{pairOf, zeroTakes}
-use Rattle.augmented.specs.Flags.{isFinite, isInfinite, underflowed, flagsOf}
+use Rattle.augmented.specs.Pairs.{zeroTakes, pairOf, underflowed, flagsOf}
 use Rattle.augmented.specs.Inner.{join, finitePair, zeroPattern, ShortRest}
 use Rattle.augmented.proofs.Second.{head, left, up, tail, tail-le, first-finite, pair-second, first-infinite, second-infinite, underflowed-is}
 use Rattle.augmented.proofs.Patterns.{finite-shows, infinite-shows, zero-pattern}

@@ -13,15 +13,14 @@ use Rattle.rounding.specs.declared.Ties.the-variants.{ToZero}
 use Rattle.rounding.specs.Format.{Format, low, limit}
 use Rattle.rounding.specs.Round.{rounded, leftOver, roundedUp}
 use Rattle.rounding.specs.Nearest.{dist}
-use Rattle.rounding.specs.Value.{Value, infinite, finite, round, roundFinite}
+use Rattle.rounding.specs.Value.{Value, infinite, finite, round, roundFinite, isFinite, isZero}
 use Rattle.rounding.proofs.Compare.{tri}
 use Rattle.rounding.proofs.Representable.{rep-zero}
 use Rattle.rounding.proofs.Rounded.{rounded-near, rounded-none, rounded-mono}
 use Rattle.rounding.proofs.RoundValue.{round-below, round-above}
 use Rattle.binary32.specs.Exact.{negate, plusFinite, plus, finer}
 use Rattle.binary32.proofs.Sums.{like?, sum-same, sum-left, sum-right, sum-none}
-use Rattle.augmented.specs.Pairs.{rest, zeroTakes, secondOf, pairOf}
-use Rattle.augmented.specs.Flags.{isFinite, isZero, addsUp, underflowed}
+use Rattle.augmented.specs.Pairs.{rest, zeroTakes, secondOf, pairOf, addsUp, underflowed}
 
 not-same : (s : Bool) → Bool·beq s (not s) ≡ false
 not-same true = refl

@@ -10,8 +10,8 @@ use Rattle.rounding.specs.Value.{Value, nan, infinite, finite, decode, isNaN, s
 use Rattle.binary32.specs.Exact.{negate, plus, times, finer}
 use Rattle.binary32.proofs.Classified.{decode-flip}
 use Rattle.binary32.proofs.Special.{plus-comm}
-use Rattle.augmented.specs.Flags.{flagsOf, none, I}
-use Rattle.augmented.specs.Answers.{Operation, sum, difference, product}
+use Rattle.augmented.specs.Pairs.{flagsOf}
+use Rattle.augmented.specs.Direct.{Operation, sum, difference, product, none, I}
 use Rattle.augmented.specs.Theorems.{NaNOperand, OppositeInfinities, ZeroTimesInfinity, InfiniteOperand}
 use Rattle.augmented.proofs.FlagSets.{times-nan}
 use Rattle.augmented.proofs.Answered.{same-pair}

@@ -5,12 +5,11 @@ use mathlib.Core.Bool.{Bool, true, false, not, _&&_, _||_, or-false}
 use mathlib.Core.List.{[], _∷_}
 use Prim.Native.Nat.{ℕ}
 use Rattle.rounding.specs.Format.{Format, infinity}
-use Rattle.rounding.specs.Value.{Value, nan, infinite, finite, decode, isNaN, signalling, nanOf, signed, encode, round}
+use Rattle.rounding.specs.Value.{Value, nan, infinite, finite, decode, isNaN, signalling, nanOf, signed, encode, round, isFinite}
 use Rattle.binary32.specs.Exact.{plus, times, finer}
 use Rattle.binary32.specs.Steps.{result}
-use Rattle.augmented.specs.Pairs.{pairOf, secondOf}
-use Rattle.augmented.specs.Flags.{isFinite, invalid, overflowed, flagsOf, none}
-use Rattle.augmented.specs.Answers.{Operation, sum, difference, product, answer, directPair}
+use Rattle.augmented.specs.Pairs.{secondOf, pairOf, invalid, overflowed, flagsOf, answer}
+use Rattle.augmented.specs.Direct.{Operation, sum, difference, product, directPair, none}
 use Rattle.augmented.specs.Theorems.{Twice}
 use Rattle.augmented.proofs.FlagSets.{invalid-none}
 use Rattle.augmented.proofs.Answered.{Operands, same-pair, sum-operands, product-operands}

@@ -3,7 +3,7 @@ use mathlib.Core.Path.{refl}
 use lib.Ieee.{size}
 use Rattle.rounding.specs.Round.{keep, lastPlace}
 use Rattle.binary32.specs.Exact.{times}
-use Rattle.augmented.specs.Answers.{directPair}
+use Rattle.augmented.specs.Direct.{directPair}
 use Rattle.augmented.specs.Cases.{Table}
 
 pub table : Table

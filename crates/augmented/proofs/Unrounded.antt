@@ -3,10 +3,10 @@ use mathlib.Core.Path.{_≡_, refl, sym, ap, ap₂, _∙_}
 use mathlib.Core.Logic.{inl, inr}
 use mathlib.Core.Bool.{Bool, true, false, not, Bool·beq, cond, _&&_}
 use Prim.Native.Nat.{ℕ, suc, _+_, _-_, _*_, _%_, _^_, _≤_, _<_}
-use native.Mathlib.Nat.{le-trans, le-of-eq, zero-mul, add-mul, mul-lt-mul-of-pos-right, eq-of-mul-eq-mul-right, mod-eq-of-lt}
+use native.Mathlib.Nat.{le-trans, le-of-eq, zero-mul, mul-lt-mul-of-pos-right, eq-of-mul-eq-mul-right, mod-eq-of-lt}
 use native.Mathlib.Decide.{decLe}
 use native.Mathlib.Omega.{arith}
-use lib.Dec.{ltb, leb, eqb}
+use lib.Dec.{ltb, leb}
 use lib.Ieee.{unlike}
 use lib.Pow.{pow-pos}
 use borrow.Author.Tests.{lt-ltb, le-ltb}
@@ -14,7 +14,7 @@ use Rattle.rounding.specs.declared.Ties.the-variants.{ToEven, ToZero}
 use Rattle.rounding.specs.Format.{Format, binary32, low, limit, infinity}
 use Rattle.rounding.specs.Round.{rounded}
 use Rattle.rounding.specs.Nearest.{Rep, dist}
-use Rattle.rounding.specs.Value.{Value, nan, infinite, finite, Fits, decode, encode, round, roundFinite}
+use Rattle.rounding.specs.Value.{Value, nan, infinite, finite, Fits, decode, encode, round, roundFinite, isFinite}
 use Rattle.rounding.proofs.Compare.{tri}
 use Rattle.rounding.proofs.Rounded.{rounded-exact}
 use Rattle.rounding.proofs.Codec.{unsigned-finite, unsigned-infinite, unsigned-nan, encode-decode, decode-fits, pattern-rep}
@@ -28,11 +28,10 @@ use Rattle.binary32.proofs.Classified.{class-value, class-operand}
 use Rattle.binary32.proofs.Exacts.{Sum, near-exact}
 use Rattle.binary32.proofs.Far.{far-below, far-sum}
 use Rattle.binary32.proofs.Sums.{like?, like-eq, sum-same, sum-left, finer-sum}
-use Rattle.augmented.specs.Pairs.{pairOf, secondOf, zeroTakes, exactSum}
-use Rattle.augmented.specs.Flags.{isFinite}
+use Rattle.augmented.specs.Pairs.{zeroTakes, secondOf, pairOf, exactSum}
 use Rattle.augmented.specs.Inner.{join, zeroPattern, Apart}
 use Rattle.augmented.proofs.Patterns.{zero-pattern}
-use Rattle.augmented.proofs.Second.{second-is, side, gap, unlike-true, unlike-false}
+use Rattle.augmented.proofs.Second.{second-is, side, unlike-true, unlike-false}
 
 -- a number of the format is its own rounding
 own-rounding : (F : Format) (q : Bool) (b : ℕ) → Rep (suc (F .fraction)) (low F) (b * 2 ^ low F) → b < limit F → roundFinite ToZero F q (b * 2 ^ low F) ≡ finite q b

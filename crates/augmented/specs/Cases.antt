@@ -5,8 +5,7 @@ use mathlib.Core.Path.{_≡_}
 use mathlib.Core.List.{List, [], _∷_}
 use Rattle.rounding.specs.Format.{binary32}
 use Rattle.augmented.specs.declared.Flags.{Flags}
-use Rattle.augmented.specs.Flags.{none, I, OX, UX}
-use Rattle.augmented.specs.Answers.{Operation, sum, product, directPair}
+use Rattle.augmented.specs.Direct.{Operation, sum, product, directPair, none, I, OX, UX}
 
 -- operation, operands, first, second, flags
 pub data Case : Type 0 where

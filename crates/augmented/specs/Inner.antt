@@ -6,11 +6,10 @@ use lib.Dec.{eqb}
 use Rattle.rounding.specs.declared.Ties.the-variants.{ToZero}
 use Rattle.rounding.specs.Format.{binary32}
 use Rattle.rounding.specs.Round.{leftOver}
-use Rattle.rounding.specs.Value.{finite, decode, encode}
+use Rattle.rounding.specs.Value.{finite, decode, encode, isInfinite}
 use Rattle.binary32.specs.Inner.{Operand}
 use Rattle.augmented.specs.declared.Pair.{Pair}
-use Rattle.augmented.specs.Pairs.{Halves}
-use Rattle.augmented.specs.Flags.{isInfinite, flagsOf}
+use Rattle.augmented.specs.Pairs.{Halves, flagsOf}
 
 -- both patterns in one word
 abbrev pub join : Halves → ℕ

@@ -1,6 +1,5 @@
 pub mod Pairs
-pub mod Flags
-pub mod Answers
-pub mod Theorems
+pub mod Direct
 pub mod Cases
+pub mod Theorems
 pub mod Inner

@@ -16,8 +16,7 @@ use Rattle.rounding.specs.Value.{nan, infinite, finite, decode, nanOf, signalli
 use Rattle.binary32.specs.Exact.{int}
 use Rattle.augmented.specs.declared.Flags.{Flags}
 use Rattle.augmented.specs.declared.Pair.{Pair}
-use Rattle.augmented.specs.Flags.{none, I, OX, UX}
-use Rattle.augmented.specs.Answers.{Operation, sum, difference, product, directPair}
+use Rattle.augmented.specs.Direct.{Operation, sum, difference, product, directPair, none, I, OX, UX}
 
 -- ---- the exact number of an operation on finite operands, signs and magnitudes in u, and the sign that an exact zero takes
 abbrev pub exactly : Operation → Format → Bool → ℕ → Bool → ℕ → ℤ

@@ -7,7 +7,7 @@ mod sums;
 use binary32::class::flipped;
 ghost use mathlib.Core.Path.{_≡_};
 ghost use Rattle.rounding.specs.Format.{binary32};
-ghost use Rattle.augmented.specs.Answers.{sumPair, differencePair, productPair};
+ghost use Rattle.augmented.specs.Pairs.{sumPair, differencePair, productPair};
 
 // Document 01's I, O, U and X.
 #[repr(C)]

@@ -19,9 +19,7 @@ ghost use mathlib.Core.Bool.{false};
 ghost use Prim.Native.Nat.{_*_, _^_, _<_};
 ghost use Rattle.rounding.specs.Format.{binary32};
 ghost use Rattle.rounding.specs.Value.{finite, decode};
-ghost use Rattle.augmented.specs.Pairs.{pairOf};
-ghost use Rattle.augmented.specs.Flags.{invalid, overflowed, underflowed, flagsOf};
-ghost use Rattle.augmented.specs.Answers.{productPair};
+ghost use Rattle.augmented.specs.Pairs.{pairOf, invalid, overflowed, underflowed, flagsOf, productPair};
 ghost use Rattle.augmented.specs.Inner.{finitePair, ShortRest};
 
 pub fn of_patterns(x: u32, y: u32) -> Pair

@@ -7,7 +7,7 @@ ghost use mathlib.Core.Path.{_≡_};
 ghost use mathlib.Core.Bool.{false};
 ghost use Rattle.rounding.specs.Format.{binary32};
 ghost use Rattle.rounding.specs.Value.{decode, isNaN, signalling};
-ghost use Rattle.augmented.specs.Flags.{invalid, overflowed, flagsOf};
+ghost use Rattle.augmented.specs.Pairs.{invalid, overflowed, flagsOf};
 
 // I, and O with X; U is for finite pairs alone.
 pub fn of_special(x: u32, y: u32, first: u32) -> Flags

@@ -16,13 +16,13 @@ use rounding::pick::pick_pattern;
 use rounding::round_with_rest;
 ghost use mathlib.Core.Path.{_≡_};
 ghost use mathlib.Core.Bool.{true, false};
-ghost use Prim.Native.Nat.{_*_, _%_, _^_, _≤_};
+ghost use Prim.Native.Nat.{_*_, _^_};
 ghost use Rattle.rounding.specs.Format.{binary32};
-ghost use Rattle.rounding.specs.Value.{finite, decode};
+ghost use Rattle.rounding.specs.Value.{finite, decode, isFinite};
 ghost use Rattle.binary32.specs.Classes.{classOf};
 ghost use Rattle.binary32.specs.Inner.{Operand, Below};
-ghost use Rattle.augmented.specs.Pairs.{pairOf, exactSum};
-ghost use Rattle.augmented.specs.Flags.{isFinite, invalid, overflowed, flagsOf, none};
+ghost use Rattle.augmented.specs.Pairs.{pairOf, invalid, overflowed, flagsOf, exactSum};
+ghost use Rattle.augmented.specs.Direct.{none};
 ghost use Rattle.augmented.specs.Inner.{join, Apart, ShortRest};
 
 // The larger magnitude comes first, whose exponent then is not below the other's.

@@ -1,7 +1,7 @@
 -- Operands in order, and exact products as the code holds them before any rounding. Assumes nothing.
 use Prim.Native.Nat.{ℕ, _%_, _^_, _≤_, _<_}
 use mathlib.Core.Path.{_≡_}
-use mathlib.Core.Bool.{Bool, cond}
+use mathlib.Core.Bool.{cond}
 use lib.Dec.{ltb}
 use Rattle.rounding.specs.Value.{Value}
 use Rattle.binary32.specs.declared.class.Class.{Class}

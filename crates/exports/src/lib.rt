@@ -3,7 +3,7 @@ use augmented::Pair;
 ghost use mathlib.Core.Path.{_≡_};
 ghost use Rattle.rounding.specs.Format.{binary32};
 ghost use Rattle.binary32.specs.Steps.{addStep, subStep, mulStep, fmaStep};
-ghost use Rattle.augmented.specs.Answers.{sumPair, differencePair, productPair};
+ghost use Rattle.augmented.specs.Pairs.{sumPair, differencePair, productPair};
 
 #[no_mangle]
 pub extern "C" fn jirmeklo_add(x: u32, y: u32) -> u32

@@ -8,8 +8,8 @@ use lib.Pow.{pow-pos}
 use Rattle.rounding.specs.Format.{Format, binary32, Proper, low, limit, ones, edge, signBit}
 use Rattle.rounding.specs.Round.{rounded}
 use Rattle.rounding.specs.Nearest.{dist}
-use Rattle.rounding.specs.Value.{finite, Fits, fields, magnitude, decode, signed, bits, encode}
-use Rattle.rounding.specs.Theorems.{Binary32Numbers, Nearest, TieToZero, TieToEven, TieNeighbour, TieToZeroUnique, HalfUnit, RulesDiffer, Exact, Monotone, Scaling, RoundToOdd, OverflowRNe, OverflowRN0, NearestPattern, TieToEvenPattern, TieToZeroPattern, DecodeLandmarks, LargestFinite, BitsOrder, DecodeEncode, EncodeDecode, DecodeFits, RoundFits}
+use Rattle.rounding.specs.Value.{finite, Fits, fields, magnitude, decode, signalling, signed, bits, encode}
+use Rattle.rounding.specs.Theorems.{Binary32Numbers, Nearest, TieToZero, TieToEven, TieNeighbour, TieToZeroUnique, HalfUnit, RulesDiffer, Exact, Monotone, Scaling, RoundToOdd, OverflowRNe, OverflowRN0, NearestPattern, TieToEvenPattern, TieToZeroPattern, DecodeLandmarks, SignallingLandmarks, LargestFinite, BitsOrder, DecodeEncode, EncodeDecode, DecodeFits, RoundFits}
 use Rattle.rounding.specs.declared.Ties.the-variants.{ToEven, ToZero}
 use Rattle.rounding.proofs.Rounded.{rounded-near, rounded-near0, rounded-half, rounded-differ, rounded-exact, rounded-mono, rounded-scale}
 use Rattle.rounding.proofs.Even.{rounded-even, neighbour-odd}
@@ -93,6 +93,10 @@ tie-to-zero-pattern F ok s N a e x r b d =
 pub decode-landmarks : DecodeLandmarks
 unfolding decode
 decode-landmarks = (refl, refl, refl, refl, refl, refl, refl, refl, refl, refl)
+
+pub signalling-landmarks : SignallingLandmarks
+unfolding signalling
+signalling-landmarks = (refl, refl, refl, refl, refl, refl, refl, refl)
 
 pub largest-finite : LargestFinite
 unfolding Fits

@@ -9,7 +9,7 @@ use Rattle.rounding.specs.declared.Ties.the-variants.{ToEven, ToZero}
 use Rattle.rounding.specs.Format.{Format, binary32, Proper, low, limit, edge, infinity, signBit}
 use Rattle.rounding.specs.Round.{lastPlace, rounded}
 use Rattle.rounding.specs.Nearest.{dist, Rep, Near, Near0}
-use Rattle.rounding.specs.Value.{Value, nan, infinite, finite, Fits, magnitude, decode, nanOf, bits, encode, roundFinite, round}
+use Rattle.rounding.specs.Value.{Value, nan, infinite, finite, Fits, magnitude, decode, signalling, nanOf, bits, encode, roundFinite, round}
 
 -- ---- document 01's numbers of binary32: u = 2 ^ -149, +infinity, the sign bit, the NaN, 2 ^ 128, and the edge 2 ^ 128 - 2 ^ 103
 abbrev pub Binary32Numbers : Type 0
@@ -100,6 +100,12 @@ DecodeLandmarks =
     (decode binary32 0x0000_0001 ≡ finite false 1) × (decode binary32 0x007f_ffff ≡ finite false (2 ^ 23 - 1)) × (decode binary32 0x0080_0000 ≡ finite false (2 ^ 23))
     × (decode binary32 0x3f80_0000 ≡ finite false (2 ^ 149)) × (decode binary32 0x8000_0000 ≡ finite true 0) × (decode binary32 0x7f7f_ffff ≡ finite false ((2 ^ 128 - 2 ^ 104) * 2 ^ 149))
     × (decode binary32 0x7f80_0000 ≡ infinite false) × (decode binary32 0xff80_0000 ≡ infinite true) × (decode binary32 0x7f80_0001 ≡ nan) × (decode binary32 0x7fc0_0000 ≡ nan)
+
+-- the first and the last signalling pattern of either sign; quiet ones beside them, and what is no NaN
+abbrev pub SignallingLandmarks : Type 0
+SignallingLandmarks =
+    (signalling binary32 0x7f80_0001 ≡ true) × (signalling binary32 0x7fbf_ffff ≡ true) × (signalling binary32 0xff80_0001 ≡ true) × (signalling binary32 0xffbf_ffff ≡ true)
+    × (signalling binary32 0x7fc0_0000 ≡ false) × (signalling binary32 0xffff_ffff ≡ false) × (signalling binary32 0x7f80_0000 ≡ false) × (signalling binary32 0x3f80_0000 ≡ false)
 
 -- document 01: "Ω = 7F7FFFFF"; no finite magnitude is above it
 abbrev pub LargestFinite : Type 0

@@ -45,10 +45,26 @@ unfoldable pub decode : Format → ℕ → Value
 unfolding unsigned
 decode F x = unsigned F (leb (signBit F) x) (x % signBit F)
 
+-- the kinds of values
 abbrev pub isNaN : Value → Bool
 isNaN nan = true
 isNaN (infinite s) = false
 isNaN (finite s a) = false
+
+abbrev pub isInfinite : Value → Bool
+isInfinite nan = false
+isInfinite (infinite s) = true
+isInfinite (finite s a) = false
+
+abbrev pub isFinite : Value → Bool
+isFinite nan = false
+isFinite (infinite s) = false
+isFinite (finite s a) = true
+
+abbrev pub isZero : Value → Bool
+isZero nan = false
+isZero (infinite s) = false
+isZero (finite s a) = eqb a 0
 
 -- "A NaN is signalling when fraction bit 22 is 0": the highest of the fraction's bits.
 unfoldable pub signalling : Format → ℕ → Bool

@@ -8,20 +8,20 @@ pub fn pick(c: bool, a: u64, b: u64) -> u64
     if c { a } else { b }
 }
 
-pub fn pick_pattern(c: bool, a: u32, b: u32) -> u32
-    ensures { λ r. ⌜ r ≡ cond c a b ⌝ }
+pub fn pick_pattern(c: bool, x: u32, y: u32) -> u32
+    ensures { λ r. ⌜ r ≡ cond c x y ⌝ }
 {
-    if c { a } else { b }
+    if c { x } else { y }
 }
 
-pub fn pick_exponent(c: bool, a: u16, b: u16) -> u16
-    ensures { λ r. ⌜ r ≡ cond c a b ⌝ }
+pub fn pick_exponent(c: bool, d: u16, e: u16) -> u16
+    ensures { λ r. ⌜ r ≡ cond c d e ⌝ }
 {
-    if c { a } else { b }
+    if c { d } else { e }
 }
 
-pub fn pick_sign(c: bool, a: bool, b: bool) -> bool
-    ensures { λ r. ⌜ r ≡ cond c a b ⌝ }
+pub fn pick_sign(c: bool, s: bool, t: bool) -> bool
+    ensures { λ r. ⌜ r ≡ cond c s t ⌝ }
 {
-    if c { a } else { b }
+    if c { s } else { t }
 }

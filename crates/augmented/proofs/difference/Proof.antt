@@ -1,7 +1,7 @@
 use borrow.Author.Needs.{needs}
 use mathlib.Core.Path.{ap, _∙_}
 use Rattle.rounding.specs.Format.{binary32}
-use Rattle.augmented.specs.Answers.{sumPair, differencePair}
+use Rattle.augmented.specs.Pairs.{sumPair, differencePair}
 use Rattle.augmented.proofs.Answered.{none-raised, sum-answer}
 use Rattle.augmented.proofs.difference.Statement.{statement}
 use Rattle.augmented.proofs.difference.Tie as tie

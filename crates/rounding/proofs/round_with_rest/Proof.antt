@@ -1,5 +1,5 @@
 use borrow.Author.Needs.{needs}
-use mathlib.Core.Path.{_≡_, sym, ap, _∙_}
+use mathlib.Core.Path.{sym, ap, _∙_}
 use Prim.Native.Nat.{_-_, _*_, _%_, _^_, _+_}
 use native.Mathlib.Omega.{arith}
 use lib.Count.{leading-le, leadingZeros}

@@ -1,7 +1,7 @@
 use borrow.Author.Needs.{needs}
 use mathlib.Core.Path.{ap, ap₂, _∙_}
 use mathlib.Core.Bool.{not, _&&_, _||_}
-use Rattle.augmented.specs.Flags.{invalid}
+use Rattle.augmented.specs.Pairs.{invalid}
 use Rattle.augmented.proofs.Patterns.{picked-or, picked-and}
 use Rattle.augmented.proofs.raised.invalid.Statement.{statement}
 use Rattle.augmented.proofs.raised.invalid.Tie as tie

@@ -1,7 +1,7 @@
 use borrow.Author.Needs.{needs}
 use mathlib.Core.Path.{ap₂, _∙_}
 use mathlib.Core.Bool.{_&&_}
-use Rattle.augmented.specs.Flags.{overflowed}
+use Rattle.augmented.specs.Pairs.{overflowed}
 use Rattle.augmented.proofs.Patterns.{finite-is, infinite-is, picked-and}
 use Rattle.augmented.proofs.raised.overflowed.Statement.{statement}
 use Rattle.augmented.proofs.raised.overflowed.Tie as tie

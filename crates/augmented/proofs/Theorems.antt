@@ -1,5 +1,5 @@
 -- The theorems of `specs/Theorems.antt`, and the table of `specs/Cases.antt`. Assumes nothing.
-use mathlib.Core.Path.{_≡_, sym, ap, _∙_}
+use mathlib.Core.Path.{_≡_, refl, sym, ap, _∙_}
 use mathlib.Core.Bool.{true, false, not}
 use Prim.Native.Nat.{ℕ}
 use native.Mathlib.Nat.{lt-of-le-of-lt}
@@ -15,7 +15,8 @@ use Rattle.rounding.proofs.HalfPlace.{left-half}
 use Rattle.rounding.proofs.RoundValue.{round-below, over-edge, zero-at-edge}
 use Rattle.augmented.specs.Pairs.{secondOf, pairOf}
 use Rattle.augmented.specs.Cases.{Table}
-use Rattle.augmented.specs.Theorems.{FirstRounded, FirstNearest, Overflow, SecondRounded, SecondNearest, HalfUnit, SumAddsUp, ProductAddsUp, FlagsOfFinite, NaNOperand, OppositeInfinities, ZeroTimesInfinity, InfiniteOperand, FlagSets, InfiniteTwice, NaNTwice, PatternWidth}
+use Rattle.augmented.specs.Direct.{directPair}
+use Rattle.augmented.specs.Theorems.{EveryFinite, DirectPairs, FirstRounded, FirstNearest, Overflow, SecondRounded, SecondNearest, HalfUnit, SumAddsUp, ProductAddsUp, FlagsOfFinite, NaNOperand, OppositeInfinities, ZeroTimesInfinity, InfiniteOperand, FlagSets, InfiniteTwice, NaNTwice, PatternWidth, All}
 use Rattle.augmented.proofs.Second.{head, tail-le, first-finite, first-infinite}
 use Rattle.augmented.proofs.Read.{exactFor, first, second, first-pattern, second-pattern, first-fits, second-fits, first-read}
 use Rattle.augmented.proofs.Width.{encode-width}
@@ -26,6 +27,15 @@ use Rattle.augmented.proofs.FiniteFlags.{flags-above, sum-flags, produc
 use Rattle.augmented.proofs.SpecialOperands as special
 use Rattle.augmented.proofs.FlagSets as flags
 use Rattle.augmented.proofs.Table as cases
+
+-- ---- of whom
+pub every-finite : EveryFinite
+every-finite o x y s a t b w p q =
+    record { proper = omega arith; x = x; y = y; width = w; s = s; a = a; t = t; b = b; left = p; right = q; exact = refl; zero = refl; pair = refl }
+
+pub direct-pairs : DirectPairs
+unfolding directPair
+direct-pairs = (refl, refl, refl)
 
 -- ---- first
 pub first-rounded : FirstRounded
@@ -119,3 +129,27 @@ pattern-width o F ok x y = (
 -- ---- document 01's cases
 pub table : Table
 table = cases.table
+
+pub all : All
+all = (
+  every-finite,
+  direct-pairs,
+  first-rounded,
+  first-nearest,
+  overflow,
+  second-rounded,
+  second-nearest,
+  half-unit,
+  sum-adds-up,
+  product-adds-up,
+  flags-of-finite,
+  nan-operand,
+  opposite-infinities,
+  zero-times-infinity,
+  infinite-operand,
+  flag-sets,
+  infinite-twice,
+  nan-twice,
+  pattern-width,
+  table,
+)

@@ -16,6 +16,8 @@ use Rattle.rounding.specs.Value.{nan, infinite, finite, decode, nanOf, signalli
 use Rattle.binary32.specs.Exact.{int}
 use Rattle.augmented.specs.declared.Flags.{Flags}
 use Rattle.augmented.specs.declared.Pair.{Pair}
+use Rattle.augmented.specs.Pairs.{sumPair, differencePair, productPair}
+use Rattle.augmented.specs.Cases.{Table}
 use Rattle.augmented.specs.Direct.{Operation, sum, difference, product, directPair, none, I, OX, UX}
 
 -- ---- the exact number of an operation on finite operands, signs and magnitudes in u, and the sign that an exact zero takes
@@ -49,6 +51,16 @@ pub record FiniteOperands (o : Operation) (F : Format) (E : ℤ) (z : Bool) (p :
   pub exact : E ≡ exactly o F s a t b
   pub zero : z ≡ zeroSign o s t
   pub pair : p ≡ directPair o F x y
+
+-- every two finite patterns of binary32 are such operands, in each operation: what follows is said of all of them
+abbrev pub EveryFinite : Type 0
+EveryFinite =
+    (o : Operation) (x y : ℕ) (s : Bool) (a : ℕ) (t : Bool) (b : ℕ) → y < 2 ^ 32 → decode binary32 x ≡ finite s a → decode binary32 y ≡ finite t b
+    → FiniteOperands o binary32 (exactly o binary32 s a t b) (zeroSign o s t) (directPair o binary32 x y)
+
+-- and their pairs are those of the contracts
+abbrev pub DirectPairs : Type 0
+DirectPairs = (directPair sum ≡ sumPair) × (directPair difference ≡ differencePair) × (directPair product ≡ productPair)
 
 -- ---- first
 -- "first = RN0(..)": the exact number, rounded once; "first's zero follows the steps' zero rule"
@@ -155,3 +167,7 @@ NaNTwice = (o : Operation) (x y : ℕ) → let p = directPair o binary32 x y in
 -- both halves are patterns of the format: 32 bits wide in binary32
 abbrev pub PatternWidth : Type 0
 PatternWidth = (o : Operation) (F : Format) → Proper F → (x y : ℕ) → (directPair o F x y .first < 2 * signBit F) × (directPair o F x y .second < 2 * signBit F)
+
+-- all of them, and document 01's table: `proofs/Theorems.antt` proves this
+abbrev pub All : Type 0
+All = EveryFinite × DirectPairs × FirstRounded × FirstNearest × Overflow × SecondRounded × SecondNearest × HalfUnit × SumAddsUp × ProductAddsUp × FlagsOfFinite × NaNOperand × OppositeInfinities × ZeroTimesInfinity × InfiniteOperand × FlagSets × InfiniteTwice × NaNTwice × PatternWidth × Table

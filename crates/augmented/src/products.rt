@@ -31,7 +31,7 @@ pub fn of_patterns(x: u32, y: u32) -> Pair
             sign: s,
             sig: m,
             exp: e,
-        } => finite(s, m, e),
+        } => of_number(s, m, e),
         Class::Infinite(s) => twice(x, y, infinity(s)),
         Class::NotANumber => twice(x, y, NAN),
     }
@@ -50,7 +50,7 @@ fn twice(x: u32, y: u32, half: u32) -> Pair
 }
 
 // Where the exponent is below 149, the rest can have digits below u.
-fn finite(sign: bool, sig: u64, exp: u16) -> Pair
+fn of_number(sign: bool, sig: u64, exp: u16) -> Pair
     requires { ⌜ sig < 2 ^ 48 ⌝ }
     ensures { λ r. ⌜ r ≡ finitePair (pairOf binary32 (finite sign (sig * 2 ^ exp))) (underflowed binary32 (finite sign (sig * 2 ^ exp)) (pairOf binary32 (finite sign (sig * 2 ^ exp)))) ⌝ }
 {

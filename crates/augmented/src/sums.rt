@@ -1,4 +1,4 @@
-// Both halves of a sum, in one word: it comes back in a register, and what is large here is compiled once for sums and differences.
+// Sum pairs. Both halves come back in one word, which goes in a register; what is large here is compiled once for sums and differences.
 use crate::Flags;
 use crate::Pair;
 use crate::parts::is_finite;
@@ -78,7 +78,7 @@ fn special(p: u32, q: u32) -> u64
     joined(r, r)
 }
 
-// Two operands so far apart that they are their own pair.
+// Two operands so far apart that they are their own pair, but for the sign of a zero.
 fn apart(p: u32, q: u32) -> u64
     requires { ⌜ Apart p q ⌝ }
     ensures { λ r. ⌜ r ≡ join (pairOf binary32 (exactSum binary32 p q)) ⌝ }

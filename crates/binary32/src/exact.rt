@@ -3,7 +3,6 @@ use crate::class::Class;
 use crate::class::classify;
 use crate::product;
 use crate::sum;
-use crate::sum::Signed;
 use rounding::pick::pick_pattern;
 ghost use mathlib.Core.Path.{_≡_};
 ghost use Prim.Native.Nat.{_*_, _%_, _^_};
@@ -25,14 +24,20 @@ pub fn smaller(x: u32, y: u32) -> u32
     pick_pattern(x % 0x8000_0000 < y % 0x8000_0000, x, y)
 }
 
-// ±m * 2^gap ± n for gaps below 32. An exact zero has its sign already.
+// An exact sum, whose zero has its sign already.
+pub struct Signed {
+    pub sign: bool,
+    pub sig: u64,
+}
+
+// ±m * 2^gap ± n, the gap taken modulo 32. An exact zero has its sign already.
 pub fn sum(s: bool, m: u32, gap: u16, t: bool, n: u32) -> Signed
     ensures { λ r. ⌜ plusFinite s (m * 2 ^ (gap % 32)) t n ≡ finite (r .sign) (r .sig) ⌝ }
 {
     sum::signed_sum(s, (m as u64) << (gap % 32), t, n as u64)
 }
 
-// The product of two patterns, in units of 2^-298.
+// The product of two patterns, in units of 2^-298. How significand and exponent share it is free within the bounds of `Product`.
 pub fn product(x: u32, y: u32) -> Class
     ensures { λ r. ⌜ ProductIs (times (decode binary32 x) (decode binary32 y)) r ⌝ }
 {

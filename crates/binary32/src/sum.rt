@@ -3,6 +3,7 @@ use crate::class::Class;
 use crate::class::NAN;
 use crate::class::classify;
 use crate::class::infinity;
+use crate::exact::Signed;
 use crate::exact::larger;
 use crate::exact::smaller;
 use rounding::Ties;
@@ -105,12 +106,6 @@ pub fn round_sum(s: bool, a: u64, t: bool, b: u64, exp: u16) -> u32
 {
     let sum = signed_sum(s, a, t, b);
     rounding::round(Ties::ToEven, sum.sign, sum.sig, exp)
-}
-
-// An exact sum, whose zero has its sign already.
-pub struct Signed {
-    pub sign: bool,
-    pub sig: u64,
 }
 
 // ±a ± b, exactly. Signs are as good as random, so nothing branches on them.

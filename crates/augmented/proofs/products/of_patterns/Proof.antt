@@ -12,8 +12,8 @@ product-requires c κs = search needs
 enum-known-total : tie.Need-enum-known-total
 enum-known-total c = search needs
 
-finite-requires : tie.Need-finite-requires
-finite-requires c κs = (rw (c .before .total .given .1) at (c .before .before .before .product .ensures)) .bounded .sig
+of-number-requires : tie.Need-of-number-requires
+of-number-requires c κs = (rw (c .before .total .given .1) at (c .before .before .before .product .ensures)) .bounded .sig
 
 enum-known-total-2 : tie.Need-enum-known-total-2
 enum-known-total-2 c = search needs
@@ -37,7 +37,7 @@ returns c =
     let s = t .before .before in
     let b = s .before in
     let e = rw (t .total .given .1) at (s .product .ensures) in
-    c .finite .ensures ∙ sym (product-finite (b .args .x) (b .args .y) _ _ (e .is))
+    c .of-number .ensures ∙ sym (product-finite (b .args .x) (b .args .y) _ _ (e .is))
 
 returns-2 : tie.Need-returns-2
 unfolding valueOf Fits
@@ -64,7 +64,7 @@ of-patterns-spec =
     (tie.spec
     product-requires
     enum-known-total
-    finite-requires
+    of-number-requires
     enum-known-total-2
     infinity-requires
     twice-requires

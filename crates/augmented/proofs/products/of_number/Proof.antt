@@ -7,8 +7,8 @@ use Rattle.rounding.specs.Value.{finite}
 use Rattle.augmented.specs.Pairs.{pairOf}
 use Rattle.augmented.specs.Inner.{finitePair}
 use Rattle.augmented.proofs.Rests.{product-short, short-loses-nothing}
-use Rattle.augmented.proofs.products.finite.Statement.{statement}
-use Rattle.augmented.proofs.products.finite.Tie as tie
+use Rattle.augmented.proofs.products.of_number.Statement.{statement}
+use Rattle.augmented.proofs.products.of_number.Tie as tie
 
 twice-rounded-requires : tie.Need-twice-rounded-requires
 twice-rounded-requires c κs = search needs
@@ -25,5 +25,5 @@ returns-2 c =
     c .with-rest .ensures
     ∙ ap (finitePair (pairOf binary32 (finite (b .args .sign) (b .args .sig * 2 ^ b .args .exp)))) (sym (short-loses-nothing (b .args .sign) (b .args .sig) (b .args .exp) (product-short (b .args .sig) (b .args .exp) (b .pre) (let g = c .before .if1 .left in omega arith))))
 
-pub finite-spec : {M : Type 1} → statement M
-finite-spec = tie.close (tie.spec twice-rounded-requires with-rest-requires returns returns-2)
+pub of-number-spec : {M : Type 1} → statement M
+of-number-spec = tie.close (tie.spec twice-rounded-requires with-rest-requires returns returns-2)

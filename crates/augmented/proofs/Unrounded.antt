@@ -22,8 +22,7 @@ use Rattle.rounding.proofs.RoundValue.{round-below}
 use Rattle.binary32.specs.Exact.{plusFinite, plus, finer}
 use Rattle.binary32.specs.declared.class.Class.{Class}
 use Rattle.binary32.specs.declared.class.Class.the-variants.{Finite}
-use Rattle.binary32.specs.Classes.{classOf, valueOf}
-use Rattle.binary32.specs.Inner.{Operand, Below}
+use Rattle.binary32.specs.Classes.{classOf, valueOf, Operand, Below}
 use Rattle.binary32.proofs.Classified.{class-value, class-operand}
 use Rattle.binary32.proofs.Exacts.{Sum, near-exact}
 use Rattle.binary32.proofs.Far.{far-below, far-sum}

@@ -7,7 +7,7 @@ use Rattle.rounding.specs.declared.Ties.the-variants.{ToZero}
 use Rattle.rounding.specs.Format.{binary32}
 use Rattle.rounding.specs.Round.{leftOver}
 use Rattle.rounding.specs.Value.{finite, decode, encode, isInfinite}
-use Rattle.binary32.specs.Inner.{Operand}
+use Rattle.binary32.specs.Classes.{Operand}
 use Rattle.augmented.specs.declared.Pair.{Pair}
 use Rattle.augmented.specs.Pairs.{Halves, flagsOf}
 

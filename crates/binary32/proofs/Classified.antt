@@ -16,9 +16,8 @@ use Rattle.rounding.proofs.Codec.{unsigned-finite, unsigned-infinite, unsigned-
 use Rattle.binary32.specs.declared.class.Class.{Class}
 use Rattle.binary32.specs.declared.class.Class.the-variants.{Finite, Infinite, NotANumber}
 use Rattle.binary32.specs.Exact.{negate}
-use Rattle.binary32.specs.Classes.{byField, classOf, valueOf, flip}
+use Rattle.binary32.specs.Classes.{byField, classOf, valueOf, flip, Operand, Below, Descending}
 use Rattle.binary32.specs.Unrounded.{Bounded}
-use Rattle.binary32.specs.Inner.{Operand, Below, Descending}
 
 -- ---- the four cases
 module _ (s : Bool) (m : ℕ) where
@@ -115,7 +114,7 @@ byField-bounded s E m h l =
       ]
     ]
 
-class-bounded : (x : ℕ) → Bounded Operand (classOf x)
+pub class-bounded : (x : ℕ) → Bounded Operand (classOf x)
 unfolding classOf
 class-bounded x = byField-bounded (leb (2 ^ 31) x) (x % 2 ^ 31 / 2 ^ 23) (x % 2 ^ 23) (omega arith) (omega arith)
 

@@ -16,7 +16,7 @@ use Rattle.rounding.proofs.Rounded.{rounded-near}
 use Rattle.rounding.proofs.RoundValue.{round-below}
 use Rattle.rounding.proofs.Spacing.{near-spaced}
 use Rattle.binary32.specs.Exact.{plus, finer}
-use Rattle.binary32.specs.Inner.{Operand}
+use Rattle.binary32.specs.Classes.{Operand}
 use Rattle.binary32.proofs.Sums.{like?, sum-same, sum-left}
 
 -- n * 2 ^ d is below a quarter of 2 ^ e

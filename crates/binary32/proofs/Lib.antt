@@ -8,5 +8,7 @@ pub mod Exacts
 pub mod Jam
 pub mod Products
 pub mod Ordering
+pub mod Picked
+pub mod Infinities
 pub mod Theorems
 pub mod Integers

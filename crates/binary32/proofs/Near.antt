@@ -12,7 +12,7 @@ use Rattle.rounding.proofs.Multiple.{joined}
 use Rattle.rounding.proofs.Bits.{bits-at}
 use Rattle.binary32.specs.Exact.{plusFinite, plus, finer}
 use Rattle.binary32.specs.Steps.{addValue}
-use Rattle.binary32.specs.Inner.{Operand}
+use Rattle.binary32.specs.Classes.{Operand}
 use Rattle.binary32.proofs.Sums.{sum-scale, finer-sum}
 use Rattle.binary32.proofs.Special.{plus-comm}
 

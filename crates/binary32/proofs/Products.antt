@@ -9,8 +9,9 @@ use lib.Count.{leadingZeros, leading-top}
 use lib.Dec.{eqb}
 use lib.Pow.{pow-add, pow-pos, pow-mono, shl-lt}
 use borrow.Author.Tests.{eq-eqb, ne-eqb}
+use Rattle.binary32.specs.Classes.{Operand}
 use Rattle.binary32.specs.Unrounded.{Product}
-use Rattle.binary32.specs.Inner.{Operand, Normal, Reaches}
+use Rattle.binary32.specs.Inner.{Normal, Reaches}
 use Rattle.rounding.proofs.Multiple.{joined}
 
 -- ---- zero or not

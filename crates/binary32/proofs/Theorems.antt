@@ -14,16 +14,27 @@ use Rattle.rounding.proofs.Codec.{decode-encode}
 use Rattle.rounding.proofs.RoundValue.{round-fits}
 use Rattle.binary32.specs.Exact.{negate, plus, times, finer, int}
 use Rattle.binary32.specs.Steps.{addValue, subValue, mulValue, fmaValue, addStep, subStep, fmaStep}
-use Rattle.binary32.specs.Theorems.{ClassDecodes, FlipNegates, PlusExact, TimesExact, RoundedOnce, AddFinite, SubFinite, MulFinite, FmaFinite, NaNResults, AddDecodes, SubDecodes, MulDecodes, FmaDecodes}
-use Rattle.binary32.proofs.Classified.{value-class, decode-flip}
+use Rattle.binary32.specs.Theorems.{ClassDecodes, ClassBounded, LargerFirst, FlipBits, FlipNegates, PlusExact, TimesExact, RoundedOnce, AddFinite, SubFinite, MulFinite, FmaFinite, NaNResults, StepNaN, StepInvalid, StepInfinite, AddDecodes, SubDecodes, MulDecodes, FmaDecodes, All}
+use Rattle.binary32.proofs.Classified as classified
+use Rattle.binary32.proofs.Picked as picked
+use Rattle.binary32.proofs.Infinities as infinities
 use Rattle.binary32.proofs.Integers as integers
 use Rattle.binary32.proofs.Result.{add-step, sub-step, mul-step, fma-step}
 
 pub class-decodes : ClassDecodes
-class-decodes = value-class
+class-decodes = classified.value-class
+
+pub class-bounded : ClassBounded
+class-bounded = classified.class-bounded
+
+pub larger-first : LargerFirst
+larger-first = picked.larger-first
+
+pub flip-bits : FlipBits
+flip-bits = picked.flip-bits
 
 pub flip-negates : FlipNegates
-flip-negates = decode-flip
+flip-negates = classified.decode-flip
 
 pub plus-exact : PlusExact
 plus-exact = integers.plus-exact
@@ -95,4 +106,37 @@ nan-results = (
   λ x y. nan-result _ (subValue binary32 (decode binary32 x) (decode binary32 y)) (sub-step x y) (sub-decodes x y),
   λ x y. nan-result _ (mulValue binary32 (decode binary32 x) (decode binary32 y)) (mul-step x y) (mul-decodes x y),
   λ x y z. nan-result _ (fmaValue binary32 (decode binary32 x) (decode binary32 y) (decode binary32 z)) (fma-step x y z) (fma-decodes x y z),
+)
+
+pub step-nan : StepNaN
+step-nan = infinities.step-nan
+
+pub step-invalid : StepInvalid
+step-invalid = infinities.step-invalid
+
+pub step-infinite : StepInfinite
+step-infinite = infinities.step-infinite
+
+-- ---- all of them
+pub all : All
+all = (
+  class-decodes,
+  class-bounded,
+  larger-first,
+  flip-bits,
+  flip-negates,
+  plus-exact,
+  times-exact,
+  add-finite,
+  sub-finite,
+  mul-finite,
+  fma-finite,
+  nan-results,
+  step-nan,
+  step-invalid,
+  step-infinite,
+  add-decodes,
+  sub-decodes,
+  mul-decodes,
+  fma-decodes,
 )

@@ -3,27 +3,7 @@ use Prim.Native.Nat.{ℕ, _+_, _-_, _*_, _%_, _^_, _≤_, _<_}
 use mathlib.Core.Path.{_≡_}
 use mathlib.Core.Logic.{_⊎_}
 use mathlib.Core.Bool.{Bool}
-use Rattle.binary32.specs.declared.class.Class.{Class}
-use Rattle.binary32.specs.declared.class.Class.the-variants.{Finite, Infinite, NotANumber}
 use Rattle.binary32.specs.declared.fused.Addends.{Addends}
-
--- ---- bounds of the significands and exponents that the code holds
--- of an operand: 24 digits at most, and all of them where the exponent could be lower
-pub record Operand (m e : ℕ) : Type 0 where
-  pub sig : m < 2 ^ 24
-  pub exp : e ≤ 253
-  pub leads : 0 < e → 2 ^ 23 ≤ m
-
--- the exponent of a second addend is not above that of the first
-abbrev pub Below : ℕ → Class → Type 0
-Below e (Finite t n d) = d ≤ e
-Below e (Infinite t) = Unit {0}
-Below e NotANumber = Unit {0}
-
-abbrev pub Descending : Class → Class → Type 0
-Descending (Finite s m e) b = Below e b
-Descending (Infinite s) b = Unit {0}
-Descending NotANumber b = Unit {0}
 
 -- ---- parts of a fused sum
 -- a * 2 ^ k is c * 2 ^ j, with all 24 digits

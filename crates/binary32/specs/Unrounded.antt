@@ -8,7 +8,7 @@ use Rattle.binary32.specs.declared.class.Class.{Class}
 use Rattle.binary32.specs.declared.class.Class.the-variants.{Finite, Infinite, NotANumber}
 use Rattle.binary32.specs.Classes.{valueOf}
 
--- by magnitude; the first where both are equal
+-- by magnitude; where both are equal the first is the larger and the second the smaller
 abbrev pub larger : ℕ → ℕ → ℕ
 larger x y = cond (ltb (x % 2 ^ 31) (y % 2 ^ 31)) y x
 

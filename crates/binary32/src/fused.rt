@@ -13,9 +13,9 @@ ghost use Rattle.rounding.specs.declared.Ties.the-variants.{ToEven};
 ghost use Rattle.rounding.specs.Format.{binary32};
 ghost use Rattle.rounding.specs.Value.{finite, encode, round};
 ghost use Rattle.binary32.specs.Exact.{plusFinite, plus, finer};
-ghost use Rattle.binary32.specs.Classes.{valueOf};
+ghost use Rattle.binary32.specs.Classes.{valueOf, Operand};
 ghost use Rattle.binary32.specs.Unrounded.{Product, Bounded};
-ghost use Rattle.binary32.specs.Inner.{Operand, Normal, Ordered, Reaches, Jammed};
+ghost use Rattle.binary32.specs.Inner.{Normal, Ordered, Reaches, Jammed};
 
 // A product, which counts 2^-298, and a third operand, which counts 2^-149.
 pub fn product_plus(p: Class, z: Class) -> u32

@@ -9,9 +9,8 @@ ghost use Rattle.rounding.specs.declared.Ties.the-variants.{ToEven};
 ghost use Rattle.rounding.specs.Format.{binary32};
 ghost use Rattle.rounding.specs.Value.{infinite, finite, encode, round};
 ghost use Rattle.binary32.specs.Exact.{times};
-ghost use Rattle.binary32.specs.Classes.{valueOf};
+ghost use Rattle.binary32.specs.Classes.{valueOf, Operand};
 ghost use Rattle.binary32.specs.Unrounded.{Bounded, ProductIs};
-ghost use Rattle.binary32.specs.Inner.{Operand};
 
 // The exact product, in units of 2^-298.
 pub fn times(a: Class, b: Class) -> Class

@@ -16,9 +16,8 @@ ghost use Rattle.rounding.specs.Format.{binary32};
 ghost use Rattle.rounding.specs.Value.{infinite, finite, decode, encode, round};
 ghost use Rattle.binary32.specs.Exact.{plusFinite, plus};
 ghost use Rattle.binary32.specs.Steps.{addValue};
-ghost use Rattle.binary32.specs.Classes.{valueOf};
+ghost use Rattle.binary32.specs.Classes.{valueOf, Operand, Below, Descending};
 ghost use Rattle.binary32.specs.Unrounded.{Bounded};
-ghost use Rattle.binary32.specs.Inner.{Operand, Below, Descending};
 
 // The sum of two patterns.
 pub fn of_patterns(x: u32, y: u32) -> u32

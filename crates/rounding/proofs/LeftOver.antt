@@ -8,10 +8,11 @@ use native.Mathlib.Omega.{arith}
 use lib.Count.{leadingZeros, leading-top}
 use lib.Dec.{ltb}
 use lib.Pow.{pow-pos, pow-mono, pow-lt, shl-lt}
-use borrow.Author.Tests.{lt-ltb, le-ltb}
+use borrow.Author.Tests.{ltb-true, ltb-false, lt-ltb, le-ltb}
 use Rattle.rounding.specs.declared.Ties.{Ties}
 use Rattle.rounding.specs.Round.{keep, rounded, leftOver, roundedUp}
 use Rattle.rounding.specs.Nearest.{dist, Rep}
+use Rattle.rounding.specs.Theorems.{LeftOverIs}
 use Rattle.rounding.proofs.Keep.{keep-whole}
 use Rattle.rounding.proofs.Multiple.{joined, split-unit, sub-mul}
 use Rattle.rounding.proofs.Remainder.{shifted-back}
@@ -28,6 +29,12 @@ ltb-scale a b c p =
       | yes h ↦ le-ltb (a * c) (b * c) (mul-le-mul-right c h) ∙ sym (le-ltb a b h)
       | no h ↦ let l : a < b = omega arith in lt-ltb (a * c) (b * c) (mul-lt-mul-of-pos-right l p) ∙ sym (lt-ltb a b l)
     ]
+
+-- ---- from the rounded number to the exact one
+pub left-over-is : LeftOverIs
+left-over-is t f L N =
+    let a = rounded t f L N * 2 ^ L in
+    (λ e. let h : N < a = ltb-true N a e in (omega arith, omega arith), λ e. let h : a ≤ N = ltb-false N a e in omega arith)
 
 -- ---- of a sum or a difference, of which one number is representable, no more than the other one
 pub left-sum : (t : Ties) (f L X Y : ℕ) → Rep (suc f) L X → leftOver t f L (X + Y) ≤ Y

@@ -10,6 +10,7 @@ pub mod HalfPlace
 pub mod Sticky
 pub mod Bits
 pub mod Codec
+pub mod Signalling
 pub mod Scaled
 pub mod Halfway
 pub mod Even

@@ -9,19 +9,21 @@ use Rattle.rounding.specs.Format.{Format, binary32, Proper, low, limit, 
 use Rattle.rounding.specs.Round.{rounded}
 use Rattle.rounding.specs.Nearest.{dist}
 use Rattle.rounding.specs.Value.{finite, Fits, fields, magnitude, decode, signalling, signed, bits, encode}
-use Rattle.rounding.specs.Theorems.{Binary32Numbers, Nearest, TieToZero, TieToEven, TieNeighbour, TieToZeroUnique, HalfUnit, RulesDiffer, Exact, Monotone, Scaling, RoundToOdd, OverflowRNe, OverflowRN0, NearestPattern, TieToEvenPattern, TieToZeroPattern, DecodeLandmarks, SignallingLandmarks, LargestFinite, BitsOrder, DecodeEncode, EncodeDecode, DecodeFits, RoundFits}
+use Rattle.rounding.specs.Theorems.{Binary32Numbers, Nearest, TieToZero, TieToEven, TieNeighbour, TieToZeroUnique, HalfUnit, RulesDiffer, LeftOverIs, Exact, Monotone, Scaling, RoundToOdd, OverflowRNe, OverflowRN0, NearestPattern, TieToEvenPattern, TieToZeroPattern, DecodeLandmarks, SignallingLandmarks, SignallingRange, LargestFinite, BitsOrder, DecodeEncode, EncodeDecode, DecodeFits, RoundFits, All}
 use Rattle.rounding.specs.declared.Ties.the-variants.{ToEven, ToZero}
 use Rattle.rounding.proofs.Rounded.{rounded-near, rounded-near0, rounded-half, rounded-differ, rounded-exact, rounded-mono, rounded-scale}
 use Rattle.rounding.proofs.Even.{rounded-even, neighbour-odd}
 use Rattle.rounding.proofs.Sticky.{odd}
 use Rattle.rounding.proofs.Codec as codec
+use Rattle.rounding.proofs.LeftOver as left-over
+use Rattle.rounding.proofs.Signalling as quiet-bit
 use Rattle.rounding.proofs.Bits.{magnitude-lt, magnitude-mono, magnitude-bits}
 use Rattle.rounding.proofs.NearLaws.{near0-one}
 use Rattle.rounding.proofs.RoundValue as values
 
 pub binary32-numbers : Binary32Numbers
 unfolding limit edge
-binary32-numbers = (refl, refl, refl, λ operands. refl, refl, refl)
+binary32-numbers = (refl, refl, refl, λ operands. refl, refl, refl, omega arith)
 
 pub nearest : Nearest
 nearest = rounded-near
@@ -43,6 +45,9 @@ half-unit = rounded-half
 
 pub rules-differ : RulesDiffer
 rules-differ = rounded-differ
+
+pub left-over-is : LeftOverIs
+left-over-is = left-over.left-over-is
 
 pub exact : Exact
 exact = rounded-exact
@@ -96,7 +101,10 @@ decode-landmarks = (refl, refl, refl, refl, refl, refl, refl, refl, refl, refl)
 
 pub signalling-landmarks : SignallingLandmarks
 unfolding signalling
-signalling-landmarks = (refl, refl, refl, refl, refl, refl, refl, refl)
+signalling-landmarks = (refl, refl, refl, refl, refl, refl, refl, refl, refl, refl, refl, refl)
+
+pub signalling-range : SignallingRange
+signalling-range = quiet-bit.signalling-range
 
 pub largest-finite : LargestFinite
 unfolding Fits
@@ -120,3 +128,35 @@ decode-fits F ok = codec.decode-fits F (ok .0)
 
 pub round-fits : RoundFits
 round-fits = values.round-fits
+
+-- ---- all of them
+pub all : All
+all = (
+  binary32-numbers,
+  nearest,
+  tie-to-zero,
+  tie-to-even,
+  tie-neighbour,
+  tie-to-zero-unique,
+  half-unit,
+  rules-differ,
+  left-over-is,
+  exact,
+  monotone,
+  scaling,
+  round-to-odd,
+  overflow-rne,
+  overflow-rn0,
+  nearest-pattern,
+  tie-to-even-pattern,
+  tie-to-zero-pattern,
+  decode-landmarks,
+  signalling-landmarks,
+  signalling-range,
+  largest-finite,
+  bits-order,
+  decode-encode,
+  encode-decode,
+  decode-fits,
+  round-fits,
+)

@@ -1,21 +1,22 @@
 -- What is proved of patterns and rounding. Each name is a statement; `proofs/Theorems.antt` has its proof. Assumes nothing.
 use mathlib.Core.Path.{_≡_}
 use mathlib.Core.Logic.{_⊎_, _≢_}
-use mathlib.Core.Bool.{Bool, true, false}
+use mathlib.Core.Bool.{Bool, true, false, _&&_}
 use mathlib.Core.List.{List}
 use Prim.Native.Nat.{ℕ, suc, _+_, _-_, _*_, _%_, _^_, _≤_, _<_}
+use lib.Dec.{ltb}
 use Rattle.rounding.specs.declared.Ties.{Ties}
 use Rattle.rounding.specs.declared.Ties.the-variants.{ToEven, ToZero}
 use Rattle.rounding.specs.Format.{Format, binary32, Proper, low, limit, edge, infinity, signBit}
-use Rattle.rounding.specs.Round.{lastPlace, rounded}
+use Rattle.rounding.specs.Round.{lastPlace, rounded, leftOver, roundedUp}
 use Rattle.rounding.specs.Nearest.{dist, Rep, Near, Near0}
 use Rattle.rounding.specs.Value.{Value, nan, infinite, finite, Fits, magnitude, decode, signalling, nanOf, bits, encode, roundFinite, round}
 
--- ---- document 01's numbers of binary32: u = 2 ^ -149, +infinity, the sign bit, the NaN, 2 ^ 128, and the edge 2 ^ 128 - 2 ^ 103
+-- ---- document 01's numbers of binary32: u = 2 ^ -149, +infinity, the sign bit, the NaN, 2 ^ 128, and the edge 2 ^ 128 - 2 ^ 103; and what is asked of a format
 abbrev pub Binary32Numbers : Type 0
 Binary32Numbers =
     (low binary32 ≡ 149) × (infinity binary32 ≡ 0x7f80_0000) × (signBit binary32 ≡ 0x8000_0000) × ((operands : List ℕ) → nanOf binary32 operands ≡ 0x7fc0_0000)
-    × (limit binary32 ≡ 2 ^ 128 * 2 ^ 149) × (edge binary32 ≡ (2 ^ 128 - 2 ^ 103) * 2 ^ 298)
+    × (limit binary32 ≡ 2 ^ 128 * 2 ^ 149) × (edge binary32 ≡ (2 ^ 128 - 2 ^ 103) * 2 ^ 298) × Proper binary32
 
 -- ---- nearest, for every precision and every lowest exponent
 -- the rounded number is representable, and no representable number is nearer
@@ -50,6 +51,12 @@ abbrev pub RulesDiffer : Type 0
 RulesDiffer =
     (f L N : ℕ) → (rounded ToEven f L N ≡ rounded ToZero f L N)
     ⊎ ((N < rounded ToEven f L N * 2 ^ L) × (rounded ToZero f L N * 2 ^ L + rounded ToEven f L N * 2 ^ L ≡ 2 * N))
+
+-- "the exact rest": what is left over goes from the rounded number to N, downward and not 0 where N was rounded up, else upward
+abbrev pub LeftOverIs : Type 0
+LeftOverIs =
+    (t : Ties) (f L N : ℕ) → (roundedUp t f L N ≡ true → (rounded t f L N * 2 ^ L ≡ N + leftOver t f L N) × (0 < leftOver t f L N))
+    × (roundedUp t f L N ≡ false → rounded t f L N * 2 ^ L + leftOver t f L N ≡ N)
 
 -- ---- exact, monotone, scaled, and after rounding to odd
 abbrev pub Exact : Type 0
@@ -101,11 +108,17 @@ DecodeLandmarks =
     × (decode binary32 0x3f80_0000 ≡ finite false (2 ^ 149)) × (decode binary32 0x8000_0000 ≡ finite true 0) × (decode binary32 0x7f7f_ffff ≡ finite false ((2 ^ 128 - 2 ^ 104) * 2 ^ 149))
     × (decode binary32 0x7f80_0000 ≡ infinite false) × (decode binary32 0xff80_0000 ≡ infinite true) × (decode binary32 0x7f80_0001 ≡ nan) × (decode binary32 0x7fc0_0000 ≡ nan)
 
--- the first and the last signalling pattern of either sign; quiet ones beside them, and what is no NaN
+-- the first and the last signalling pattern of either sign, and two between them; quiet ones beside them, and what is no NaN
 abbrev pub SignallingLandmarks : Type 0
 SignallingLandmarks =
     (signalling binary32 0x7f80_0001 ≡ true) × (signalling binary32 0x7fbf_ffff ≡ true) × (signalling binary32 0xff80_0001 ≡ true) × (signalling binary32 0xffbf_ffff ≡ true)
+    × (signalling binary32 0x7f80_0002 ≡ true) × (signalling binary32 0x7fa0_0000 ≡ true) × (signalling binary32 0x7fc0_0001 ≡ false) × (signalling binary32 0xffc0_0000 ≡ false)
     × (signalling binary32 0x7fc0_0000 ≡ false) × (signalling binary32 0xffff_ffff ≡ false) × (signalling binary32 0x7f80_0000 ≡ false) × (signalling binary32 0x3f80_0000 ≡ false)
+
+-- "A NaN is signalling when fraction bit 22 is 0": the patterns of either sign above the infinity's and below its sum with that bit
+abbrev pub SignallingRange : Type 0
+SignallingRange =
+    (F : Format) → Proper F → (x : ℕ) → signalling F x ≡ ltb (infinity F) (x % signBit F) && ltb (x % signBit F) (infinity F + 2 ^ (F .fraction - 1))
 
 -- document 01: "Ω = 7F7FFFFF"; no finite magnitude is above it
 abbrev pub LargestFinite : Type 0
@@ -129,3 +142,9 @@ DecodeFits = (F : Format) → Proper F → (x : ℕ) → Fits F (decode F x)
 
 abbrev pub RoundFits : Type 0
 RoundFits = (t : Ties) (F : Format) (v : Value) → Fits F (round t F v)
+
+-- ---- all of them: `proofs/Theorems.antt` proves this
+abbrev pub All : Type 0
+All =
+    Binary32Numbers × Nearest × TieToZero × TieToEven × TieNeighbour × TieToZeroUnique × HalfUnit × RulesDiffer × LeftOverIs × Exact × Monotone × Scaling × RoundToOdd
+    × OverflowRNe × OverflowRN0 × NearestPattern × TieToEvenPattern × TieToZeroPattern × DecodeLandmarks × SignallingLandmarks × SignallingRange × LargestFinite × BitsOrder × DecodeEncode × EncodeDecode × DecodeFits × RoundFits

@@ -4,9 +4,8 @@ use Prim.Native.Nat.{ℕ}
 use Rattle.rounding.specs.Format.{binary32}
 use Rattle.rounding.specs.Value.{Value}
 use Rattle.binary32.specs.Exact.{finer}
-use Rattle.binary32.specs.Classes.{classOf, valueOf}
+use Rattle.binary32.specs.Classes.{classOf, valueOf, Descending}
 use Rattle.binary32.specs.Unrounded.{larger, smaller}
-use Rattle.binary32.specs.Inner.{Descending}
 use Rattle.binary32.proofs.Classified.{picked-descending}
 use Rattle.binary32.proofs.Exacts.{ordered-sum}
 use Rattle.augmented.specs.Pairs.{pairOf, exactSum}

@@ -2,8 +2,7 @@ use borrow.Author.Needs.{needs}
 use Rattle.rounding.specs.Format.{binary32}
 use Rattle.rounding.specs.Value.{encode, round}
 use Rattle.binary32.specs.Exact.{plusFinite, plus, finer}
-use Rattle.binary32.specs.Classes.{valueOf}
-use Rattle.binary32.specs.Inner.{Operand}
+use Rattle.binary32.specs.Classes.{valueOf, Operand}
 use mathlib.Core.Path.{refl, sym, ap, _∙_}
 use Prim.Native.Nat.{ℕ, _+_, _*_, _^_}
 use native.Mathlib.Omega.{arith}

@@ -131,14 +131,14 @@ module _ (s : Bool) (m e : ℕ) (short : ShortRest m e) (rest : ℕ) (rest-is : 
         ],
       )
 
-      pub with-rest-is : (d half : ℕ) → d ≡ encode binary32 (finite (cond (eqb rest 0) s (unlike s (up binary32 s N))) (rest * 2 ^ unit)) → half ≡ cond over c d → Halved s N c half over
-      with-rest-is d half d-is half-is =
+      pub with-rest-is : (v : Bool) → v ≡ roundedUp ToZero 23 149 N → (d half : ℕ) → d ≡ encode binary32 (finite (cond (eqb rest 0) s (unlike s v)) (rest * 2 ^ unit)) → half ≡ cond over c d → Halved s N c half over
+      with-rest-is v v-is d half d-is half-is =
           elim (decLe (limit binary32) (head binary32 s N)) [
             | yes h ↦ rw (half-is, when-infinite h) (halved-infinite s N h c is)
             | no h ↦
                 let l : head binary32 s N < limit binary32 = omega arith in
                 let z : unit ≡ e - 149 = rw (when-finite l) at unit-is in
-                rw (half-is, when-finite l) (halved-finite s N l c d is (d-is ∙ rw (z, ← tail-is, ← tail-none) refl))
+                rw (half-is, when-finite l) (halved-finite s N l c d is (d-is ∙ rw (v-is, z, ← tail-is, ← tail-none) refl))
           ]
 
 -- what is left over of a multiple of 2 ^ e is one

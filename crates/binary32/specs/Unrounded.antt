@@ -16,7 +16,7 @@ abbrev pub smaller : ℕ → ℕ → ℕ
 smaller x y = cond (ltb (x % 2 ^ 31) (y % 2 ^ 31)) x y
 
 -- ---- products
--- of a product of two operands
+-- bounds of the significand and the exponent of a product of two operands, in u * u
 pub record Product (m e : ℕ) : Type 0 where
   pub sig : m < 2 ^ 48
   pub exp : e ≤ 506

@@ -1,11 +1,6 @@
 use borrow.Author.Needs.{needs}
-use mathlib.Core.Path.{ap, _∙_}
-use mathlib.Core.Bool.{Bool, cond}
+use mathlib.Core.Path.{_∙_}
 use Prim.Native.Nat.{_*_, _^_}
-use lib.Dec.{eqb}
-use lib.Ieee.{unlike}
-use Rattle.rounding.specs.Format.{binary32}
-use Rattle.rounding.specs.Value.{finite, encode}
 use Rattle.augmented.proofs.Rests.{rest-fits, with-rest-is, halved-word}
 use Rattle.augmented.proofs.sums.near.Statement.{statement}
 use Rattle.augmented.proofs.sums.near.Tie as tie
@@ -40,8 +35,7 @@ returns c =
     let u = p .before in
     let f = u .before .before in
     let b = f .before in
-    let second = p .packed .ensures ∙ ap (λ (v : Bool). encode binary32 (finite (cond (eqb (f .round-with-rest .result .rest) 0) (b .args .sign) (unlike (b .args .sign) v)) (f .round-with-rest .result .rest * 2 ^ u .pick-exponent .result))) (f .round-with-rest .ensures .1 .1) in
-    let halves = with-rest-is (b .args .sign) (b .args .sig) (b .args .exp) (b .pre) _ (f .round-with-rest .ensures .1 .0) _ _ (f .round-with-rest .ensures .0) (u .before .is-infinite .ensures) _ (u .pick-exponent .ensures) _ _ second (c .before .pick-pattern .ensures) in
+    let halves = with-rest-is (b .args .sign) (b .args .sig) (b .args .exp) (b .pre) _ (f .round-with-rest .ensures .1 .0) _ _ (f .round-with-rest .ensures .0) (u .before .is-infinite .ensures) _ (u .pick-exponent .ensures) _ (f .round-with-rest .ensures .1 .1) _ _ (p .packed .ensures) (c .before .pick-pattern .ensures) in
     c .joined .ensures ∙ halved-word (b .args .sign) (b .args .sig * 2 ^ b .args .exp) halves
 
 pub near-spec : {M : Type 1} → statement M

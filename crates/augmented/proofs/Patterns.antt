@@ -15,7 +15,7 @@ use Rattle.rounding.proofs.Representable.{rep-zero}
 use Rattle.rounding.proofs.Bits.{bits-at, magnitude-bits}
 use Rattle.rounding.proofs.Codec.{bits-below, unsigned-finite, unsigned-infinite, unsigned-nan}
 use Rattle.augmented.specs.Pairs.{zeroTakes}
-use Rattle.augmented.specs.Inner.{zeroPattern}
+use Rattle.augmented.specs.Half.{zeroPattern}
 
 -- ---- NaN
 nan-unsigned : (s : Bool) (c : ℕ) → ltb 0x7f80_0000 c ≡ isNaN (unsigned binary32 s c)

@@ -23,7 +23,8 @@ use Rattle.rounding.proofs.RoundValue.{round-below, round-above}
 use Rattle.binary32.proofs.Products.{none, some-left}
 use Rattle.augmented.specs.declared.Pair.{Pair}
 use Rattle.augmented.specs.Pairs.{zeroTakes, pairOf, underflowed, flagsOf}
-use Rattle.augmented.specs.Inner.{join, finitePair, zeroPattern, ShortRest}
+use Rattle.augmented.specs.Half.{zeroPattern}
+use Rattle.augmented.specs.Inner.{join, finitePair, ShortRest}
 use Rattle.augmented.proofs.Second.{head, left, up, tail, tail-le, first-finite, pair-second, first-infinite, second-infinite, underflowed-is}
 use Rattle.augmented.proofs.Patterns.{finite-shows, infinite-shows, zero-pattern}
 use Rattle.augmented.proofs.Answered.{same-pair}

@@ -28,7 +28,8 @@ use Rattle.binary32.proofs.Exacts.{Sum, near-exact}
 use Rattle.binary32.proofs.Far.{far-below, far-sum}
 use Rattle.binary32.proofs.Sums.{like?, like-eq, sum-same, sum-left, finer-sum}
 use Rattle.augmented.specs.Pairs.{zeroTakes, secondOf, pairOf, exactSum}
-use Rattle.augmented.specs.Inner.{join, zeroPattern, Apart}
+use Rattle.augmented.specs.Half.{zeroPattern}
+use Rattle.augmented.specs.Inner.{join, Apart}
 use Rattle.augmented.proofs.Patterns.{zero-pattern}
 use Rattle.augmented.proofs.Second.{second-is, side, unlike-true, unlike-false}
 

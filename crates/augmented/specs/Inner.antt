@@ -1,8 +1,7 @@
 -- What the crate's inner functions ask and promise. No public contract cites it. Assumes nothing.
-use Prim.Native.Nat.{ℕ, _+_, _*_, _%_, _^_, _≤_, _<_}
+use Prim.Native.Nat.{ℕ, _+_, _*_, _^_, _≤_, _<_}
 use mathlib.Core.Path.{_≡_}
-use mathlib.Core.Bool.{Bool, false, cond}
-use lib.Dec.{eqb}
+use mathlib.Core.Bool.{Bool, false}
 use Rattle.rounding.specs.declared.Ties.the-variants.{ToZero}
 use Rattle.rounding.specs.Format.{binary32}
 use Rattle.rounding.specs.Round.{leftOver}
@@ -18,10 +17,6 @@ join p = encode binary32 (p .first) + encode binary32 (p .second) * 2 ^ 32
 -- the answer of finite operands
 abbrev pub finitePair : Halves → Bool → Pair
 finitePair p u = record { first = encode binary32 (p .first); second = encode binary32 (p .second); flags = flagsOf false (isInfinite (p .first)) u }
-
--- a zero's pattern gets the sign s
-abbrev pub zeroPattern : Bool → ℕ → ℕ
-zeroPattern s c = cond (eqb (c % 2 ^ 31) 0) (cond s (2 ^ 31) 0) c
 
 -- what rounding leaves of m * 2 ^ e has at most 24 digits, and none below u
 pub record ShortRest (m e : ℕ) : Type 0 where

@@ -1,4 +1,5 @@
 // Direct pairs of two binary32 patterns: the result rounded to nearest with ties to zero, RN0 of what that left over, and the flags.
+pub mod half;
 mod parts;
 mod products;
 mod raised;

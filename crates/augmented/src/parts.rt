@@ -9,7 +9,6 @@ ghost use lib.Dec.{eqb, ltb};
 ghost use lib.Ieee.{unlike};
 ghost use Rattle.rounding.specs.Format.{binary32, limit};
 ghost use Rattle.rounding.specs.Value.{finite, encode};
-ghost use Rattle.augmented.specs.Inner.{zeroPattern};
 
 pub fn is_finite(pattern: u32) -> bool
     ensures { λ r. ⌜ r ≡ ltb (pattern % 2 ^ 31) 0x7f80_0000 ⌝ }
@@ -36,17 +35,6 @@ pub fn packed(sign: bool, up: bool, rest: u64, unit: u16) -> u32
     let bits = (field as u64) * 0x80_0000 + (rest << shift);
     let minus = pick_sign(zero, sign, sign != up);
     (bits as u32) + pick_pattern(minus, 0x8000_0000, 0)
-}
-
-// A zero second takes first's sign.
-pub fn zero_takes(sign: bool, second: u32) -> u32
-    ensures { λ r. ⌜ r ≡ zeroPattern sign second ⌝ }
-{
-    pick_pattern(
-        second % 0x8000_0000 == 0,
-        pick_pattern(sign, 0x8000_0000, 0),
-        second,
-    )
 }
 
 // First in the lower half of a word, second in the upper.

@@ -1,9 +1,9 @@
 // Product pairs.
 use crate::Flags;
 use crate::Pair;
+use crate::half::zero_takes;
 use crate::parts::is_infinite;
 use crate::parts::packed;
-use crate::parts::zero_takes;
 use crate::raised;
 use binary32::class::Class;
 use binary32::class::NAN;

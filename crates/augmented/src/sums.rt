@@ -1,11 +1,11 @@
 // Sum pairs. Both halves come back in one word, which goes in a register; what is large here is compiled once for sums and differences.
 use crate::Flags;
 use crate::Pair;
+use crate::half::zero_takes;
 use crate::parts::is_finite;
 use crate::parts::is_infinite;
 use crate::parts::joined;
 use crate::parts::packed;
-use crate::parts::zero_takes;
 use crate::raised;
 use binary32::class::Class;
 use binary32::class::classify;

@@ -3,8 +3,8 @@ use mathlib.Core.Path.{ap, _∙_}
 use mathlib.Core.Bool.{cond}
 use Prim.Native.Nat.{ℕ, _%_, _^_}
 use lib.Dec.{eqb}
-use Rattle.augmented.proofs.parts.zero_takes.Statement.{statement}
-use Rattle.augmented.proofs.parts.zero_takes.Tie as tie
+use Rattle.augmented.proofs.half.zero_takes.Statement.{statement}
+use Rattle.augmented.proofs.half.zero_takes.Tie as tie
 
 pick-pattern-requires : tie.Need-pick-pattern-requires
 pick-pattern-requires c κs = search needs

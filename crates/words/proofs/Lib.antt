@@ -1,0 +1,6 @@
+pub mod Carry
+pub mod Signed
+pub mod TwosComplement
+pub mod Parts
+pub mod Significand
+pub mod Theorems

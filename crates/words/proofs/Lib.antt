@@ -1,6 +1,7 @@
 pub mod Carry
 pub mod Signed
 pub mod TwosComplement
+pub mod Append
 pub mod Parts
 pub mod Significand
 pub mod Theorems

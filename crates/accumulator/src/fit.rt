@@ -1,0 +1,59 @@
+// Whether a total is fit: its top words tell, but at the limit itself.
+use rounding::pick::pick_pattern;
+ghost use mathlib.Core.Path.{_≡_};
+ghost use mathlib.Core.Bool.{not, cond, _&&_};
+ghost use Prim.Native.Nat.{_-_};
+ghost use lib.Dec.{eqb};
+ghost use lib.ListN.{length};
+ghost use Rattle.words.specs.Words.{natural, complement};
+ghost use Rattle.accumulator.specs.Totals.{fit};
+
+// The limit is count * 1024 times the weight of word 17. A negative number is below it where its complement, which is smaller
+// by one, is: no negation, so that -2^639 needs no care.
+pub fn is_fit(total: &[u32]) -> bool
+    requires { ⌜ length (now total) ≡ 21 ⌝ }
+    ensures { λ r. ⌜ r ≡ fit (now (total .entry)) ⌝ }
+{
+    let n = total[20];
+    if n > 65536 {
+        return false;
+    }
+    let minus = total[19] >= 0x8000_0000;
+    if turned(minus, total[19]) != 0 {
+        return false;
+    }
+    if turned(minus, total[18]) != 0 {
+        return false;
+    }
+    let top = turned(minus, total[17]);
+    if top < n * 1024 {
+        return true;
+    }
+    if minus {
+        return false;
+    }
+    if top > n * 1024 {
+        return false;
+    }
+    is_zero(&total[0..17])
+}
+
+// The word itself, or its complement.
+fn turned(minus: bool, w: u32) -> u32
+    ensures { λ r. ⌜ r ≡ cond minus (complement w) w ⌝ }
+{
+    pick_pattern(minus, 0xffff_ffff - w, w)
+}
+
+fn is_zero(words: &[u32]) -> bool
+    ensures { λ r. ⌜ r ≡ eqb (natural (now (words .entry))) 0 ⌝ }
+{
+    let mut i: usize = 0;
+    while i < words.len() {
+        if words[i] != 0 {
+            return false;
+        }
+        i += 1;
+    }
+    true
+}

@@ -1,18 +1,19 @@
 -- One term: when a total accepts it, that the sum is exact and the total fit again, and that a refused term changes nothing. Assumes nothing.
-use mathlib.Core.Path.{_≡_, refl, sym}
+use mathlib.Core.Path.{_≡_, refl, sym, ap}
 use mathlib.Core.Bool.{Bool, true, false, not, cond, _&&_}
 use mathlib.Core.List.{List}
 use Prim.Native.Nat.{ℕ, suc, _+_, _*_, _^_, _≤_, _<_}
 use native.Mathlib.Decide.{decLe}
-use native.Mathlib.Nat.{le-trans, le-of-eq, lt-of-le-of-lt, mul-le-mul-right, add-le-add, suc-mul}
+use native.Mathlib.Nat.{le-trans, le-of-eq, lt-of-le-of-lt, lt-irrefl, mul-le-mul-right, add-le-add, suc-mul}
 use native.Mathlib.Omega.{arith}
 use borrow.Author.Tests.{lt-ltb, le-ltb, le-leb, leb-true, eq-eqb, eqb-true, eqb-false, ne-eqb}
 use lib.Dec.{eqb, leb, lit<}
 use lib.IntN.{ℤ, pos, negsuc, natAbs, subℕ, _+ℤ_}
 use lib.ListN.{length}
 use Rattle.words.specs.Words.{Words}
-use Rattle.accumulator.specs.Totals.{number, count, totalOf, fit, Term, finiteOperands, exactTerm, whole, Answer, refused, done, adding, afterAdding}
-use Rattle.accumulator.specs.Theorems.{Fit, AcceptedTerm, ExactTerm, RefusedTerm}
+use Rattle.accumulator.specs.Totals.{number, count, totalOf, fit, Term, finiteOperands, exactTerm, whole, Answer, refused, done, adding}
+use Rattle.accumulator.specs.Theorems.{Fit, FitIs, LowestUnfit, AcceptedTerm, ExactTerm}
+use Rattle.accumulator.proofs.Answers.{adding-done, after-done}
 use Rattle.accumulator.proofs.Held.{total-number, total-count, total-full, total-words}
 use Rattle.accumulator.proofs.TermBound.{untrue, term-bound}
 
@@ -53,6 +54,16 @@ pub bounds-fit : (t : List ℕ) → count t ≤ 65536 → natAbs (number t) ≤ 
 unfolding fit
 bounds-fit t h l = rw (le-leb (count t) 65536 h, le-leb (natAbs (number t)) (count t * 2 ^ 554) l)
 
+pub fit-is : FitIs
+fit-is t = (fit-bounds t, λ b. bounds-fit t (b .0) (b .1))
+
+pub lowest-unfit : LowestUnfit
+lowest-unfit t e = refute (fit t) (λ f. let b = fit-bounds t f in lt-irrefl _ (lt-of-le-of-lt (le-of-eq (sym (ap natAbs e))) (sum-room (natAbs (number t)) (count t) (b .0) (b .1))))
+  where
+    refute : (b : Bool) → (b ≡ true → ⊥) → b ≡ false
+    refute true h = absurd (h refl)
+    refute false h = refl
+
 pub total-fit : (z : ℤ) (n : ℕ) → n ≤ 65536 → natAbs z ≤ n * 2 ^ 554 → Fit (totalOf z n)
 total-fit z n h l =
     let c = total-count z n in
@@ -89,12 +100,7 @@ module _ (t : List ℕ) (x : Term) where
       (record { full = eqb-true (length t) 21 (p .0); words = k; fits = p .1 }, p .2, less)
 
   pub accepts : Fit t → finiteOperands x ≡ true → count t < 65536 → adding t x ≡ done
-  unfolding adding
-  accepts f e h = rw (eq-eqb (length t) 21 (f .full), f .fits, e, ne-eqb (count t) 65536 (λ (q : count t ≡ 65536). omega arith))
-
-  pub after-accepted : adding t x ≡ done → afterAdding t x ≡ totalOf (number t +ℤ whole (exactTerm x)) (suc (count t))
-  unfolding afterAdding
-  after-accepted e = rw e
+  accepts f e h = adding-done t x (f .full) (f .fits) e (λ (q : count t ≡ 65536). omega arith)
 
 pub accepted-term : AcceptedTerm
 accepted-term t x k = (accepted t x k, accepts t x)
@@ -106,8 +112,4 @@ exact-term t x k e =
     let z = number t +ℤ whole (exactTerm x) in
     let n = suc (count t) in
     let m : natAbs z ≤ n * 2 ^ 554 = one-more (number t) (count t) x (b .1) (p .1) in
-    rw (after-accepted t x e) (total-fit z n (p .2) m, total-number z n (sum-room (natAbs z) n (p .2) m), total-count z n)
-
-pub refused-term : RefusedTerm
-unfolding afterAdding
-refused-term t x n e = rw e
+    rw (after-done t x e) (total-fit z n (p .2) m, total-number z n (sum-room (natAbs z) n (p .2) m), total-count z n)

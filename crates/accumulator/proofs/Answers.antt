@@ -8,6 +8,7 @@ use lib.ListN.{length, replicate}
 use lib.IntN.{_+ℤ_}
 use Rattle.rounding.specs.Format.{binary32}
 use Rattle.augmented.specs.Pairs.{pairOf}
+use Rattle.accumulator.specs.Theorems.{RefusedTerm, AddingRefused, ReadingRefused, Clears}
 use Rattle.accumulator.specs.Totals.{number, count, totalOf, fit, Term, finiteOperands, exactTerm, whole, Answer, refused, done, isDone, adding, afterAdding, clearing, afterClearing, exact, patterns, reading}
 
 -- ---- clearing
@@ -69,3 +70,16 @@ module _ (t : List ℕ) where
   pub reading-pair : length t ≡ 21 → fit t ≡ true → reading t ≡ patterns (pairOf binary32 (exact (number t)))
   unfolding reading
   reading-pair full f = rw (eq-eqb (length t) 21 full, f)
+
+-- ---- as they are stated
+pub refused-term : RefusedTerm
+refused-term t x n e = after-refused t x n e
+
+pub adding-refused : AddingRefused
+adding-refused t x = (adding-length t x, adding-unfit t x, adding-special t x, adding-full t x)
+
+pub reading-refused : ReadingRefused
+reading-refused t = (reading-length t, reading-unfit t)
+
+pub clears : Clears
+clears t = (λ n. let c = clearing-length t n in (sym (c .0), sym (c .1)), λ h. let c = clearing-done t h in (sym (c .0), sym (c .1)))

@@ -15,7 +15,8 @@ use Rattle.accumulator.specs.Totals.{number, totalOf, Term, finiteOperan
 use Rattle.accumulator.specs.Columns.{zeros, column, Accepted, AllFinite, sum}
 use Rattle.accumulator.specs.Theorems.{Fit, ExactColumn, AnyOrder}
 use Rattle.accumulator.proofs.Held.{total-number, total-count}
-use Rattle.accumulator.proofs.Adding.{sum-room, one-more, total-fit, accepts, after-accepted}
+use Rattle.accumulator.proofs.Adding.{sum-room, one-more, total-fit, accepts}
+use Rattle.accumulator.proofs.Answers.{after-done}
 
 -- ---- one term on a total whose number and count are known
 module _ (z : ℤ) (n : ℕ) (x : Term) (few : n < 65536) (small : natAbs z ≤ n * 2 ^ 554) (finite : finiteOperands x ≡ true) where
@@ -24,7 +25,7 @@ module _ (z : ℤ) (n : ℕ) (x : Term) (few : n < 65536) (small : natAbs z ≤ 
 
   after-at : afterAdding (totalOf z n) x ≡ totalOf (z +ℤ whole (exactTerm x)) (suc n)
   after-at =
-      after-accepted (totalOf z n) x accepted-at
+      after-done (totalOf z n) x accepted-at
       ∙ ap₂ (λ (y : ℤ) (m : ℕ). totalOf (y +ℤ whole (exactTerm x)) (suc m)) (total-number z n (sum-room (natAbs z) n (omega arith) small)) (total-count z n)
 
 -- ---- all terms, from any total

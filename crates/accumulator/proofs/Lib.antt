@@ -15,4 +15,6 @@ pub mod TermBound
 pub mod Adding
 pub mod Columns
 pub mod ReadTotal
+pub mod Landmarks
+pub mod ReadPairs
 pub mod Theorems

@@ -1,29 +1,28 @@
 -- Reading a total: what a column reads, a zero total, and one that is rounded to zero. Assumes nothing.
-use mathlib.Core.Path.{_≡_, sym, ap, ap₂, _∙_}
-use mathlib.Core.Bool.{Bool, false, cond}
+use mathlib.Core.Path.{_≡_, refl, sym, ap, ap₂, _∙_}
+use mathlib.Core.Bool.{Bool, true, false, cond}
 use mathlib.Core.List.{List}
-use Prim.Native.Nat.{ℕ, _<_}
+use Prim.Native.Nat.{ℕ, suc, _<_}
 use native.Mathlib.Omega.{arith}
-use borrow.Author.Tests.{eq-eqb}
 use lib.Dec.{eqb}
 use lib.Ieee.{size, unlike}
-use lib.ListN.{length}
 use lib.Pow.{pow-pos}
 use Rattle.rounding.specs.declared.Ties.the-variants.{ToZero}
 use Rattle.rounding.specs.Format.{binary32, limit}
 use Rattle.rounding.specs.Value.{Value, finite, bits, encode, round}
 use Rattle.rounding.proofs.Rounded.{rounded-none}
 use Rattle.rounding.proofs.RoundValue.{round-finite}
+use Rattle.binary32.specs.Exact.{int}
 use Rattle.augmented.specs.Pairs.{pairOf}
 use Rattle.augmented.proofs.Second.{head, tail, up, tail-le, first-finite, pair-second}
 use Rattle.accumulator.specs.Totals.{number, pair, exact, patterns, reading}
 use Rattle.accumulator.specs.Columns.{zeros, column}
 use Rattle.accumulator.specs.Theorems.{Fit, ReadColumn, ReadZero, ReadVanished}
+use Rattle.accumulator.proofs.Answers.{reading-pair}
 use Rattle.accumulator.proofs.Columns.{exact-column}
 
 pub fit-reads : (t : List ℕ) → Fit t → reading t ≡ patterns (pairOf binary32 (exact (number t)))
-unfolding reading
-fit-reads t f = rw (eq-eqb (length t) 21 (f .full), f .fits)
+fit-reads t f = reading-pair t (f .full) (f .fits)
 
 pub read-column : ReadColumn
 read-column xs h f =
@@ -48,4 +47,8 @@ read-zero t f e =
 
 pub read-vanished : ReadVanished
 unfolding round
-read-vanished t s N f e r = fit-reads t f ∙ ap (λ v. patterns (pairOf binary32 v)) e ∙ vanished s N (sym (round-finite ToZero binary32 s N s 0 r))
+read-vanished t s N f e r = fit-reads t f ∙ ap (λ z. patterns (pairOf binary32 (exact z))) e ∙ ap (λ v. patterns (pairOf binary32 v)) (exact-sign s N) ∙ vanished s (suc N) (sym (round-finite ToZero binary32 s (suc N) s 0 r))
+  where
+    exact-sign : (s : Bool) (N : ℕ) → exact (int s (suc N)) ≡ finite s (suc N)
+    exact-sign false N = refl
+    exact-sign true N = refl

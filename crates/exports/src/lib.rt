@@ -1,4 +1,6 @@
-// The steps and pairs for programs in C and Rust.
+// The steps, pairs and totals for programs in C and Rust.
+pub mod totals;
+
 use augmented::Pair;
 ghost use mathlib.Core.Path.{_≡_};
 ghost use Rattle.rounding.specs.Format.{binary32};

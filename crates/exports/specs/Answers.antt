@@ -1,0 +1,16 @@
+-- The answers of calls on totals as numbers, for other languages: how they are handed over is free. Assumes nothing.
+use Prim.Native.Nat.{ℕ}
+use Rattle.accumulator.specs.Totals.{Answer, refused, done, pair}
+use Rattle.exports.specs.declared.totals.Reply.{Reply}
+
+-- document 01's number of a refusal, and 0 for a call that is carried out
+abbrev pub numberOf : Answer → ℕ
+numberOf (refused n) = n
+numberOf done = 0
+numberOf (pair first second) = 0
+
+-- the pair that is read; two zeros where there is none
+abbrev pub replyOf : Answer → Reply
+replyOf (refused n) = record { refusal = n; first = 0; second = 0 }
+replyOf done = record { refusal = 0; first = 0; second = 0 }
+replyOf (pair first second) = record { refusal = 0; first = first; second = second }

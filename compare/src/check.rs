@@ -1,10 +1,12 @@
-//! `compare check`: the comparison tried on itself, then the steps, then the pairs.
+//! `compare check`: the comparison tried on itself, then the steps, the pairs and the totals.
 use crate::pairs::edges::Edges;
 use crate::pairs::{self, cases, OPERATIONS};
 use crate::processor::Processor;
 use crate::questions::{Source, SHAPES};
 use crate::step::STEPS;
 use crate::subject::Library;
+use crate::totals;
+use crate::totals::columns::SHAPES as COLUMN_SHAPES;
 use crate::workers::SHOWN;
 use crate::{edges, planted, steps};
 use std::process::ExitCode;
@@ -16,6 +18,8 @@ pub struct Options {
     pub count: u64,
     /// Random questions an operation of the pairs.
     pub pairs: u64,
+    /// Random columns of calls on totals, for each shape that has them.
+    pub columns: u64,
 }
 
 pub fn run(processor: Processor, options: &Options) -> ExitCode {
@@ -26,14 +30,19 @@ pub fn run(processor: Processor, options: &Options) -> ExitCode {
         println!("a reference for the pairs is at fault: {what}");
         return ExitCode::FAILURE;
     }
+    if let Some(what) = totals::cases::distrusted() {
+        println!("the reference for the totals is at fault: {what}");
+        return ExitCode::FAILURE;
+    }
     let (step_edges, pair_edges) = (edges::patterns(), Edges::new());
     if !finds_planted(processor, &step_edges, &pair_edges, options.seed) {
         return ExitCode::FAILURE;
     }
     println!("the comparison tried on itself, {:.1} s", start.elapsed().as_secs_f64());
-    let of_steps = timed("", || compared_steps(processor, &step_edges, options));
-    let of_pairs = timed(" of pairs", || compared_pairs(processor, &pair_edges, options));
-    if of_steps + of_pairs == 0 {
+    let of_steps = timed("questions", || compared_steps(processor, &step_edges, options));
+    let of_pairs = timed("questions of pairs", || compared_pairs(processor, &pair_edges, options));
+    let of_totals = timed("calls on totals", || compared_totals(options));
+    if of_steps + of_pairs + of_totals == 0 {
         ExitCode::SUCCESS
     } else {
         ExitCode::FAILURE
@@ -42,14 +51,16 @@ pub fn run(processor: Processor, options: &Options) -> ExitCode {
 
 fn finds_planted(processor: Processor, step_edges: &[u32], pair_edges: &Edges, seed: u64) -> bool {
     let tried = [
-        ("step", planted::tried(processor, step_edges, seed)),
-        ("operation of the pairs that can have them", pairs::planted::tried(processor, pair_edges, seed)),
+        ("every step, by the edges and by a shape", planted::tried(processor, step_edges, seed)),
+        (
+            "every operation of the pairs that can have them, by the edges and by a shape",
+            pairs::planted::tried(processor, pair_edges, seed),
+        ),
+        ("totals, by a shape of columns", totals::planted::tried(seed)),
     ];
-    for (each, result) in &tried {
+    for (place, result) in &tried {
         match result {
-            Ok(found) => {
-                println!("planted faults found in every {each}, by the edges and by a shape: {found}")
-            }
+            Ok(found) => println!("planted faults found in {place}: {found}"),
             Err(missed) => {
                 println!("the comparison is at fault: it did not find a planted fault: {missed}");
             }
@@ -62,7 +73,7 @@ fn finds_planted(processor: Processor, step_edges: &[u32], pair_edges: &Edges, s
 fn timed(what: &str, compared: impl FnOnce() -> (u64, usize)) -> usize {
     let start = Instant::now();
     let (asked, differences) = compared();
-    println!("{asked} questions{what}, {differences} differences, {:.1} s", start.elapsed().as_secs_f64());
+    println!("{asked} {what}, {differences} differences, {:.1} s", start.elapsed().as_secs_f64());
     differences
 }
 
@@ -106,4 +117,21 @@ fn compared_pairs(processor: Processor, edges: &Edges, options: &Options) -> (u6
         }
     }
     (asked, differences)
+}
+
+/// Each shape of columns; how many calls there were, and differences.
+fn compared_totals(options: &Options) -> (u64, usize) {
+    let (mut called, mut differences) = (0, 0);
+    for shape in COLUMN_SHAPES {
+        let source = totals::columns::Source { shape, seed: options.seed, columns: options.columns };
+        let outcome = totals::compare::compare(&totals::subject::Library, &source);
+        totals::compare::report(&source, &outcome, SHOWN - differences);
+        called += outcome.asked;
+        differences += outcome.differences.len();
+        if differences >= SHOWN {
+            println!("stopped at the tenth difference");
+            return (called, SHOWN);
+        }
+    }
+    (called, differences)
 }

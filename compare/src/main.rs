@@ -15,6 +15,7 @@ mod step;
 mod steps;
 mod subject;
 mod sums;
+mod totals;
 mod workers;
 
 use check::Options;
@@ -25,13 +26,14 @@ use std::process::ExitCode;
 use step::{Question, Step, STEPS};
 use subject::{Library, Subject};
 
-const USAGE: &str = "usage: compare check [--seed N] [--count N] [--pairs N] | compare bench [--seed N]
+const USAGE: &str = "usage: compare check [--seed N] [--count N] [--pairs N] [--columns N] | compare bench [--seed N]
      | compare step STEP PATTERN PATTERN [PATTERN] | compare pair OPERATION PATTERN PATTERN
     STEP        add, sub, mul or fma, which takes three patterns; a pattern is eight upper-case hexadecimal digits
     OPERATION   sum, dif or mul
     --seed N    the seed of the random questions (default 1)
     --count N   random questions a step, shared by the shapes (default 24000000)
-    --pairs N   random questions an operation of the pairs, shared by the shapes (default 16800000)";
+    --pairs N   random questions an operation of the pairs, shared by the shapes (default 16800000)
+    --columns N random columns of calls on totals, for each shape that has them (default 20000)";
 
 fn main() -> ExitCode {
     let words: Vec<String> = std::env::args().skip(1).collect();
@@ -70,11 +72,10 @@ fn benches(processor: Processor, seed: u64) -> ExitCode {
     let of_steps = bench::run(processor, seed);
     println!();
     let of_pairs = pairs::bench::run(processor, seed);
-    if of_steps == ExitCode::SUCCESS {
-        of_pairs
-    } else {
-        of_steps
-    }
+    println!();
+    let of_totals = totals::bench::run(seed);
+    let failed = [of_steps, of_pairs, of_totals].into_iter().find(|&code| code != ExitCode::SUCCESS);
+    failed.unwrap_or(ExitCode::SUCCESS)
 }
 
 fn wrong_usage() -> ExitCode {
@@ -107,7 +108,7 @@ fn one_pair(words: &[String]) -> Option<String> {
 }
 
 fn options(words: &[String]) -> Option<Options> {
-    let mut options = Options { seed: 1, count: 24_000_000, pairs: 16_800_000 };
+    let mut options = Options { seed: 1, count: 24_000_000, pairs: 16_800_000, columns: 20_000 };
     for pair in words.chunks(2) {
         let [name, value] = pair else { return None };
         let value = value.parse().ok()?;
@@ -115,6 +116,7 @@ fn options(words: &[String]) -> Option<Options> {
             "--seed" => options.seed = value,
             "--count" => options.count = value,
             "--pairs" => options.pairs = value,
+            "--columns" => options.columns = value,
             _ => return None,
         }
     }

@@ -1,0 +1,59 @@
+//! The calls on a total, and what they answer.
+
+#[derive(Clone, Copy, PartialEq, Eq, Debug)]
+pub enum Call {
+    Clear,
+    Pattern(u32),
+    Product(u32, u32),
+    Read,
+}
+
+impl Call {
+    pub fn shown(self) -> String {
+        match self {
+            Call::Clear => "clear".to_string(),
+            Call::Pattern(x) => format!("add pattern {x:08X}"),
+            Call::Product(x, y) => format!("add product {x:08X} {y:08X}"),
+            Call::Read => "read".to_string(),
+        }
+    }
+
+    /// The patterns that an adding call is given.
+    pub fn operands(self) -> Vec<u32> {
+        match self {
+            Call::Pattern(x) => vec![x],
+            Call::Product(x, y) => vec![x, y],
+            Call::Clear | Call::Read => Vec::new(),
+        }
+    }
+
+    pub fn is_adding(self) -> bool {
+        matches!(self, Call::Pattern(_) | Call::Product(..))
+    }
+}
+
+/// What a reading hands over: a refusal's number or 0, and the two patterns, which are 0 where it is refused.
+/// The other calls answer a refusal alone, which stands here with two zeros.
+#[repr(C)]
+#[derive(Clone, Copy, PartialEq, Eq, Debug)]
+pub struct Reading {
+    pub refusal: u32,
+    pub first: u32,
+    pub second: u32,
+}
+
+impl Reading {
+    pub const DONE: Reading = Reading::refused(0);
+
+    pub const fn refused(refusal: u32) -> Reading {
+        Reading { refusal, first: 0, second: 0 }
+    }
+
+    pub fn of(first: u32, second: u32) -> Reading {
+        Reading { refusal: 0, first, second }
+    }
+
+    pub fn shown(self) -> String {
+        format!("{} {:08X} {:08X}", self.refusal, self.first, self.second)
+    }
+}

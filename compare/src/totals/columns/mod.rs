@@ -1,0 +1,175 @@
+//! The columns of calls that totals are tried with, by shape.
+mod cancelling;
+mod carries;
+mod damaged;
+mod full;
+mod halfway;
+mod limits;
+mod overflow;
+mod random;
+mod terms;
+mod tiny;
+
+use super::call::Call;
+use super::model::Total;
+use crate::random::Random;
+
+/// Words, and calls that are made on them in turn.
+pub struct Column {
+    pub start: Vec<u32>,
+    pub calls: Vec<Call>,
+}
+
+impl Column {
+    pub fn new(start: Total, calls: Vec<Call>) -> Column {
+        Column { start: start.words(), calls }
+    }
+
+    pub fn cleared(calls: Vec<Call>) -> Column {
+        Column::new(Total::CLEARED, calls)
+    }
+}
+
+#[derive(Clone, Copy, PartialEq, Eq, Debug)]
+pub enum Shape {
+    /// Any calls, with a reading after each.
+    Random,
+    /// 65,536 random terms, and one more.
+    Long,
+    /// 65,536 of the largest terms, and one more.
+    Largest,
+    /// Terms and their opposites, in many orders.
+    Cancelling,
+    /// Carries and borrows that run through the words.
+    Carries,
+    /// Totals about 2^-150, of products too small to be seen alone.
+    Tiny,
+    /// Totals at a tie of first or of second, or beside it.
+    Halfway,
+    /// Totals at 2^128 - 2^103 and above.
+    Overflow,
+    /// Totals with a word disturbed, and words that never were a total.
+    Damaged,
+    /// Totals at the limit of what fits.
+    Limits,
+    /// Other lengths than 21.
+    Lengths,
+}
+
+pub const SHAPES: [Shape; 11] = [
+    Shape::Random,
+    Shape::Long,
+    Shape::Largest,
+    Shape::Cancelling,
+    Shape::Carries,
+    Shape::Tiny,
+    Shape::Halfway,
+    Shape::Overflow,
+    Shape::Damaged,
+    Shape::Limits,
+    Shape::Lengths,
+];
+
+impl Shape {
+    pub fn name(self) -> &'static str {
+        match self {
+            Shape::Random => "random",
+            Shape::Long => "long",
+            Shape::Largest => "largest",
+            Shape::Cancelling => "cancelling",
+            Shape::Carries => "carries",
+            Shape::Tiny => "tiny",
+            Shape::Halfway => "halfway",
+            Shape::Overflow => "overflow",
+            Shape::Damaged => "damaged",
+            Shape::Limits => "limits",
+            Shape::Lengths => "lengths",
+        }
+    }
+
+    /// How many chunks of constructed columns there are, before the random ones.
+    fn constructed(self) -> u64 {
+        match self {
+            Shape::Random => 0,
+            Shape::Long => full::FLAVOURS.len() as u64,
+            Shape::Largest => full::REPEATED.len() as u64,
+            Shape::Cancelling => cancelling::ORDERS.len() as u64,
+            Shape::Carries => carries::CHUNKS,
+            Shape::Tiny => 1,
+            Shape::Halfway => halfway::CHUNKS,
+            Shape::Overflow => overflow::CHUNKS,
+            Shape::Damaged => damaged::CHUNKS,
+            Shape::Limits => limits::COUNTS.len() as u64,
+            Shape::Lengths => damaged::LENGTHS,
+        }
+    }
+
+    /// Whether random columns follow.
+    fn has_random(self) -> bool {
+        !matches!(self, Shape::Long | Shape::Largest | Shape::Limits | Shape::Lengths)
+    }
+
+    fn construct(self, chunk: u64, r: &mut Random) -> Vec<Column> {
+        match self {
+            Shape::Random => unreachable!("nothing is constructed"),
+            Shape::Long => vec![full::long(full::FLAVOURS[chunk as usize], r)],
+            Shape::Largest => vec![full::largest(full::REPEATED[chunk as usize])],
+            Shape::Cancelling => vec![cancelling::long(cancelling::ORDERS[chunk as usize], r)],
+            Shape::Carries => carries::constructed(chunk as u32),
+            Shape::Tiny => tiny::constructed(),
+            Shape::Halfway => halfway::constructed(chunk as u32),
+            Shape::Overflow => overflow::constructed(chunk as u32),
+            Shape::Damaged => damaged::constructed(chunk as usize, r),
+            Shape::Limits => limits::constructed(limits::COUNTS[chunk as usize]),
+            Shape::Lengths => damaged::of_length(chunk as usize, r),
+        }
+    }
+
+    fn draw(self, r: &mut Random) -> Vec<Column> {
+        match self {
+            Shape::Random => vec![random::column(r)],
+            Shape::Cancelling => vec![cancelling::short(r)],
+            Shape::Carries => vec![carries::drawn(r)],
+            Shape::Tiny => vec![tiny::drawn(r)],
+            Shape::Halfway => vec![halfway::drawn(r)],
+            Shape::Overflow => vec![overflow::drawn(r)],
+            Shape::Damaged => damaged::drawn(r),
+            Shape::Long | Shape::Largest | Shape::Limits | Shape::Lengths => unreachable!("none is drawn"),
+        }
+    }
+}
+
+/// The columns of one line of the report, in chunks that threads share out.
+pub struct Source {
+    pub shape: Shape,
+    pub seed: u64,
+    /// Random columns, where the shape has such.
+    pub columns: u64,
+}
+
+impl Source {
+    pub fn chunks(&self) -> u64 {
+        let drawn = if self.shape.has_random() { self.columns } else { 0 };
+        self.shape.constructed() + drawn
+    }
+
+    /// The columns of one chunk.
+    pub fn columns(&self, chunk: u64) -> Vec<Column> {
+        let mut r = Random::stream(self.seed, &[400 + self.shape as u64, chunk]);
+        if chunk < self.shape.constructed() {
+            self.shape.construct(chunk, &mut r)
+        } else {
+            self.shape.draw(&mut r)
+        }
+    }
+}
+
+/// The call, then a reading of what it left.
+fn read_after(call: Call) -> [Call; 2] {
+    [call, Call::Read]
+}
+
+/// Each call on the same words, not on what the last one left.
+fn apart(start: &[u32], calls: &[Call]) -> Vec<Column> {
+    calls.iter().map(|&call| Column { start: start.to_vec(), calls: vec![call] }).collect()
+}

@@ -1,0 +1,105 @@
+//! The comparison of totals tried on itself: a library with a planted fault has to be found out.
+mod reading;
+mod refusals;
+mod words;
+
+use super::call::{Call, Reading};
+use super::columns::{Shape, Source};
+use super::compare::compare;
+use super::model::{term, Total};
+use super::number::WORDS;
+use super::subject::{Lent, Library, Subject};
+use crate::pattern::is_finite;
+
+#[derive(Clone, Copy, Debug)]
+enum Fault {
+    Words(words::Fault),
+    Refusal(refusals::Fault),
+    Reading(reading::Fault),
+}
+
+/// A call that the library has carried out or refused, to be spoilt.
+struct Done<'a> {
+    call: Call,
+    before: Vec<u32>,
+    lent: &'a mut Lent,
+    answer: Reading,
+}
+
+impl Done<'_> {
+    /// The call is an adding one, and took its term.
+    fn has_added(&self) -> bool {
+        self.call.is_adding() && self.answer == Reading::DONE
+    }
+
+    fn has_bad_operand(&self) -> bool {
+        !self.call.operands().into_iter().all(is_finite)
+    }
+
+    /// What the words held, if they are 21.
+    fn total(&self) -> Option<Total> {
+        (self.before.len() == WORDS + 1).then(|| Total::of(&self.before))
+    }
+
+    fn refuse(&mut self, refusal: u32) {
+        self.lent.words_mut().copy_from_slice(&self.before);
+        self.answer = Reading::refused(refusal);
+    }
+
+    /// As if no condition had been met.
+    fn carry_out(&mut self) {
+        let total = Total::of(&self.before);
+        match self.call {
+            Call::Read => self.answer = total.reading(),
+            Call::Clear => self.leave(Total::CLEARED),
+            Call::Pattern(_) | Call::Product(..) => self.leave(total.with(&term(self.call))),
+        }
+    }
+
+    fn leave(&mut self, total: Total) {
+        self.lent.words_mut().copy_from_slice(&total.words());
+        self.answer = Reading::DONE;
+    }
+}
+
+/// The library, with one fault.
+struct Planted(Fault);
+
+impl Subject for Planted {
+    fn answer(&self, call: Call, lent: &mut Lent) -> Reading {
+        let before = lent.words().to_vec();
+        let answer = Library.answer(call, lent);
+        let mut done = Done { call, before, lent, answer };
+        match self.0 {
+            Fault::Words(fault) => fault.spoil(&mut done),
+            Fault::Refusal(fault) => fault.spoil(&mut done),
+            Fault::Reading(fault) => fault.spoil(&mut done),
+        }
+        done.answer
+    }
+}
+
+/// Each fault with the shape that is there to find it, and what a report calls it.
+fn faults() -> Vec<(Fault, Shape, &'static str)> {
+    let words = words::faults().into_iter().map(|(fault, shape, name)| (Fault::Words(fault), shape, name));
+    let refusals = refusals::FAULTS.map(|(fault, shape, name)| (Fault::Refusal(fault), shape, name));
+    let reading = reading::FAULTS.map(|(fault, shape, name)| (Fault::Reading(fault), shape, name));
+    words.chain(refusals).chain(reading).collect()
+}
+
+const COLUMNS: u64 = 400;
+
+/// Runs the comparison on each fault, by its shape. Says which it found, or the first that it missed.
+pub fn tried(seed: u64) -> Result<String, String> {
+    let mut found = Vec::new();
+    for (fault, shape, name) in faults() {
+        let source = Source { shape, seed, columns: COLUMNS };
+        if compare(&Planted(fault), &source).differences.is_empty() {
+            return Err(format!("total {} ({name}: {fault:?})", shape.name()));
+        }
+        found.push(format!("{name} ({})", shape.name()));
+    }
+    // Those for each of the words have one name.
+    found.dedup();
+    Ok(found.join(", "))
+}

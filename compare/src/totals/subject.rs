@@ -1,0 +1,88 @@
+//! What is tested: the totals of the static library, on words that are lent to it.
+use super::call::{Call, Reading};
+
+mod exported {
+    use crate::totals::call::Reading;
+
+    // The archive that `rt staticlib exports` makes defines these. A slice is its address and its length.
+    extern "C" {
+        pub fn jirmeklo_clear(total: *mut u32, length: usize) -> u32;
+        pub fn jirmeklo_add_pattern(total: *mut u32, length: usize, x: u32) -> u32;
+        pub fn jirmeklo_add_product(total: *mut u32, length: usize, x: u32, y: u32) -> u32;
+        pub fn jirmeklo_read(total: *const u32, length: usize) -> Reading;
+    }
+}
+
+// SAFETY, for the four: the functions are proved for every slice and every pattern, touch no memory but the
+// slice's, and keep none of it.
+pub fn clear(total: &mut [u32]) -> u32 {
+    unsafe { exported::jirmeklo_clear(total.as_mut_ptr(), total.len()) }
+}
+
+pub fn add_pattern(total: &mut [u32], x: u32) -> u32 {
+    unsafe { exported::jirmeklo_add_pattern(total.as_mut_ptr(), total.len(), x) }
+}
+
+pub fn add_product(total: &mut [u32], x: u32, y: u32) -> u32 {
+    unsafe { exported::jirmeklo_add_product(total.as_mut_ptr(), total.len(), x, y) }
+}
+
+pub fn read(total: &[u32]) -> Reading {
+    unsafe { exported::jirmeklo_read(total.as_ptr(), total.len()) }
+}
+
+/// What stands around lent words: neither 0 nor all ones, so that a write of either is seen.
+const GUARD: u32 = 0x5AA5_C33C;
+/// An odd number, so that the words are aligned as words and no better.
+const GUARDS: usize = 5;
+
+/// Words that are lent for a call, with guards before and after them.
+pub struct Lent {
+    all: Vec<u32>,
+}
+
+impl Lent {
+    pub fn new(words: &[u32]) -> Lent {
+        let guards = [GUARD; GUARDS];
+        Lent { all: [&guards, words, &guards].concat() }
+    }
+
+    pub fn words(&self) -> &[u32] {
+        &self.all[GUARDS..self.all.len() - GUARDS]
+    }
+
+    pub fn words_mut(&mut self) -> &mut [u32] {
+        let end = self.all.len() - GUARDS;
+        &mut self.all[GUARDS..end]
+    }
+
+    /// The words, and the one after them that is not lent.
+    pub fn words_and_next(&mut self) -> &mut [u32] {
+        let end = self.all.len() - GUARDS + 1;
+        &mut self.all[GUARDS..end]
+    }
+
+    pub fn is_guarded(&self) -> bool {
+        let (before, rest) = self.all.split_at(GUARDS);
+        let after = &rest[rest.len() - GUARDS..];
+        before.iter().chain(after).all(|&word| word == GUARD)
+    }
+}
+
+/// Whatever keeps totals: the library, or the library with a planted fault.
+pub trait Subject: Sync {
+    fn answer(&self, call: Call, lent: &mut Lent) -> Reading;
+}
+
+pub struct Library;
+
+impl Subject for Library {
+    fn answer(&self, call: Call, lent: &mut Lent) -> Reading {
+        match call {
+            Call::Clear => Reading::refused(clear(lent.words_mut())),
+            Call::Pattern(x) => Reading::refused(add_pattern(lent.words_mut(), x)),
+            Call::Product(x, y) => Reading::refused(add_product(lent.words_mut(), x, y)),
+            Call::Read => read(lent.words()),
+        }
+    }
+}

@@ -1,4 +1,1 @@
-pub mod Totals
-pub mod Columns
-pub mod Theorems
-pub mod Inner
+pub mod Answers

@@ -6,7 +6,7 @@ ghost use Prim.Native.Nat.{_-_};
 ghost use lib.Dec.{eqb};
 ghost use lib.ListN.{length};
 ghost use Rattle.words.specs.Words.{natural, complement};
-ghost use Rattle.accumulator.specs.Totals.{fit};
+ghost use Rattle.totals.specs.Totals.{fit};
 
 // The limit is count * 1024 times the weight of word 17. A negative number is below it where its complement, which is smaller
 // by one, is: no negation, so that -2^639 needs no care.

@@ -19,8 +19,9 @@ ghost use Rattle.rounding.specs.Value.{encode, round};
 ghost use Rattle.binary32.specs.Exact.{int};
 ghost use Rattle.augmented.specs.Pairs.{pairOf};
 ghost use Rattle.words.specs.Words.{natural, integer, wordsOfInteger, complement};
-ghost use Rattle.accumulator.specs.Totals.{exact, patterns, answerRead};
-ghost use Rattle.accumulator.specs.Inner.{Leading};
+ghost use Rattle.totals.specs.Totals.{exact, patterns};
+ghost use Rattle.accumulator.specs.Answers.{answerRead};
+ghost use Rattle.totals.specs.Inner.{Leading};
 
 // The number's words, which are not changed where they were lent.
 pub fn copied(total: &[u32]) -> [u32; 20]

@@ -8,7 +8,8 @@ use binary32::class::Class;
 use binary32::class::classify;
 use binary32::exact;
 ghost use mathlib.Core.Path.{_≡_};
-ghost use Rattle.accumulator.specs.Totals.{pattern, product, answerCleared, answerAdded, answerRead, adding, afterAdding, clearing, afterClearing, reading};
+ghost use Rattle.totals.specs.Totals.{pattern, product, adding, afterAdding, clearing, afterClearing, reading};
+ghost use Rattle.accumulator.specs.Answers.{answerCleared, answerAdded, answerRead};
 
 pub enum Cleared {
     Done,

@@ -7,7 +7,8 @@ ghost use lib.Dec.{eqb};
 ghost use lib.ListN.{length};
 ghost use lib.IntN.{_+ℤ_};
 ghost use Rattle.binary32.specs.Exact.{int};
-ghost use Rattle.accumulator.specs.Totals.{number, count, totalOf, done, refused, answerAdded};
+ghost use Rattle.totals.specs.Totals.{number, count, totalOf, done, refused};
+ghost use Rattle.accumulator.specs.Answers.{answerAdded};
 
 // Adds ±sig * 2^exp to a fit total.
 pub fn add(total: &mut [u32], minus: bool, sig: u64, exp: u16) -> Added

@@ -1,7 +1,7 @@
 -- The answers of calls on totals as numbers, for other languages: how they are handed over is free. Assumes nothing.
 use Prim.Native.Nat.{ℕ}
-use Rattle.accumulator.specs.Totals.{Answer, refused, done, pair}
-use Rattle.exports.specs.declared.totals.Reply.{Reply}
+use Rattle.totals.specs.Totals.{Answer, refused, done, pair}
+use Rattle.exports.specs.declared.columns.Reply.{Reply}
 
 -- document 01's number of a refusal, and 0 for a call that is carried out
 abbrev pub numberOf : Answer → ℕ

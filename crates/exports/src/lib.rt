@@ -1,5 +1,5 @@
 // The steps, pairs and totals for programs in C and Rust.
-pub mod totals;
+pub mod columns;
 
 use augmented::Pair;
 ghost use mathlib.Core.Path.{_≡_};

@@ -7,10 +7,10 @@ use borrow.Author.Tests.{not-true, not-false}
 use Rattle.rounding.specs.Value.{isFinite}
 use Rattle.binary32.specs.Classes.{valueOf}
 use Rattle.binary32.proofs.Classified.{class-value, class-operand}
-use Rattle.accumulator.specs.Totals.{pattern}
-use Rattle.accumulator.proofs.Answers.{adding-length, adding-unfit, refuses}
-use Rattle.accumulator.proofs.Fitness.{fit-count}
-use Rattle.accumulator.proofs.Terms.{pattern-term, special, added}
+use Rattle.totals.specs.Totals.{pattern}
+use Rattle.totals.proofs.Answers.{adding-length, adding-unfit, refuses}
+use Rattle.totals.proofs.Fitness.{fit-count}
+use Rattle.totals.proofs.Terms.{pattern-term, special, added}
 use Rattle.accumulator.proofs.add_pattern.Statement.{statement}
 use Rattle.accumulator.proofs.add_pattern.Tie as tie
 

@@ -3,10 +3,10 @@ use mathlib.Core.Path.{sym, _∙_}
 use native.Mathlib.Omega.{arith}
 use borrow.Author.Tests.{not-true, not-false}
 use Rattle.binary32.specs.Classes.{valueOf}
-use Rattle.accumulator.specs.Totals.{product}
-use Rattle.accumulator.proofs.Answers.{adding-length, adding-unfit, refuses}
-use Rattle.accumulator.proofs.Fitness.{fit-count}
-use Rattle.accumulator.proofs.Terms.{product-term, special, added}
+use Rattle.totals.specs.Totals.{product}
+use Rattle.totals.proofs.Answers.{adding-length, adding-unfit, refuses}
+use Rattle.totals.proofs.Fitness.{fit-count}
+use Rattle.totals.proofs.Terms.{product-term, special, added}
 use Rattle.accumulator.proofs.add_product.Statement.{statement}
 use Rattle.accumulator.proofs.add_product.Tie as tie
 

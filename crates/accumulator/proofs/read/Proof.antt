@@ -7,9 +7,9 @@ use lib.IntN.{natAbs}
 use Rattle.rounding.specs.Format.{binary32}
 use Rattle.augmented.specs.Pairs.{pairOf}
 use Rattle.words.specs.Words.{integer}
-use Rattle.accumulator.specs.Totals.{number, count, exact, patterns}
-use Rattle.accumulator.proofs.Adding.{fit-bounds, sum-room}
-use Rattle.accumulator.proofs.Answers.{reading-length, reading-unfit, reading-pair}
+use Rattle.totals.specs.Totals.{number, count, exact, patterns}
+use Rattle.totals.proofs.Adding.{fit-bounds, sum-room}
+use Rattle.totals.proofs.Answers.{reading-length, reading-unfit, reading-pair}
 use Rattle.accumulator.proofs.read.Statement.{statement}
 use Rattle.accumulator.proofs.read.Tie as tie
 

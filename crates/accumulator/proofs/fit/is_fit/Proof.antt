@@ -6,7 +6,7 @@ use native.Mathlib.Nat.{le-trans, le-of-eq}
 use lib.Dec.{leb}
 use lib.ListN.{getD}
 use Rattle.words.specs.Words.{Words, complement}
-use Rattle.accumulator.proofs.Fitness.{unfit-count, over-top, over-next, inside, below, above, at-limit}
+use Rattle.totals.proofs.Fitness.{unfit-count, over-top, over-next, inside, below, above, at-limit}
 use Rattle.accumulator.proofs.fit.is_fit.Statement.{statement}
 use Rattle.accumulator.proofs.fit.is_fit.Tie as tie
 

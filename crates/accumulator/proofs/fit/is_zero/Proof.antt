@@ -4,7 +4,7 @@ use native.Mathlib.Omega.{arith}
 use lib.Dec.{eqb}
 use lib.ListN.{length, drop, getD}
 use Rattle.words.specs.Words.{natural}
-use Rattle.accumulator.proofs.Zeros.{zero-more, zero-not, zero-done}
+use Rattle.totals.proofs.Zeros.{zero-more, zero-not, zero-done}
 use Rattle.accumulator.proofs.fit.is_zero.Statement.{statement}
 use Rattle.accumulator.proofs.fit.is_zero.Tie as tie
 

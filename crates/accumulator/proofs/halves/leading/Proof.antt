@@ -5,8 +5,8 @@ use native.Mathlib.Omega.{arith}
 use lib.ListN.{drop, drop-of-length-le}
 use Rattle.words.specs.Words.{natural}
 use Rattle.accumulator.proofs.Arrays.{array-length, array-words}
-use Rattle.accumulator.proofs.LeadingDigits.{Digits, sticky-half, taken-in, all-exp, made-sticky, leading-digits}
-use Rattle.accumulator.proofs.LeadingDigits.Digits.{all}
+use Rattle.totals.proofs.LeadingDigits.{Digits, sticky-half, taken-in, all-exp, made-sticky, leading-digits}
+use Rattle.totals.proofs.LeadingDigits.Digits.{all}
 use Rattle.accumulator.proofs.halves.leading.Statement.{statement}
 use Rattle.accumulator.proofs.halves.leading.Tie as tie
 

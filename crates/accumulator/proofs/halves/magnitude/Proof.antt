@@ -9,7 +9,7 @@ use lib.ListN.{length, take, drop-of-length-le}
 use lib.Seq.{take-all}
 use Rattle.words.specs.Words.{natural, wordsOf, wordsOfInteger, complement}
 use Rattle.accumulator.proofs.Arrays.{array-length, array-words}
-use Rattle.accumulator.proofs.Top.{magnitude-top}
+use Rattle.totals.proofs.Top.{magnitude-top}
 use Rattle.accumulator.proofs.halves.magnitude.Statement.{statement}
 use Rattle.accumulator.proofs.halves.magnitude.Tie as tie
 

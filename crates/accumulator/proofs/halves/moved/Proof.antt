@@ -1,6 +1,6 @@
 use borrow.Author.Needs.{needs}
 use Rattle.accumulator.proofs.Arrays.{array-length, array-words}
-use Rattle.accumulator.proofs.Placed.{all-placed}
+use Rattle.totals.proofs.Placed.{all-placed}
 use Rattle.accumulator.proofs.halves.moved.Statement.{statement}
 use Rattle.accumulator.proofs.halves.moved.Tie as tie
 

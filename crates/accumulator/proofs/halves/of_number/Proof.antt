@@ -4,7 +4,7 @@ use native.Mathlib.Omega.{arith}
 use Rattle.binary32.specs.Classes.{valueOf}
 use Rattle.binary32.proofs.Classified.{class-operand}
 use Rattle.words.specs.Words.{integer}
-use Rattle.accumulator.proofs.TotalPair.{halves-finite, halves-other}
+use Rattle.totals.proofs.TotalPair.{halves-finite, halves-other}
 use Rattle.accumulator.proofs.halves.of_number.Statement.{statement}
 use Rattle.accumulator.proofs.halves.of_number.Tie as tie
 

@@ -8,10 +8,10 @@ use Rattle.rounding.specs.declared.Ties.the-variants.{ToZero}
 use Rattle.rounding.specs.Format.{binary32}
 use Rattle.rounding.specs.Value.{finite, encode, round, roundFinite}
 use Rattle.words.specs.Words.{natural, integer}
-use Rattle.accumulator.specs.Totals.{exact}
+use Rattle.totals.specs.Totals.{exact}
 use Rattle.accumulator.proofs.Arrays.{array-length, array-words}
-use Rattle.accumulator.proofs.LeadingDigits.{leading-rounds}
-use Rattle.accumulator.proofs.Top.{exact-top}
+use Rattle.totals.proofs.LeadingDigits.{leading-rounds}
+use Rattle.totals.proofs.Top.{exact-top}
 use Rattle.accumulator.proofs.halves.rounded.Statement.{statement}
 use Rattle.accumulator.proofs.halves.rounded.Tie as tie
 

@@ -2,7 +2,7 @@ use borrow.Author.Needs.{needs}
 use borrow.Author.Tests.{eq-eqb, ne-eqb}
 use mathlib.Core.Path.{refl}
 use lib.ListN.{getD}
-use Rattle.accumulator.proofs.Placed.{total-placed}
+use Rattle.totals.proofs.Placed.{total-placed}
 use Rattle.accumulator.proofs.term.add.Statement.{statement}
 use Rattle.accumulator.proofs.term.add.Tie as tie
 

@@ -1,0 +1,24 @@
+-- The answers of the code's calls: document 01's number and values for each case of its enums. Assumes nothing.
+use Rattle.totals.specs.Totals.{Answer, refused, done, pair}
+use Rattle.accumulator.specs.declared.Cleared.{Cleared}
+use Rattle.accumulator.specs.declared.Added.{Added}
+use Rattle.accumulator.specs.declared.Reading.{Reading}
+use Rattle.accumulator.specs.declared.Cleared.the-variants as the-cleared
+use Rattle.accumulator.specs.declared.Added.the-variants as the-added
+use Rattle.accumulator.specs.declared.Reading.the-variants as the-reading
+
+abbrev pub answerCleared : Cleared → Answer
+answerCleared the-cleared.Done = done
+answerCleared the-cleared.Length = refused 5
+
+abbrev pub answerAdded : Added → Answer
+answerAdded the-added.Done = done
+answerAdded the-added.Length = refused 5
+answerAdded the-added.Unfit = refused 6
+answerAdded the-added.NotFinite = refused 7
+answerAdded the-added.Full = refused 8
+
+abbrev pub answerRead : Reading → Answer
+answerRead (the-reading.Pair first second) = pair first second
+answerRead the-reading.Length = refused 5
+answerRead the-reading.Unfit = refused 6

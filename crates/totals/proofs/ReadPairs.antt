@@ -1,0 +1,84 @@
+-- Reading against overflow and against the direct pairs of two operands. Assumes nothing.
+use mathlib.Core.Path.{_≡_, refl, sym, ap, ap₂, _∙_}
+use mathlib.Core.Logic.{_≢_}
+use mathlib.Core.Bool.{Bool, true, false, _&&_}
+use mathlib.Core.List.{[], _∷_}
+use Prim.Native.Nat.{ℕ, zero, suc, _*_, _^_, _<_}
+use native.Mathlib.Omega.{arith}
+use lib.Dec.{lit≤}
+use lib.Ieee.{unlike}
+use lib.IntN.{ℤ, pos, _+ℤ_, +ℤ-idr}
+use Rattle.rounding.specs.declared.Ties.the-variants.{ToZero}
+use Rattle.rounding.specs.Format.{binary32, edge}
+use Rattle.rounding.specs.Value.{Value, nan, infinite, finite, decode, isFinite, encode}
+use Rattle.rounding.proofs.RoundValue.{over-edge}
+use Rattle.binary32.specs.Exact.{int, plus, times, finer}
+use Rattle.binary32.specs.Steps.{result}
+use Rattle.binary32.proofs.Integers.{plus-exact}
+use Rattle.binary32.proofs.Result.{result-encode}
+use Rattle.binary32.proofs.Sums.{finer-sum}
+use Rattle.augmented.specs.Pairs.{Halves, pairOf, answer, exactSum, exactProduct, sumPair, productPair}
+use Rattle.augmented.proofs.Second.{first-infinite, second-infinite}
+use Rattle.totals.specs.Totals.{number, pattern, product, finiteOperands, whole, pair, exact, patterns, reading}
+use Rattle.totals.specs.Columns.{zeros, column, AllFinite, sum}
+use Rattle.totals.specs.Theorems.{Fit, ReadOverflow, ReadSum, ReadProduct}
+use Rattle.totals.proofs.TermBound.{untrue}
+use Rattle.totals.proofs.ReadTotal.{fit-reads, read-column}
+
+-- a number by its sign and magnitude, if it is not zero
+exact-int : (s : Bool) (N : ℕ) → int s N ≢ pos 0 → exact (int s N) ≡ finite s N
+exact-int false N n = refl
+exact-int true zero n = absurd (n refl)
+exact-int true (suc N) n = refl
+
+pub read-overflow : ReadOverflow
+read-overflow t s N f e h =
+    let o = over-edge binary32 (lit≤ tt, lit≤ tt) ToZero N h in
+    let n : int s N ≢ pos 0 = λ (q : int s N ≡ pos 0). not-zero s N h q in
+    fit-reads t f ∙ ap (λ z. patterns (pairOf binary32 (exact z))) e ∙ ap (λ v. patterns (pairOf binary32 v)) (exact-int s N n)
+    ∙ ap₂ (λ (v w : Value). pair (encode binary32 v) (encode binary32 w)) (first-infinite binary32 s N o) (second-infinite binary32 s N o)
+  where
+    not-zero : (s : Bool) (N : ℕ) → edge binary32 < N → int s N ≡ pos 0 → ⊥
+    not-zero false N h q = let z : N ≡ 0 = cc in omega arith
+    not-zero true zero h q = omega arith
+    not-zero true (suc N) h q = let z : _≡_ {A = ℕ} 0 1 = cc in omega arith
+
+sum-value : (v w : Value) → isFinite v ≡ true → isFinite w ≡ true → (whole (finer binary32 v) +ℤ (whole (finer binary32 w) +ℤ pos 0) ≢ pos 0)
+    → exact (whole (finer binary32 v) +ℤ (whole (finer binary32 w) +ℤ pos 0)) ≡ finer binary32 (plus v w)
+unfolding finer plus
+sum-value nan w e f n = untrue e
+sum-value (infinite s) w e f n = untrue e
+sum-value (finite s a) nan e f n = untrue f
+sum-value (finite s a) (infinite t) e f n = untrue f
+sum-value (finite s a) (finite t b) e f n =
+    let p = plus-exact s (a * 2 ^ 149) t (b * 2 ^ 149) in
+    let z : int s (a * 2 ^ 149) +ℤ (int t (b * 2 ^ 149) +ℤ pos 0) ≡ int (p .0) (p .1) = ap (λ (k : ℤ). int s (a * 2 ^ 149) +ℤ k) (+ℤ-idr (int t (b * 2 ^ 149))) ∙ sym (p .3) in
+    ap exact z ∙ exact-int (p .0) (p .1) (λ q. n (z ∙ q)) ∙ sym (p .2) ∙ sym (finer-sum binary32 s a t b)
+
+-- the patterns of a pair, as the answer of two operands shows them
+shown : (x y : ℕ) (p : Halves) → patterns p ≡ pair (result binary32 (x ∷ y ∷ []) (p .first)) (result binary32 (x ∷ y ∷ []) (p .second))
+shown x y p = ap₂ pair (sym (result-encode binary32 (x ∷ y ∷ []) (p .first))) (sym (result-encode binary32 (x ∷ y ∷ []) (p .second)))
+
+pub read-sum : ReadSum
+unfolding sum AllFinite sumPair answer
+read-sum x y e f n =
+    read-column (pattern x ∷ pattern y ∷ []) (lit≤ tt) (e, (f, tt))
+    ∙ ap (λ v. patterns (pairOf binary32 v)) (sum-value (decode binary32 x) (decode binary32 y) e f n)
+    ∙ shown x y (pairOf binary32 (exactSum binary32 x y))
+
+product-value : (v w : Value) → isFinite v && isFinite w ≡ true → (whole (times v w) +ℤ pos 0 ≢ pos 0) → exact (whole (times v w) +ℤ pos 0) ≡ times v w
+unfolding times
+product-value nan w e n = untrue e
+product-value (infinite s) w e n = untrue e
+product-value (finite s a) nan e n = untrue e
+product-value (finite s a) (infinite t) e n = untrue e
+product-value (finite s a) (finite t b) e n =
+    let z = +ℤ-idr (int (unlike s t) (a * b)) in
+    ap exact z ∙ exact-int (unlike s t) (a * b) (λ q. n (z ∙ q))
+
+pub read-product : ReadProduct
+unfolding sum AllFinite productPair answer
+read-product x y e n =
+    read-column (product x y ∷ []) (lit≤ tt) (e, tt)
+    ∙ ap (λ v. patterns (pairOf binary32 v)) (product-value (decode binary32 x) (decode binary32 y) e n)
+    ∙ shown x y (pairOf binary32 (exactProduct binary32 x y))

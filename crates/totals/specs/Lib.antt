@@ -1,0 +1,4 @@
+pub mod Totals
+pub mod Columns
+pub mod Theorems
+pub mod Inner

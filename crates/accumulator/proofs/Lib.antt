@@ -1,2 +1,4 @@
 pub mod Arrays
 pub mod Turned
+pub mod Scaled
+pub mod Lent

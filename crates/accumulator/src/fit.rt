@@ -7,10 +7,24 @@ ghost use lib.Dec.{eqb};
 ghost use lib.ListN.{length};
 ghost use Rattle.words.specs.Words.{natural, complement};
 ghost use Rattle.totals.specs.Totals.{fit};
+ghost use Rattle.accumulator.specs.Inner.{lent};
+
+// What document 01 tries first of lent words, by its numbers: 5, 6, or 0 for a fit total.
+pub fn refusal(total: &[u32]) -> u32
+    ensures { λ r. ⌜ r ≡ lent (now (total .entry)) ⌝ }
+{
+    if total.len() != 21 {
+        return 5;
+    }
+    if !is_fit(total) {
+        return 6;
+    }
+    0
+}
 
 // The limit is count * 1024 times the weight of word 17. A negative number is below it where its complement, which is smaller
 // by one, is: no negation, so that -2^639 needs no care.
-pub fn is_fit(total: &[u32]) -> bool
+fn is_fit(total: &[u32]) -> bool
     requires { ⌜ length (now total) ≡ 21 ⌝ }
     ensures { λ r. ⌜ r ≡ fit (now (total .entry)) ⌝ }
 {

@@ -3,12 +3,13 @@ mod fit;
 mod halves;
 mod term;
 
-use crate::fit::is_fit;
 use binary32::class::Class;
 use binary32::class::classify;
 use binary32::exact;
 ghost use mathlib.Core.Path.{_≡_};
-ghost use Rattle.totals.specs.Totals.{pattern, product, adding, afterAdding, clearing, afterClearing, reading};
+ghost use mathlib.Core.Bool.{cond};
+ghost use lib.Dec.{eqb};
+ghost use Rattle.totals.specs.Totals.{pattern, product, adding, afterAdding, clearing, afterClearing, reading, refused, done};
 ghost use Rattle.accumulator.specs.Answers.{answerCleared, answerAdded, answerRead};
 
 pub enum Cleared {
@@ -47,15 +48,14 @@ pub fn clear(total: &mut [u32]) -> Cleared
 pub fn add_pattern(total: &mut [u32], x: u32) -> Added
     ensures { λ r. ⌜ (answerAdded r ≡ adding (now (total .entry)) (pattern x)) × (now (total .exit) ≡ afterAdding (now (total .entry)) (pattern x)) ⌝ }
 {
-    if total.len() != 21 {
-        return Added::Length;
-    }
-    if !is_fit(total) {
-        return Added::Unfit;
+    let refusal = fit::refusal(total);
+    if refusal != 0 {
+        return lent_refused(refusal);
     }
     let a = classify(x);
     match a {
-        Class::Finite { sign, sig, exp } => term::add(total, sign, sig, exp + 149),
+        // A pattern counts 2^-149.
+        Class::Finite { sign, sig, exp } => tried(term::add(total, sign, sig, exp + 149)),
         Class::Infinite(_) => Added::NotFinite,
         Class::NotANumber => Added::NotFinite,
     }
@@ -64,28 +64,42 @@ pub fn add_pattern(total: &mut [u32], x: u32) -> Added
 pub fn add_product(total: &mut [u32], x: u32, y: u32) -> Added
     ensures { λ r. ⌜ (answerAdded r ≡ adding (now (total .entry)) (product x y)) × (now (total .exit) ≡ afterAdding (now (total .entry)) (product x y)) ⌝ }
 {
-    if total.len() != 21 {
-        return Added::Length;
-    }
-    if !is_fit(total) {
-        return Added::Unfit;
+    let refusal = fit::refusal(total);
+    if refusal != 0 {
+        return lent_refused(refusal);
     }
     let p = exact::product(x, y);
     match p {
-        Class::Finite { sign, sig, exp } => term::add(total, sign, sig, exp),
+        Class::Finite { sign, sig, exp } => tried(term::add(total, sign, sig, exp)),
         Class::Infinite(_) => Added::NotFinite,
         Class::NotANumber => Added::NotFinite,
     }
 }
 
+fn lent_refused(refusal: u32) -> Added
+    ensures { λ r. ⌜ answerAdded r ≡ cond (eqb refusal 5) (refused 5) (refused 6) ⌝ }
+{
+    if refusal == 5 {
+        Added::Length
+    } else {
+        Added::Unfit
+    }
+}
+
+// Whether there was room for a finite term.
+fn tried(room: bool) -> Added
+    ensures { λ r. ⌜ answerAdded r ≡ cond room done (refused 8) ⌝ }
+{
+    if room { Added::Done } else { Added::Full }
+}
+
 pub fn read(total: &[u32]) -> Reading
     ensures { λ r. ⌜ answerRead r ≡ reading (now (total .entry)) ⌝ }
 {
-    if total.len() != 21 {
-        return Reading::Length;
+    match fit::refusal(total) {
+        0 => halves::of_number(halves::copied(total)),
+        5 => Reading::Length,
+        // 6
+        _ => Reading::Unfit,
     }
-    if !is_fit(total) {
-        return Reading::Unfit;
-    }
-    halves::of_number(halves::copied(total))
 }

@@ -1,16 +1,13 @@
 -- A term of a fit total, by its class as the code has it: what is answered, and the words as they end. Assumes nothing.
 use mathlib.Core.Path.{_≡_, refl, sym, ap, _∙_}
-use mathlib.Core.Logic.{inl, inr}
-use mathlib.Core.Bool.{Bool, true, false, cond, _&&_}
+use mathlib.Core.Bool.{Bool, true, false, not, cond, _&&_}
 use mathlib.Core.List.{List}
-use Prim.Native.Nat.{ℕ, suc, _+_, _*_, _^_}
+use Prim.Native.Nat.{ℕ, suc}
 use native.Mathlib.Decide.{ℕ-discrete}
-use native.Mathlib.Nat.{mul-assoc}
 use borrow.Author.Tests.{eq-eqb, ne-eqb}
 use lib.Dec.{eqb}
 use lib.IntN.{_+ℤ_}
 use lib.ListN.{length}
-use lib.Pow.{pow-add}
 use Rattle.rounding.specs.Format.{binary32}
 use Rattle.rounding.specs.Value.{Value, nan, infinite, finite, decode, isFinite}
 use Rattle.binary32.specs.Exact.{int, times, finer}
@@ -32,35 +29,40 @@ times-finite (finite s a) nan = refl
 times-finite (finite s a) (infinite t) = special-choice (eqb a 0) _
 times-finite (finite s a) (finite t b) = refl
 
--- ---- the exact value of a term
--- a pattern counts u
-pub pattern-term : (x : ℕ) (s : Bool) (m e : ℕ) → finite s (m * 2 ^ e) ≡ decode binary32 x
-    → (finiteOperands (pattern x) ≡ true) × (exactTerm (pattern x) ≡ finite s (m * 2 ^ (e + 149)))
+-- ---- so that a term is refused by its exact value
+finer-finite : (v : Value) → isFinite (finer binary32 v) ≡ isFinite v
 unfolding finer
-pattern-term x s m e h = (ap isFinite (sym h), ap (finer binary32) (sym h) ∙ ap (finite s) (mul-assoc m (2 ^ e) (2 ^ 149) ∙ ap (λ (y : ℕ). m * y) (sym (pow-add 2 e 149))))
+finer-finite nan = refl
+finer-finite (infinite s) = refl
+finer-finite (finite s a) = refl
 
-pub product-term : (x y : ℕ) (v : Value) → times (decode binary32 x) (decode binary32 y) ≡ v → finiteOperands (product x y) ≡ isFinite v
-product-term x y v h = sym (times-finite (decode binary32 x) (decode binary32 y)) ∙ ap isFinite h
+pub term-finite : (x : Term) → finiteOperands x ≡ isFinite (exactTerm x)
+term-finite (pattern x) = sym (finer-finite (decode binary32 x))
+term-finite (product x y) = sym (times-finite (decode binary32 x) (decode binary32 y))
 
 -- ---- of a fit total
 module _ (t : List ℕ) (x : Term) (full : length t ≡ 21) (fits : fit t ≡ true) where
   abbrev Ends : Answer → List ℕ → Type 0
   Ends a ws = (a ≡ adding t x) × (ws ≡ afterAdding t x)
 
-  pub special : finiteOperands x ≡ false → Ends (refused 7) t
-  special o = let e = adding-special t x full fits o in (sym e, sym (after-refused t x 7 e))
+  pub special : isFinite (exactTerm x) ≡ false → Ends (refused 7) t
+  special o = let e = adding-special t x full fits (term-finite x ∙ o) in (sym e, sym (after-refused t x 7 e))
 
-  -- as adding a finite term promises it
-  pub added : (s : Bool) (N : ℕ) (a : Answer) (ws : List ℕ) → finiteOperands x ≡ true → exactTerm x ≡ finite s N → a ≡ cond (eqb (count t) 65536) (refused 8) done
-      → ws ≡ cond (eqb (count t) 65536) t (totalOf (number t +ℤ int s N) (suc (count t))) → Ends a ws
-  added s N a ws o v ea ews =
-      elim (ℕ-discrete (count t) 65536) [
-        | yes n ↦
-            let e = adding-full t x full fits o n in
-            let q = eq-eqb (count t) 65536 n in
-            ((rw q at ea) ∙ sym e, (rw q at ews) ∙ sym (after-refused t x 8 e))
-        | no n ↦
-            let e = adding-done t x full fits o n in
-            let q = ne-eqb (count t) 65536 n in
-            ((rw q at ea) ∙ sym e, (rw q at ews) ∙ ap (λ (w : Value). totalOf (number t +ℤ whole w) (suc (count t))) (sym v) ∙ sym (after-done t x e))
-      ]
+  module _ (s : Bool) (N : ℕ) (is : exactTerm x ≡ finite s N) where
+    finite-term : finiteOperands x ≡ true
+    finite-term = term-finite x ∙ ap isFinite is
+
+    -- with what adding it promises: whether there is room, and the words as they end
+    pub tried : (room : Bool) (a : Answer) (ws : List ℕ) → room ≡ not (eqb (count t) 65536) → a ≡ cond room done (refused 8)
+        → ws ≡ cond room (totalOf (number t +ℤ int s N) (suc (count t))) t → Ends a ws
+    tried room a ws r ea ews =
+        elim (ℕ-discrete (count t) 65536) [
+          | yes n ↦
+              let e = adding-full t x full fits finite-term n in
+              let q : room ≡ false = r ∙ ap not (eq-eqb (count t) 65536 n) in
+              ((rw q at ea) ∙ sym e, (rw q at ews) ∙ sym (after-refused t x 8 e))
+          | no n ↦
+              let e = adding-done t x full fits finite-term n in
+              let q : room ≡ true = r ∙ ap not (ne-eqb (count t) 65536 n) in
+              ((rw q at ea) ∙ sym e, (rw q at ews) ∙ ap (λ (v : Value). totalOf (number t +ℤ whole v) (suc (count t))) (sym is) ∙ sym (after-done t x e))
+        ]

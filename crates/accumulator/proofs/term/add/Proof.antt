@@ -1,6 +1,6 @@
 use borrow.Author.Needs.{needs}
-use borrow.Author.Tests.{eq-eqb, ne-eqb}
 use mathlib.Core.Path.{refl}
+use borrow.Author.Tests.{eq-eqb, ne-eqb}
 use lib.ListN.{getD}
 use Rattle.totals.proofs.Placed.{total-placed}
 use Rattle.accumulator.proofs.term.add.Statement.{statement}
@@ -41,13 +41,11 @@ same-length c = search needs
 
 returns-2 : tie.Need-returns-2
 returns-2 c =
-    let e = c .before .before .before .before in
-    let k = e .before .before in
-    let b = k .before in
+    let b = c .before .before .before .before .before .before .before in
     let a = b .args in
     let t = a .total .now in
-    rw (ne-eqb (getD t 20 0) 65536 (e .if1 .left))
-    (refl, total-placed t (λ i. k .slice-known .given i .fits) (a .minus) (a .sig) (a .exp) (b .pre .2) (c .before .before .add .last .0) (c .before .before .add .ensures) (b .pre .0) (getD t 20 0))
+    rw (ne-eqb (getD t 20 0) 65536 (c .before .before .before .before .if1 .left))
+    (refl, total-placed t (λ i. c .before .before .before .before .before .before .slice-known .given i .fits) (a .minus) (a .sig) (a .exp) (b .pre .2) (c .before .before .add .last .0) (c .before .before .add .ensures) (b .pre .0) (getD t 20 0))
 
 pub add-spec : {M : Type 1} → statement M
 add-spec =

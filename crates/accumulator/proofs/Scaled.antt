@@ -10,11 +10,11 @@ use Rattle.binary32.specs.declared.class.Class.{Class}
 use Rattle.binary32.specs.Exact.{finer}
 use Rattle.binary32.specs.Classes.{classOf, valueOf}
 use Rattle.binary32.proofs.Classified.{class-value}
-use Rattle.totals.specs.Totals.{pattern, exactTerm}
+use Rattle.totals.specs.Totals.{ofPattern, exactTerm}
 
 -- a pattern counts u
 module _ (x : ℕ) (c : Class) (is : c ≡ classOf x) where
-  pub pattern-value : exactTerm (pattern x) ≡ finer binary32 (valueOf c)
+  pub pattern-value : exactTerm (ofPattern x) ≡ finer binary32 (valueOf c)
   pattern-value = ap (finer binary32) (sym (class-value x c is))
 
 pub finer-digits : (s : Bool) (m e : ℕ) → finer binary32 (finite s (m * 2 ^ e)) ≡ finite s (m * 2 ^ (e + 149))

@@ -19,7 +19,7 @@ ghost use Rattle.rounding.specs.Value.{encode, round};
 ghost use Rattle.binary32.specs.Exact.{int};
 ghost use Rattle.augmented.specs.Pairs.{pairOf};
 ghost use Rattle.words.specs.Words.{natural, integer, wordsOfInteger, complement};
-ghost use Rattle.totals.specs.Totals.{exact, patterns};
+ghost use Rattle.totals.specs.Totals.{exact, pairAnswer};
 ghost use Rattle.accumulator.specs.Answers.{answerRead};
 ghost use Rattle.totals.specs.Inner.{Leading};
 
@@ -39,7 +39,7 @@ pub fn copied(total: &[u32]) -> [u32; 20]
 
 pub fn of_number(number: [u32; 20]) -> Reading
     requires { ⌜ natAbs (integer number) < 2 ^ 639 ⌝ }
-    ensures { λ r. ⌜ answerRead r ≡ patterns (pairOf binary32 (exact (integer number))) ⌝ }
+    ensures { λ r. ⌜ answerRead r ≡ pairAnswer (pairOf binary32 (exact (integer number))) ⌝ }
 {
     let first = rounded(number);
     let a = classify(first);

@@ -9,7 +9,7 @@ use binary32::exact;
 ghost use mathlib.Core.Path.{_≡_};
 ghost use mathlib.Core.Bool.{cond};
 ghost use lib.Dec.{eqb};
-ghost use Rattle.totals.specs.Totals.{pattern, product, adding, afterAdding, clearing, afterClearing, reading, refused, done};
+ghost use Rattle.totals.specs.Totals.{ofPattern, ofProduct, adding, afterAdding, clearing, afterClearing, reading, refused, done};
 ghost use Rattle.accumulator.specs.Answers.{answerCleared, answerAdded, answerRead};
 
 pub enum Cleared {
@@ -46,7 +46,7 @@ pub fn clear(total: &mut [u32]) -> Cleared
 }
 
 pub fn add_pattern(total: &mut [u32], x: u32) -> Added
-    ensures { λ r. ⌜ (answerAdded r ≡ adding (now (total .entry)) (pattern x)) × (now (total .exit) ≡ afterAdding (now (total .entry)) (pattern x)) ⌝ }
+    ensures { λ r. ⌜ (answerAdded r ≡ adding (now (total .entry)) (ofPattern x)) × (now (total .exit) ≡ afterAdding (now (total .entry)) (ofPattern x)) ⌝ }
 {
     let refusal = fit::refusal(total);
     if refusal != 0 {
@@ -62,7 +62,7 @@ pub fn add_pattern(total: &mut [u32], x: u32) -> Added
 }
 
 pub fn add_product(total: &mut [u32], x: u32, y: u32) -> Added
-    ensures { λ r. ⌜ (answerAdded r ≡ adding (now (total .entry)) (product x y)) × (now (total .exit) ≡ afterAdding (now (total .entry)) (product x y)) ⌝ }
+    ensures { λ r. ⌜ (answerAdded r ≡ adding (now (total .entry)) (ofProduct x y)) × (now (total .exit) ≡ afterAdding (now (total .entry)) (ofProduct x y)) ⌝ }
 {
     let refusal = fit::refusal(total);
     if refusal != 0 {

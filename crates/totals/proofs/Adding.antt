@@ -12,7 +12,7 @@ use lib.IntN.{ℤ, pos, negsuc, natAbs, subℕ, _+ℤ_}
 use lib.ListN.{length}
 use Rattle.words.specs.Words.{Words}
 use Rattle.totals.specs.Totals.{number, count, totalOf, fit, Term, finiteOperands, exactTerm, whole, Answer, refused, done, adding}
-use Rattle.totals.specs.Theorems.{Fit, FitIs, LowestUnfit, AcceptedTerm, ExactTerm}
+use Rattle.totals.specs.Theorems.{FitTotal, FitIs, LowestUnfit, AcceptedTerm, ExactAdding}
 use Rattle.totals.proofs.Answers.{adding-done, after-done}
 use Rattle.totals.proofs.Held.{total-number, total-count, total-full, total-words}
 use Rattle.totals.proofs.TermBound.{untrue, term-bound}
@@ -64,7 +64,7 @@ lowest-unfit t e = refute (fit t) (λ f. let b = fit-bounds t f in lt-irrefl _ (
     refute true h = absurd (h refl)
     refute false h = refl
 
-pub total-fit : (z : ℤ) (n : ℕ) → n ≤ 65536 → natAbs z ≤ n * 2 ^ 554 → Fit (totalOf z n)
+pub total-fit : (z : ℤ) (n : ℕ) → n ≤ 65536 → natAbs z ≤ n * 2 ^ 554 → FitTotal (totalOf z n)
 total-fit z n h l =
     let c = total-count z n in
     let e = total-number z n (sum-room (natAbs z) n h l) in
@@ -90,7 +90,7 @@ none-met true true true true e = never e
 none-met true true true false e = (refl, refl, refl, refl)
 
 module _ (t : List ℕ) (x : Term) where
-  accepted : Words t → adding t x ≡ done → Fit t × (finiteOperands x ≡ true) × (count t < 65536)
+  accepted : Words t → adding t x ≡ done → FitTotal t × (finiteOperands x ≡ true) × (count t < 65536)
   unfolding adding
   accepted k e =
       let p = none-met (eqb (length t) 21) (fit t) (finiteOperands x) (eqb (count t) 65536) e in
@@ -99,14 +99,14 @@ module _ (t : List ℕ) (x : Term) where
       let less : count t < 65536 = elim (decLe 65536 (count t)) [ yes h ↦ absurd (n (omega arith)) | no h ↦ omega arith ] in
       (record { full = eqb-true (length t) 21 (p .0); words = k; fits = p .1 }, p .2, less)
 
-  pub accepts : Fit t → finiteOperands x ≡ true → count t < 65536 → adding t x ≡ done
+  pub accepts : FitTotal t → finiteOperands x ≡ true → count t < 65536 → adding t x ≡ done
   accepts f e h = adding-done t x (f .full) (f .fits) e (λ (q : count t ≡ 65536). omega arith)
 
 pub accepted-term : AcceptedTerm
 accepted-term t x k = (accepted t x k, accepts t x)
 
-pub exact-term : ExactTerm
-exact-term t x k e =
+pub exact-adding : ExactAdding
+exact-adding t x k e =
     let p = accepted t x k e in
     let b = fit-bounds t (p .0 .fits) in
     let z = number t +ℤ whole (exactTerm x) in

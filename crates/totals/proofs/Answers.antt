@@ -9,7 +9,7 @@ use lib.IntN.{_+ℤ_}
 use Rattle.rounding.specs.Format.{binary32}
 use Rattle.augmented.specs.Pairs.{pairOf}
 use Rattle.totals.specs.Theorems.{RefusedTerm, AddingRefused, ReadingRefused, Clears}
-use Rattle.totals.specs.Totals.{number, count, totalOf, fit, Term, finiteOperands, exactTerm, whole, Answer, refused, done, isDone, adding, afterAdding, clearing, afterClearing, exact, patterns, reading}
+use Rattle.totals.specs.Totals.{number, count, totalOf, fit, Term, finiteOperands, exactTerm, whole, Answer, refused, done, isDone, adding, afterAdding, clearing, afterClearing, exact, pairAnswer, reading}
 
 -- ---- clearing
 module _ (t : List ℕ) where
@@ -67,7 +67,7 @@ module _ (t : List ℕ) where
   unfolding reading
   reading-unfit full f = rw (eq-eqb (length t) 21 full, f)
 
-  pub reading-pair : length t ≡ 21 → fit t ≡ true → reading t ≡ patterns (pairOf binary32 (exact (number t)))
+  pub reading-pair : length t ≡ 21 → fit t ≡ true → reading t ≡ pairAnswer (pairOf binary32 (exact (number t)))
   unfolding reading
   reading-pair full f = rw (eq-eqb (length t) 21 full, f)
 
@@ -82,4 +82,4 @@ pub reading-refused : ReadingRefused
 reading-refused t = (reading-length t, reading-unfit t)
 
 pub clears : Clears
-clears t = (λ n. let c = clearing-length t n in (sym (c .0), sym (c .1)), λ h. let c = clearing-done t h in (sym (c .0), sym (c .1)))
+clears t = (λ n. let c = clearing-length t n in (sym (c .0), sym (c .1)), λ h. let c = clearing-done t h in (sym (c .0), sym (c .1), sym (c .1)))

@@ -3,7 +3,7 @@ use mathlib.Core.Path.{_≡_, refl, sym, ap, ap₂, _∙_}
 use mathlib.Core.HLevel.{hedberg}
 use mathlib.Core.Logic.{∥∥₁-elim}
 use mathlib.Core.Bool.{true}
-use mathlib.Core.List.{List, [], _∷_, List·Permᴰ, List·Permᴰ·nil, List·Permᴰ·cons, List·Permᴰ·swap, List·Permᴰ·trans, List·isSet}
+use mathlib.Core.List.{List, [], _∷_, _++_, List·Permᴰ, List·Permᴰ·nil, List·Permᴰ·cons, List·Permᴰ·swap, List·Permᴰ·trans, List·isSet}
 use Prim.Native.Nat.{ℕ, suc, _+_, _*_, _^_, _≤_, _<_}
 use native.Mathlib.Decide.{ℕ-discrete}
 use native.Mathlib.Nat.{le-trans, le-of-eq, le-refl, add-zero, zero-add}
@@ -11,9 +11,9 @@ use native.Mathlib.Omega.{arith}
 use lib.IntN.{ℤ, pos, natAbs, _+ℤ_, +ℤ-idl, +ℤ-idr, +ℤ-assoc, +ℤ-comm}
 use lib.ListN.{length}
 use Rattle.words.specs.Words.{wordsOf, wordsOfInteger}
-use Rattle.totals.specs.Totals.{number, totalOf, Term, finiteOperands, exactTerm, whole, done, adding, afterAdding}
-use Rattle.totals.specs.Columns.{zeros, column, Accepted, AllFinite, sum}
-use Rattle.totals.specs.Theorems.{Fit, ExactColumn, AnyOrder}
+use Rattle.totals.specs.Totals.{number, count, totalOf, Term, finiteOperands, exactTerm, whole, done, adding, afterAdding}
+use Rattle.totals.specs.Columns.{zeros, column, Accepted, AllFinite, columnSum}
+use Rattle.totals.specs.Theorems.{FitTotal, ColumnNext, AcceptedEach, AllFiniteIs, ExactColumn, AnyOrder}
 use Rattle.totals.proofs.Held.{total-number, total-count}
 use Rattle.totals.proofs.Adding.{sum-room, one-more, total-fit, accepts}
 use Rattle.totals.proofs.Answers.{after-done}
@@ -31,24 +31,48 @@ module _ (z : ℤ) (n : ℕ) (x : Term) (few : n < 65536) (small : natAbs z ≤ 
 -- ---- all terms, from any total
 pub record Exact (z : ℤ) (n : ℕ) (xs : List Term) : Type 0 where
   pub accepted : Accepted (totalOf z n) xs
-  pub is : column (totalOf z n) xs ≡ totalOf (z +ℤ sum xs) (n + length xs)
-  pub small : natAbs (z +ℤ sum xs) ≤ (n + length xs) * 2 ^ 554
+  pub is : column (totalOf z n) xs ≡ totalOf (z +ℤ columnSum xs) (n + length xs)
+  pub small : natAbs (z +ℤ columnSum xs) ≤ (n + length xs) * 2 ^ 554
 
 pub exact-from : (xs : List Term) (z : ℤ) (n : ℕ) → n + length xs ≤ 65536 → natAbs z ≤ n * 2 ^ 554 → AllFinite xs → Exact z n xs
-unfolding column Accepted AllFinite sum
+unfolding column Accepted AllFinite columnSum
 exact-from [] z n h l f = record { accepted = tt; is = rw (+ℤ-idr z, add-zero n); small = rw (+ℤ-idr z, add-zero n) l }
 exact-from (x ∷ xs) z n h l f =
     let y = z +ℤ whole (exactTerm x) in
     let few : n < 65536 = omega arith in
     let a = after-at z n x few l (f .0) in
     let r = exact-from xs y (suc n) (omega arith) (one-more z n x l (f .0)) (f .1) in
-    let s : y +ℤ sum xs ≡ z +ℤ (whole (exactTerm x) +ℤ sum xs) = +ℤ-assoc z (whole (exactTerm x)) (sum xs) in
+    let s : y +ℤ columnSum xs ≡ z +ℤ (whole (exactTerm x) +ℤ columnSum xs) = +ℤ-assoc z (whole (exactTerm x)) (columnSum xs) in
     let c : suc n + length xs ≡ n + suc (length xs) = omega arith in
     record {
       accepted = (accepted-at z n x few l (f .0), rw a (r .accepted));
       is = ap (λ (t : List ℕ). column t xs) a ∙ r .is ∙ ap₂ totalOf s c;
       small = rw (← s, ← c) (r .small);
     }
+
+-- ---- one term more at the end
+column-more : (t : List ℕ) (xs : List Term) (x : Term) → column t (xs ++ (x ∷ [])) ≡ afterAdding (column t xs) x
+unfolding column
+column-more t [] x = refl
+column-more t (y ∷ xs) x = column-more (afterAdding t y) xs x
+
+pub column-next : ColumnNext
+unfolding column
+column-next t xs x = (refl, column-more t xs x)
+
+pub accepted-each : AcceptedEach
+unfolding Accepted column
+accepted-each t [] ys x a = a .0
+accepted-each t (z ∷ xs) ys x a = accepted-each (afterAdding t z) xs ys x (a .1)
+
+finite-more : (xs : List Term) (x : Term) → AllFinite xs → finiteOperands x ≡ true → AllFinite (xs ++ (x ∷ []))
+unfolding AllFinite
+finite-more [] x f e = (e, tt)
+finite-more (y ∷ xs) x f e = (f .0, finite-more xs x (f .1) e)
+
+pub all-finite-is : AllFiniteIs
+unfolding AllFinite
+all-finite-is xs x = (tt, finite-more xs x)
 
 -- ---- from a cleared total
 cleared-is : zeros ≡ totalOf (pos 0) 0
@@ -57,13 +81,18 @@ cleared-is = refl
 
 pub exact-column : ExactColumn
 exact-column xs h f =
-    let s : pos 0 +ℤ sum xs ≡ sum xs = +ℤ-idl (sum xs) in
+    let s : pos 0 +ℤ columnSum xs ≡ columnSum xs = +ℤ-idl (columnSum xs) in
     let c : 0 + length xs ≡ length xs = zero-add (length xs) in
     let r = exact-from xs (pos 0) 0 (le-trans (le-of-eq c) h) (le-refl 0) f in
-    let small : natAbs (sum xs) ≤ length xs * 2 ^ 554 = rw (s, c) at (r .small) in
-    let is : column zeros xs ≡ totalOf (sum xs) (length xs) = rw cleared-is (r .is ∙ ap₂ totalOf s c) in
-    let fits : Fit (column zeros xs) = rw is (total-fit (sum xs) (length xs) h small) in
-    (rw cleared-is (r .accepted), is, ap number is ∙ total-number (sum xs) (length xs) (sum-room (natAbs (sum xs)) (length xs) h small), fits)
+    let small : natAbs (columnSum xs) ≤ length xs * 2 ^ 554 = rw (s, c) at (r .small) in
+    let is : column zeros xs ≡ totalOf (columnSum xs) (length xs) = rw cleared-is (r .is ∙ ap₂ totalOf s c) in
+    let fits : FitTotal (column zeros xs) = rw is (total-fit (columnSum xs) (length xs) h small) in (
+      rw cleared-is (r .accepted),
+      is,
+      ap number is ∙ total-number (columnSum xs) (length xs) (sum-room (natAbs (columnSum xs)) (length xs) h small),
+      ap count is ∙ total-count (columnSum xs) (length xs),
+      fits,
+    )
 
 -- ---- in any order
 module _ (x y : Term) (z : ℤ) where
@@ -76,11 +105,11 @@ module _ (x y : Term) (z : ℤ) where
   exchanged : a +ℤ (b +ℤ z) ≡ b +ℤ (a +ℤ z)
   exchanged = sym (+ℤ-assoc a b z) ∙ ap (λ (w : ℤ). w +ℤ z) (+ℤ-comm a b) ∙ +ℤ-assoc b a z
 
-perm-sum : {xs ys : List Term} → List·Permᴰ xs ys → sum xs ≡ sum ys
-unfolding sum
+perm-sum : {xs ys : List Term} → List·Permᴰ xs ys → columnSum xs ≡ columnSum ys
+unfolding columnSum
 perm-sum List·Permᴰ·nil = refl
 perm-sum (List·Permᴰ·cons e d) = ap₂ (λ (x : Term) (z : ℤ). whole (exactTerm x) +ℤ z) e (perm-sum d)
-perm-sum (List·Permᴰ·swap {a = x} {b = y} {l = zs} e g) = exchanged x y (sum zs) ∙ ap₂ (λ (u v : Term). whole (exactTerm u) +ℤ (whole (exactTerm v) +ℤ sum zs)) g e
+perm-sum (List·Permᴰ·swap {a = x} {b = y} {l = zs} e g) = exchanged x y (columnSum zs) ∙ ap₂ (λ (u v : Term). whole (exactTerm u) +ℤ (whole (exactTerm v) +ℤ columnSum zs)) g e
 perm-sum (List·Permᴰ·trans d c) = perm-sum d ∙ perm-sum c
 
 perm-length : {xs ys : List Term} → List·Permᴰ xs ys → length xs ≡ length ys

@@ -10,9 +10,9 @@ use lib.Pow.{pow-add}
 use lib.Seq.{take-all, take-at, take-suc, getD-at, length-take-le}
 use Rattle.words.specs.Words.{Words, integer, wordsOfInteger}
 use Rattle.words.proofs.Parts.{take-words}
-use Rattle.words.proofs.TwosComplement.{held, one-set, formed}
+use Rattle.words.proofs.TwosComplement.{held, words-unique, formed}
 use Rattle.totals.specs.Totals.{number, count, totalOf}
-use Rattle.totals.specs.Theorems.{NumberHeld, OneTotal}
+use Rattle.totals.specs.Theorems.{NumberAndCount, NumberHeld, TotalUnique}
 
 -- half the range is 2 ^ 639
 room : (m : ℕ) → m < 2 ^ 639 → 2 * m < 2 ^ (32 * 20)
@@ -47,8 +47,11 @@ total-words z n h = append-words (wordsOfInteger 20 z) n (formed 20 z .1) h
 pub number-held : NumberHeld
 number-held z n h = (total-number z n h, total-count z n)
 
-pub one-total : OneTotal
-one-total t l k =
+pub total-unique : TotalUnique
+total-unique t l k =
     let full : length (take 20 t) ≡ 20 = length-take-le 20 t (omega arith) in
-    let same : wordsOfInteger 20 (number t) ≡ take 20 t = ap (λ (m : ℕ). wordsOfInteger m (number t)) (sym full) ∙ one-set (take 20 t) (take-words 20 t k) in
+    let same : wordsOfInteger 20 (number t) ≡ take 20 t = ap (λ (m : ℕ). wordsOfInteger m (number t)) (sym full) ∙ words-unique (take 20 t) (take-words 20 t k) in
     ap (λ (ws : List ℕ). ws ++ (count t ∷ [])) same ∙ sym (take-suc t 20 0 (omega arith)) ∙ take-all 21 t (omega arith)
+
+pub number-and-count : NumberAndCount
+number-and-count ws n l = (ap integer (take-at ws (n ∷ []) 20 l), getD-at ws n [] 0 20 l)

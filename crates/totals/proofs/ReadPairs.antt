@@ -19,11 +19,11 @@ use Rattle.binary32.proofs.Result.{result-encode}
 use Rattle.binary32.proofs.Sums.{finer-sum}
 use Rattle.augmented.specs.Pairs.{Halves, pairOf, answer, exactSum, exactProduct, sumPair, productPair}
 use Rattle.augmented.proofs.Second.{first-infinite, second-infinite}
-use Rattle.totals.specs.Totals.{number, pattern, product, finiteOperands, whole, pair, exact, patterns, reading}
-use Rattle.totals.specs.Columns.{zeros, column, AllFinite, sum}
-use Rattle.totals.specs.Theorems.{Fit, ReadOverflow, ReadSum, ReadProduct}
+use Rattle.totals.specs.Totals.{number, ofPattern, ofProduct, finiteOperands, whole, pair, exact, pairAnswer, reading}
+use Rattle.totals.specs.Columns.{zeros, column, AllFinite, columnSum}
+use Rattle.totals.specs.Theorems.{FitTotal, ReadOverflow, ReadSum, ReadProduct}
 use Rattle.totals.proofs.TermBound.{untrue}
-use Rattle.totals.proofs.ReadTotal.{fit-reads, read-column}
+use Rattle.totals.proofs.ReadTotal.{read-fit, read-column}
 
 -- a number by its sign and magnitude, if it is not zero
 exact-int : (s : Bool) (N : ℕ) → int s N ≢ pos 0 → exact (int s N) ≡ finite s N
@@ -35,7 +35,7 @@ pub read-overflow : ReadOverflow
 read-overflow t s N f e h =
     let o = over-edge binary32 (lit≤ tt, lit≤ tt) ToZero N h in
     let n : int s N ≢ pos 0 = λ (q : int s N ≡ pos 0). not-zero s N h q in
-    fit-reads t f ∙ ap (λ z. patterns (pairOf binary32 (exact z))) e ∙ ap (λ v. patterns (pairOf binary32 v)) (exact-int s N n)
+    read-fit t f ∙ ap (λ z. pairAnswer (pairOf binary32 (exact z))) e ∙ ap (λ v. pairAnswer (pairOf binary32 v)) (exact-int s N n)
     ∙ ap₂ (λ (v w : Value). pair (encode binary32 v) (encode binary32 w)) (first-infinite binary32 s N o) (second-infinite binary32 s N o)
   where
     not-zero : (s : Bool) (N : ℕ) → edge binary32 < N → int s N ≡ pos 0 → ⊥
@@ -56,14 +56,14 @@ sum-value (finite s a) (finite t b) e f n =
     ap exact z ∙ exact-int (p .0) (p .1) (λ q. n (z ∙ q)) ∙ sym (p .2) ∙ sym (finer-sum binary32 s a t b)
 
 -- the patterns of a pair, as the answer of two operands shows them
-shown : (x y : ℕ) (p : Halves) → patterns p ≡ pair (result binary32 (x ∷ y ∷ []) (p .first)) (result binary32 (x ∷ y ∷ []) (p .second))
+shown : (x y : ℕ) (p : Halves) → pairAnswer p ≡ pair (result binary32 (x ∷ y ∷ []) (p .first)) (result binary32 (x ∷ y ∷ []) (p .second))
 shown x y p = ap₂ pair (sym (result-encode binary32 (x ∷ y ∷ []) (p .first))) (sym (result-encode binary32 (x ∷ y ∷ []) (p .second)))
 
 pub read-sum : ReadSum
-unfolding sum AllFinite sumPair answer
+unfolding columnSum AllFinite sumPair answer
 read-sum x y e f n =
-    read-column (pattern x ∷ pattern y ∷ []) (lit≤ tt) (e, (f, tt))
-    ∙ ap (λ v. patterns (pairOf binary32 v)) (sum-value (decode binary32 x) (decode binary32 y) e f n)
+    read-column (ofPattern x ∷ ofPattern y ∷ []) (lit≤ tt) (e, (f, tt))
+    ∙ ap (λ v. pairAnswer (pairOf binary32 v)) (sum-value (decode binary32 x) (decode binary32 y) e f n)
     ∙ shown x y (pairOf binary32 (exactSum binary32 x y))
 
 product-value : (v w : Value) → isFinite v && isFinite w ≡ true → (whole (times v w) +ℤ pos 0 ≢ pos 0) → exact (whole (times v w) +ℤ pos 0) ≡ times v w
@@ -77,8 +77,8 @@ product-value (finite s a) (finite t b) e n =
     ap exact z ∙ exact-int (unlike s t) (a * b) (λ q. n (z ∙ q))
 
 pub read-product : ReadProduct
-unfolding sum AllFinite productPair answer
+unfolding columnSum AllFinite productPair answer
 read-product x y e n =
-    read-column (product x y ∷ []) (lit≤ tt) (e, tt)
-    ∙ ap (λ v. patterns (pairOf binary32 v)) (product-value (decode binary32 x) (decode binary32 y) e n)
+    read-column (ofProduct x y ∷ []) (lit≤ tt) (e, tt)
+    ∙ ap (λ v. pairAnswer (pairOf binary32 v)) (product-value (decode binary32 x) (decode binary32 y) e n)
     ∙ shown x y (pairOf binary32 (exactProduct binary32 x y))

@@ -1,37 +1,41 @@
--- Reading a total: what a column reads, a zero total, and one that is rounded to zero. Assumes nothing.
+-- Reading a total: the halves of a fit one, of a column, a zero total, and one that is rounded to zero. Assumes nothing.
 use mathlib.Core.Path.{_≡_, refl, sym, ap, ap₂, _∙_}
-use mathlib.Core.Bool.{Bool, true, false, cond}
-use mathlib.Core.List.{List}
-use Prim.Native.Nat.{ℕ, suc, _<_}
+use mathlib.Core.Bool.{Bool, true, false, not, cond}
+use Prim.Native.Nat.{ℕ, suc, _*_, _^_, _≤_, _<_}
+use native.Mathlib.Nat.{le-trans, le-of-eq}
 use native.Mathlib.Omega.{arith}
 use lib.Dec.{eqb}
 use lib.Ieee.{size, unlike}
+use lib.IntN.{_+ℤ_}
 use lib.Pow.{pow-pos}
 use Rattle.rounding.specs.declared.Ties.the-variants.{ToZero}
 use Rattle.rounding.specs.Format.{binary32, limit}
+use Rattle.rounding.specs.Round.{keep, lastPlace, rounded}
 use Rattle.rounding.specs.Value.{Value, finite, bits, encode, round}
-use Rattle.rounding.proofs.Rounded.{rounded-none}
-use Rattle.rounding.proofs.RoundValue.{round-finite}
+use Rattle.rounding.proofs.Rounded.{rounded-none, rounded-mono}
+use Rattle.rounding.proofs.RoundValue.{round-fits}
 use Rattle.binary32.specs.Exact.{int}
-use Rattle.augmented.specs.Pairs.{pairOf}
+use Rattle.augmented.specs.Pairs.{zeroTakes, secondOf, pairOf}
 use Rattle.augmented.proofs.Second.{head, tail, up, tail-le, first-finite, pair-second}
-use Rattle.totals.specs.Totals.{number, pair, exact, patterns, reading}
+use Rattle.totals.specs.Totals.{number, pair, exact, pairAnswer}
 use Rattle.totals.specs.Columns.{zeros, column}
-use Rattle.totals.specs.Theorems.{Fit, ReadColumn, ReadZero, ReadVanished}
+use Rattle.totals.specs.Theorems.{ReadFit, ReadColumn, ReadZero, ReadRoundedToZero, ReadFinite}
 use Rattle.totals.proofs.Answers.{reading-pair}
 use Rattle.totals.proofs.Columns.{exact-column}
+use Rattle.totals.proofs.Rest.{rest-whole}
+use Rattle.totals.proofs.TotalPair.{zero-taken}
 
-pub fit-reads : (t : List ℕ) → Fit t → reading t ≡ patterns (pairOf binary32 (exact (number t)))
-fit-reads t f = reading-pair t (f .full) (f .fits)
+pub read-fit : ReadFit
+read-fit t f = reading-pair t (f .full) (f .fits)
 
 pub read-column : ReadColumn
 read-column xs h f =
     let c = exact-column xs h f in
-    fit-reads (column zeros xs) (c .3) ∙ ap (λ z. patterns (pairOf binary32 (exact z))) (c .2)
+    read-fit (column zeros xs) (c .4) ∙ ap (λ z. pairAnswer (pairOf binary32 (exact z))) (c .2)
 
 -- a number whose head is zero reads a zero of its sign twice
 module _ (s : Bool) (N : ℕ) (none : head binary32 s N ≡ 0) where
-  vanished : patterns (pairOf binary32 (finite s N)) ≡ pair (encode binary32 (finite s 0)) (encode binary32 (finite s 0))
+  vanished : pairAnswer (pairOf binary32 (finite s N)) ≡ pair (encode binary32 (finite s 0)) (encode binary32 (finite s 0))
   unfolding limit
   vanished =
       let below : head binary32 s N < limit binary32 = rw none (pow-pos 277) in
@@ -43,12 +47,32 @@ module _ (s : Bool) (N : ℕ) (none : head binary32 s N ≡ 0) where
 pub read-zero : ReadZero
 unfolding encode bits size
 read-zero t f e =
-    fit-reads t f ∙ ap (λ z. patterns (pairOf binary32 (exact z))) e ∙ vanished false 0 (rounded-none ToZero 23 149)
+    read-fit t f ∙ ap (λ z. pairAnswer (pairOf binary32 (exact z))) e ∙ vanished false 0 (rounded-none ToZero 23 149)
 
-pub read-vanished : ReadVanished
-unfolding round
-read-vanished t s N f e r = fit-reads t f ∙ ap (λ z. patterns (pairOf binary32 (exact z))) e ∙ ap (λ v. patterns (pairOf binary32 v)) (exact-sign s N) ∙ vanished s (suc N) (sym (round-finite ToZero binary32 s (suc N) s 0 r))
+-- half of u is a tie, which goes to zero
+half : rounded ToZero 23 149 (2 ^ 148) ≡ 0
+unfolding rounded keep lastPlace size
+half = refl
+
+pub read-rounded-to-zero : ReadRoundedToZero
+read-rounded-to-zero t s N f e h =
+    let none : head binary32 s (suc N) ≡ 0 = le-zero (le-trans (rounded-mono ToZero 23 149 (suc N) (2 ^ 148) h) (le-of-eq half)) in
+    read-fit t f ∙ ap (λ z. pairAnswer (pairOf binary32 (exact z))) e ∙ ap (λ v. pairAnswer (pairOf binary32 v)) (exact-sign s N) ∙ vanished s (suc N) none
   where
     exact-sign : (s : Bool) (N : ℕ) → exact (int s (suc N)) ≡ finite s (suc N)
     exact-sign false N = refl
     exact-sign true N = refl
+
+    le-zero : {n : ℕ} → n ≤ 0 → n ≡ 0
+    le-zero h = omega arith
+
+-- ---- the halves, where first is finite
+pub read-finite : ReadFinite
+unfolding pairOf secondOf
+read-finite t s a f e =
+    let v = exact (number t +ℤ int (not s) (a * 2 ^ 149)) in
+    read-fit t f
+    ∙ ap₂ pair (ap (encode binary32) e)
+    (ap (λ (w : Value). encode binary32 (secondOf binary32 (exact (number t)) w)) e
+    ∙ ap (λ (w : Value). encode binary32 (zeroTakes s (round ToZero binary32 w))) (rest-whole (number t) s a)
+    ∙ sym (zero-taken s (round ToZero binary32 v) (round-fits ToZero binary32 v)))

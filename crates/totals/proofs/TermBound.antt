@@ -12,7 +12,7 @@ use Rattle.rounding.specs.Format.{binary32, limit}
 use Rattle.rounding.specs.Value.{Value, nan, infinite, finite, Fits, decode, isFinite}
 use Rattle.rounding.proofs.Codec.{decode-fits}
 use Rattle.binary32.specs.Exact.{int, times, finer}
-use Rattle.totals.specs.Totals.{Term, pattern, product, finiteOperands, exactTerm, whole}
+use Rattle.totals.specs.Totals.{Term, ofPattern, ofProduct, finiteOperands, exactTerm, whole}
 
 pub int-magnitude : (s : Bool) (a : ℕ) → natAbs (int s a) ≡ a
 int-magnitude false a = refl
@@ -39,5 +39,5 @@ product-bound (finite s a) (infinite t) f g e = untrue e
 product-bound (finite s a) (finite t b) f g e = le-trans (le-of-eq (int-magnitude (unlike s t) (a * b))) (mul-le-mul (le-of-lt (f .1)) (le-of-lt (g .1)))
 
 pub term-bound : (x : Term) → finiteOperands x ≡ true → natAbs (whole (exactTerm x)) ≤ 2 ^ 554
-term-bound (pattern x) e = pattern-bound (decode binary32 x) (decode-fits binary32 (lit< tt) x) e
-term-bound (product x y) e = product-bound (decode binary32 x) (decode binary32 y) (decode-fits binary32 (lit< tt) x) (decode-fits binary32 (lit< tt) y) e
+term-bound (ofPattern x) e = pattern-bound (decode binary32 x) (decode-fits binary32 (lit< tt) x) e
+term-bound (ofProduct x y) e = product-bound (decode binary32 x) (decode binary32 y) (decode-fits binary32 (lit< tt) x) (decode-fits binary32 (lit< tt) y) e

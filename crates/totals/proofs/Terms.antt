@@ -11,7 +11,7 @@ use lib.ListN.{length}
 use Rattle.rounding.specs.Format.{binary32}
 use Rattle.rounding.specs.Value.{Value, nan, infinite, finite, decode, isFinite}
 use Rattle.binary32.specs.Exact.{int, times, finer}
-use Rattle.totals.specs.Totals.{number, count, totalOf, fit, Term, pattern, product, finiteOperands, exactTerm, whole, Answer, refused, done, adding, afterAdding}
+use Rattle.totals.specs.Totals.{number, count, totalOf, fit, Term, ofPattern, ofProduct, finiteOperands, exactTerm, whole, Answer, refused, done, adding, afterAdding}
 use Rattle.totals.proofs.Answers.{adding-special, adding-full, adding-done, after-refused, after-done}
 
 -- ---- a product is finite where both operands are
@@ -37,8 +37,8 @@ finer-finite (infinite s) = refl
 finer-finite (finite s a) = refl
 
 pub term-finite : (x : Term) → finiteOperands x ≡ isFinite (exactTerm x)
-term-finite (pattern x) = sym (finer-finite (decode binary32 x))
-term-finite (product x y) = sym (times-finite (decode binary32 x) (decode binary32 y))
+term-finite (ofPattern x) = sym (finer-finite (decode binary32 x))
+term-finite (ofProduct x y) = sym (times-finite (decode binary32 x) (decode binary32 y))
 
 -- ---- of a fit total
 module _ (t : List ℕ) (x : Term) (full : length t ≡ 21) (fits : fit t ≡ true) where

@@ -1,35 +1,43 @@
 -- All that specs/Theorems states, proved. Assumes nothing.
 use Rattle.totals.specs.Theorems.{All}
-use Rattle.totals.proofs.Held.{number-held, one-total}
-use Rattle.totals.proofs.Landmarks.{total-landmarks, term-landmarks, product-of-patterns, exact-back}
-use Rattle.totals.proofs.Answers.{refused-term, adding-refused, reading-refused, clears}
-use Rattle.totals.proofs.Adding.{fit-is, lowest-unfit, accepted-term, exact-term}
-use Rattle.totals.proofs.Columns.{exact-column, any-order}
-use Rattle.totals.proofs.ReadTotal.{read-column, read-zero, read-vanished}
+use Rattle.totals.proofs.Held.{number-and-count, number-held, total-unique}
+use Rattle.totals.proofs.Landmarks.{total-landmarks, finite-operands-are, pattern-term, product-term, term-landmarks, exact-back}
+use Rattle.totals.proofs.Answers.{adding-refused, refused-term, clears, reading-refused}
+use Rattle.totals.proofs.Adding.{fit-is, lowest-unfit, accepted-term, exact-adding}
+use Rattle.totals.proofs.Columns.{column-next, accepted-each, all-finite-is, exact-column, any-order}
+use Rattle.totals.proofs.ReadTotal.{read-fit, read-column, read-finite, read-zero, read-rounded-to-zero}
 use Rattle.totals.proofs.ReadPairs.{read-overflow, read-sum, read-product}
 
 pub all : All
 all = (
+  number-and-count,
   number-held,
-  one-total,
+  total-unique,
   total-landmarks,
   fit-is,
   lowest-unfit,
+  finite-operands-are,
+  pattern-term,
+  product-term,
   term-landmarks,
-  product-of-patterns,
-  accepted-term,
-  exact-term,
-  refused-term,
   adding-refused,
-  reading-refused,
+  accepted-term,
+  exact-adding,
+  refused-term,
   clears,
+  column-next,
+  accepted-each,
+  all-finite-is,
   exact-column,
   any-order,
+  reading-refused,
+  read-fit,
   read-column,
-  read-zero,
-  read-vanished,
   exact-back,
+  read-finite,
   read-overflow,
+  read-zero,
+  read-rounded-to-zero,
   read-sum,
   read-product,
 )

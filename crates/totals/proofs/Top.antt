@@ -16,7 +16,7 @@ use Rattle.rounding.specs.Value.{finite}
 use Rattle.words.specs.Words.{Words, natural, integer, wordsOf, complement}
 use Rattle.words.proofs.Append.{natural-append}
 use Rattle.words.proofs.Parts.{take-words}
-use Rattle.words.proofs.TwosComplement.{natural-words, natural-complement, integer-positive, integer-negative}
+use Rattle.words.proofs.TwosComplement.{natural-back, natural-complement, integer-positive, integer-negative}
 use Rattle.totals.specs.Totals.{exact}
 
 -- over a variable b, as a power of two is one for omega
@@ -82,9 +82,9 @@ module _ (k : ℕ) (ws : List ℕ) (full : length ws ≡ suc k) (words : Words w
   pub magnitude-top : (s : Bool) → s ≡ leb (2 ^ 31) top → natural (wordsOf (length ws) (natural (cond s (map complement ws) ws) + cond s 1 0)) ≡ natAbs (integer ws)
   magnitude-top false e =
       let h = leb-false (2 ^ 31) top (sym e) in
-      let r = natural-words (length ws) (natural ws + 0) (whole-lt (natural ws) (2 ^ (32 * length ws)) (natural (map complement ws)) (natural-complement ws words) (lower-half h)) in
+      let r = natural-back (length ws) (natural ws + 0) (whole-lt (natural ws) (2 ^ (32 * length ws)) (natural (map complement ws)) (natural-complement ws words) (lower-half h)) in
       r ∙ add-zero (natural ws) ∙ ap natAbs (sym (positive h))
   magnitude-top true e =
       let h = leb-true (2 ^ 31) top (sym e) in
-      let r = natural-words (length ws) (natural (map complement ws) + 1) (one-more-lt (natural ws) (2 ^ (32 * length ws)) (natural (map complement ws)) (natural-complement ws words) (upper-half h)) in
+      let r = natural-back (length ws) (natural (map complement ws) + 1) (one-more-lt (natural ws) (2 ^ (32 * length ws)) (natural (map complement ws)) (natural-complement ws words) (upper-half h)) in
       r ∙ add-one (natural (map complement ws)) ∙ ap natAbs (sym (negative h))

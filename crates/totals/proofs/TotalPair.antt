@@ -22,11 +22,11 @@ use Rattle.augmented.specs.Pairs.{rest, zeroTakes, secondOf, pairOf}
 use Rattle.augmented.proofs.Patterns.{zero-pattern}
 use Rattle.words.specs.Words.{integer, wordsOfInteger}
 use Rattle.words.proofs.TwosComplement.{held}
-use Rattle.totals.specs.Totals.{pair, exact, patterns}
+use Rattle.totals.specs.Totals.{pair, exact, pairAnswer}
 use Rattle.totals.proofs.Rest.{rest-whole, rest-le}
 
 -- a zero's pattern with the sign s, at every value of the format
-zero-taken : (s : Bool) (v : Value) → Fits binary32 v → zeroPattern s (encode binary32 v) ≡ encode binary32 (zeroTakes s v)
+pub zero-taken : (s : Bool) (v : Value) → Fits binary32 v → zeroPattern s (encode binary32 v) ≡ encode binary32 (zeroTakes s v)
 unfolding zeroTakes Fits encode
 zero-taken s nan h = refl
 zero-taken s (infinite true) h = refl
@@ -44,7 +44,7 @@ module _ (z : ℤ) (first : ℕ) (is : first ≡ encode binary32 (round ToZero b
       sym (class-value first c e ∙ ap (decode binary32) is ∙ decode-encode binary32 (omega arith) (round ToZero binary32 (exact z)) (round-fits ToZero binary32 (exact z)))
 
   -- infinite, or NaN, which it never is: twice
-  pub halves-other : (c : Class) → c ≡ classOf first → isFinite (valueOf c) ≡ false → pair first first ≡ patterns (pairOf binary32 (exact z))
+  pub halves-other : (c : Class) → c ≡ classOf first → isFinite (valueOf c) ≡ false → pair first first ≡ pairAnswer (pairOf binary32 (exact z))
   unfolding pairOf secondOf
   halves-other c e h = ap₂ pair is (is ∙ ap (encode binary32) (same (RN0 binary32 (exact z)) (ap isFinite (class-first c e) ∙ h)))
     where
@@ -84,7 +84,7 @@ module _ (z : ℤ) (first : ℕ) (is : first ≡ encode binary32 (round ToZero b
     -- finite: the second is what is left, rounded, from the words that hold it
     pub halves-finite : natAbs z < 2 ^ 639 → (words : List ℕ) → words ≡ wordsOfInteger 20 left
         → (second : ℕ) → second ≡ encode binary32 (round ToZero binary32 (exact (integer words)))
-        → (last : ℕ) → last ≡ zeroPattern s second → pair first last ≡ patterns (pairOf binary32 (exact z))
+        → (last : ℕ) → last ≡ zeroPattern s second → pair first last ≡ pairAnswer (pairOf binary32 (exact z))
     unfolding pairOf
     halves-finite h words w second e last l =
         let y : integer words ≡ left = ap integer w ∙ left-held h in

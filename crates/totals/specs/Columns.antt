@@ -5,13 +5,13 @@ use mathlib.Core.Bool.{true}
 use mathlib.Core.List.{List, [], _∷_}
 use lib.ListN.{replicate}
 use lib.IntN.{ℤ, pos, _+ℤ_}
-use Rattle.totals.specs.Totals.{Term, Answer, done, finiteOperands, exactTerm, whole, adding, afterAdding}
+use Rattle.totals.specs.Totals.{Term, done, finiteOperands, exactTerm, whole, adding, afterAdding}
 
 -- all 21 words of a cleared total
 abbrev pub zeros : List ℕ
 zeros = replicate 21 0
 
--- the words after the terms
+-- the words after all the terms, in this order; a refused one changes nothing
 unfoldable pub column : List ℕ → List Term → List ℕ
 column t [] = t
 column t (x ∷ xs) = column (afterAdding t x) xs
@@ -27,6 +27,6 @@ AllFinite [] = Unit {0}
 AllFinite (x ∷ xs) = (finiteOperands x ≡ true) × AllFinite xs
 
 -- the exact sum, in units of 2 ^ -298
-unfoldable pub sum : List Term → ℤ
-sum [] = pos 0
-sum (x ∷ xs) = whole (exactTerm x) +ℤ sum xs
+unfoldable pub columnSum : List Term → ℤ
+columnSum [] = pos 0
+columnSum (x ∷ xs) = whole (exactTerm x) +ℤ columnSum xs

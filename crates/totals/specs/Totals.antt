@@ -29,18 +29,18 @@ fit t = leb (count t) 65536 && leb (natAbs (number t)) (count t * 2 ^ 554)
 
 -- ---- "Terms are patterns or products of two patterns."
 pub data Term : Type 0 where
-  pattern : ℕ → Term
-  product : ℕ → ℕ → Term
+  ofPattern : ℕ → Term
+  ofProduct : ℕ → ℕ → Term
 
 -- no operand is infinite or NaN
 abbrev pub finiteOperands : Term → Bool
-finiteOperands (pattern x) = isFinite (decode binary32 x)
-finiteOperands (product x y) = isFinite (decode binary32 x) && isFinite (decode binary32 y)
+finiteOperands (ofPattern x) = isFinite (decode binary32 x)
+finiteOperands (ofProduct x y) = isFinite (decode binary32 x) && isFinite (decode binary32 y)
 
--- the exact value
+-- the exact value, in units of 2 ^ -298
 abbrev pub exactTerm : Term → Value
-exactTerm (pattern x) = finer binary32 (decode binary32 x)
-exactTerm (product x y) = times (decode binary32 x) (decode binary32 y)
+exactTerm (ofPattern x) = finer binary32 (decode binary32 x)
+exactTerm (ofProduct x y) = times (decode binary32 x) (decode binary32 y)
 
 -- a finite value as a whole number; of the others, which are refused, no use is made
 abbrev pub whole : Value → ℤ
@@ -85,9 +85,9 @@ abbrev pub exact : ℤ → Value
 exact (pos n) = finite false n
 exact (negsuc n) = finite true (suc n)
 
-abbrev pub patterns : Halves → Answer
-patterns p = pair (encode binary32 (p .first)) (encode binary32 (p .second))
+abbrev pub pairAnswer : Halves → Answer
+pairAnswer p = pair (encode binary32 (p .first)) (encode binary32 (p .second))
 
--- "Reading a total: 5, 6."
+-- "Reading a total: 5, 6." It changes no word: the total is lent to be looked at only.
 unfoldable pub reading : List ℕ → Answer
-reading t = cond (not (eqb (length t) 21)) (refused 5) (cond (not (fit t)) (refused 6) (patterns (pairOf binary32 (exact (number t)))))
+reading t = cond (not (eqb (length t) 21)) (refused 5) (cond (not (fit t)) (refused 6) (pairAnswer (pairOf binary32 (exact (number t)))))

@@ -3,5 +3,6 @@ pub mod Signed
 pub mod TwosComplement
 pub mod Append
 pub mod Parts
+pub mod Places
 pub mod Significand
 pub mod Theorems

@@ -13,7 +13,7 @@ use Rattle.binary32.specs.Exact.{int}
 use Rattle.words.specs.Words.{Words, natural, integer, wordsOf, wordsOfInteger}
 use Rattle.words.proofs.Carry.{walk, walk-from}
 use Rattle.words.proofs.Signed.{walk-integer}
-use Rattle.words.proofs.TwosComplement.{words-natural, one-set}
+use Rattle.words.proofs.TwosComplement.{words-natural, words-unique}
 
 pub take-words : (w : ℕ) (ws : List ℕ) → Words ws → Words (take w ws)
 take-words zero ws k i = lit< tt
@@ -30,7 +30,7 @@ unfolding wordsOfInteger
 walk-is s ws n k = ap (λ (xs : List ℕ). walk s xs n) (sym (words-natural ws k)) ∙ walk-integer s (length ws) (pos (natural ws)) n
 
 pub walk-signed : (s : Bool) (ws : List ℕ) (n : ℕ) → Words ws → walk s ws n ≡ wordsOfInteger (length ws) (integer ws +ℤ int s n)
-walk-signed s ws n k = ap (λ (xs : List ℕ). walk s xs n) (sym (one-set ws k)) ∙ walk-integer s (length ws) (integer ws) n
+walk-signed s ws n k = ap (λ (xs : List ℕ). walk s xs n) (sym (words-unique ws k)) ∙ walk-integer s (length ws) (integer ws) n
 
 -- ---- k words from word w on
 take-less : (k v : ℕ) (ws : List ℕ) → take v (take (v + k) ws) ≡ take v ws

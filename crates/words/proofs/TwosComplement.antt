@@ -12,7 +12,7 @@ use lib.IntN.{ℤ, pos, negsuc, natAbs, _-ℤ_}
 use lib.ListN.{length, getD, length-map}
 use lib.Pow.{pow-add, pow-pos}
 use Rattle.words.specs.Words.{Words, natural, integer, wordsOf, wordsOfInteger, complement}
-use Rattle.words.specs.Theorems.{Held, OneSet, Formed}
+use Rattle.words.specs.Theorems.{Held, WordsUnique, Formed}
 use Rattle.words.proofs.Signed.{words-back}
 
 base-suc : (k : ℕ) → 2 ^ (32 * suc k) ≡ 4294967296 * 2 ^ (32 * k)
@@ -36,12 +36,12 @@ complement-words (w ∷ ws) zero = omega arith
 complement-words (w ∷ ws) (suc i) = complement-words ws i
 
 -- a number that has room comes back
-pub natural-words : (k n : ℕ) → n < 2 ^ (32 * k) → natural (wordsOf k n) ≡ n
+pub natural-back : (k n : ℕ) → n < 2 ^ (32 * k) → natural (wordsOf k n) ≡ n
 unfolding natural wordsOf
-natural-words zero n h = let e : 0 ≡ n = omega arith in e
-natural-words (suc k) n h =
+natural-back zero n h = let e : 0 ≡ n = omega arith in e
+natural-back (suc k) n h =
     let b = base-suc k in
-    let i = natural-words k (n / 4294967296) (let r : n / 4294967296 < 2 ^ (32 * k) = omega arith in r) in
+    let i = natural-back k (n / 4294967296) (let r : n / 4294967296 < 2 ^ (32 * k) = omega arith in r) in
     rw i (omega arith)
 
 -- and words are those of their number
@@ -94,11 +94,11 @@ pub held : Held
 unfolding wordsOfInteger
 held k (pos n) h =
     let ws = wordsOf k n in
-    let r = natural-words k n (room n (2 ^ (32 * k)) 0 0 h) in
+    let r = natural-back k n (room n (2 ^ (32 * k)) 0 0 h) in
     integer-positive ws (rw (r, words-length k n) h) ∙ ap pos r
 held k (negsuc n) h =
     let ws = wordsOf k n in
-    let r = natural-words k n (lower n (2 ^ (32 * k)) 0 0 h) in
+    let r = natural-back k n (lower n (2 ^ (32 * k)) 0 0 h) in
     let s : natural (map complement ws) + natural ws + 1 ≡ 2 ^ (32 * k) = natural-complement ws (words-words k n) ∙ ap (λ (x : ℕ). 2 ^ (32 * x)) (words-length k n) in
     let l : length (map complement ws) ≡ k = length-map ws complement ∙ words-length k n in
     integer-negative (map complement ws) (complement-words ws) (rw l (upper n (2 ^ (32 * k)) (natural ws) (natural (map complement ws)) h r s))
@@ -111,9 +111,9 @@ complement-back (w ∷ ws) k =
     let e : 4294967295 - (4294967295 - w) ≡ w = omega arith in
     rw (e, complement-back ws (λ i. k (suc i)))
 
-pub one-set : OneSet
+pub words-unique : WordsUnique
 unfolding wordsOfInteger
-one-set ws k =
+words-unique ws k =
     elim (decLe (2 ^ (32 * length ws)) (2 * natural ws)) [
       | yes h ↦
           ap (wordsOfInteger (length ws)) (integer-negative ws k h)

@@ -15,7 +15,7 @@ unfoldable pub natural : List ℕ → ℕ
 natural [] = 0
 natural (w ∷ ws) = w + 2 ^ 32 * natural ws
 
--- two's complement: from half the range on, a number less the range
+-- two's complement: the range of k words is 2 ^ (32 k), and from half of it on a number stands for itself less the range
 unfoldable pub integer : List ℕ → ℤ
 unfolding natural
 integer ws = cond (ltb (2 * natural ws) (2 ^ (32 * length ws))) (pos (natural ws)) (pos (natural ws) -ℤ pos (2 ^ (32 * length ws)))

@@ -10,7 +10,7 @@ use Rattle.binary32.specs.declared.class.Class.{Class}
 use Rattle.binary32.specs.Exact.{finer}
 use Rattle.binary32.specs.Classes.{valueOf}
 use Rattle.binary32.proofs.Classified.{class-operand}
-use Rattle.totals.specs.Totals.{pattern, refused}
+use Rattle.totals.specs.Totals.{ofPattern, refused}
 use Rattle.totals.proofs.Adding.{fit-bounds}
 use Rattle.totals.proofs.Terms.{tried, special}
 use Rattle.accumulator.proofs.Lent.{sound, lent-adds}
@@ -30,7 +30,7 @@ same-length c = search needs
 returns : tie.Need-returns
 returns c =
     let t = c .before .before .before .before .before .args .total .now in
-    let r = lent-adds t (λ e. c .before .if1 .taken (c .before .before .refusal .ensures ∙ e)) (pattern (c .before .before .before .before .before .args .x)) in
+    let r = lent-adds t (λ e. c .before .if1 .taken (c .before .before .refusal .ensures ∙ e)) (ofPattern (c .before .before .before .before .before .args .x)) in
     (c .lent-refused .ensures ∙ ap (λ (n : ℕ). cond (eqb n 5) (refused 5) (refused 6)) (c .before .before .refusal .ensures) ∙ r .0, r .1)
 
 classify-requires : tie.Need-classify-requires
@@ -68,7 +68,7 @@ returns-2 : tie.Need-returns-2
 unfolding finer valueOf
 returns-2 c =
     let s = sound (c .before .before .before .before .before .before .before .before .before .before .before .before .before .args .total .now) (sym (c .before .before .before .before .before .before .before .before .before .before .refusal .ensures) ∙ c .before .before .before .before .before .before .before .before .before .if1 .left) in
-    tried (c .before .before .before .before .before .before .before .before .before .before .before .before .before .args .total .now) (pattern (c .before .before .before .before .before .before .before .before .before .before .before .before .before .args .x)) (s .0) (s .1) _ _ (pattern-value _ _ (c .before .before .before .before .before .before .before .before .classify .ensures) ∙ ap (λ (v : Class). finer binary32 (valueOf v)) (c .before .before .before .before .before .before .a .given .1) ∙ finer-digits _ _ _) _ _ _ (c .before .before .before .add .ensures .0) (c .tried .ensures) (c .before .before .before .add .ensures .1)
+    tried (c .before .before .before .before .before .before .before .before .before .before .before .before .before .args .total .now) (ofPattern (c .before .before .before .before .before .before .before .before .before .before .before .before .before .args .x)) (s .0) (s .1) _ _ (pattern-value _ _ (c .before .before .before .before .before .before .before .before .classify .ensures) ∙ ap (λ (v : Class). finer binary32 (valueOf v)) (c .before .before .before .before .before .before .a .given .1) ∙ finer-digits _ _ _) _ _ _ (c .before .before .before .add .ensures .0) (c .tried .ensures) (c .before .before .before .add .ensures .1)
 
 same-length-3 : tie.Need-same-length-3
 same-length-3 c = search needs
@@ -77,7 +77,7 @@ returns-3 : tie.Need-returns-3
 unfolding finer valueOf
 returns-3 c =
     let s = sound (c .before .before .before .before .before .before .before .args .total .now) (sym (c .before .before .before .before .refusal .ensures) ∙ c .before .before .before .if1 .left) in
-    special (c .before .before .before .before .before .before .before .args .total .now) (pattern (c .before .before .before .before .before .before .before .args .x)) (s .0) (s .1) (ap isFinite (pattern-value _ _ (c .before .before .classify .ensures) ∙ ap (λ (v : Class). finer binary32 (valueOf v)) (c .enum-told .given .1)))
+    special (c .before .before .before .before .before .before .before .args .total .now) (ofPattern (c .before .before .before .before .before .before .before .args .x)) (s .0) (s .1) (ap isFinite (pattern-value _ _ (c .before .before .classify .ensures) ∙ ap (λ (v : Class). finer binary32 (valueOf v)) (c .enum-told .given .1)))
 
 same-length-4 : tie.Need-same-length-4
 same-length-4 c = search needs
@@ -86,7 +86,7 @@ returns-4 : tie.Need-returns-4
 unfolding finer valueOf
 returns-4 c =
     let s = sound (c .before .before .before .before .before .before .before .args .total .now) (sym (c .before .before .before .before .refusal .ensures) ∙ c .before .before .before .if1 .left) in
-    special (c .before .before .before .before .before .before .before .args .total .now) (pattern (c .before .before .before .before .before .before .before .args .x)) (s .0) (s .1) (ap isFinite (pattern-value _ _ (c .before .before .classify .ensures) ∙ ap (λ (v : Class). finer binary32 (valueOf v)) (c .enum-told2 .given .1)))
+    special (c .before .before .before .before .before .before .before .args .total .now) (ofPattern (c .before .before .before .before .before .before .before .args .x)) (s .0) (s .1) (ap isFinite (pattern-value _ _ (c .before .before .classify .ensures) ∙ ap (λ (v : Class). finer binary32 (valueOf v)) (c .enum-told2 .given .1)))
 
 pub add-pattern-spec : {M : Type 1} → statement M
 add-pattern-spec =

@@ -6,7 +6,7 @@ use native.Mathlib.Omega.{arith}
 use lib.Dec.{eqb}
 use Rattle.rounding.specs.Value.{isFinite}
 use Rattle.binary32.specs.Classes.{valueOf}
-use Rattle.totals.specs.Totals.{product, refused}
+use Rattle.totals.specs.Totals.{ofProduct, refused}
 use Rattle.totals.proofs.Adding.{fit-bounds}
 use Rattle.totals.proofs.Terms.{tried, special}
 use Rattle.accumulator.proofs.Lent.{sound, lent-adds}
@@ -25,7 +25,7 @@ same-length c = search needs
 returns : tie.Need-returns
 returns c =
     let t = c .before .before .before .before .before .args .total .now in
-    let r = lent-adds t (λ e. c .before .if1 .taken (c .before .before .refusal .ensures ∙ e)) (product (c .before .before .before .before .before .args .x) (c .before .before .before .before .before .args .y)) in
+    let r = lent-adds t (λ e. c .before .if1 .taken (c .before .before .refusal .ensures ∙ e)) (ofProduct (c .before .before .before .before .before .args .x) (c .before .before .before .before .before .args .y)) in
     (c .lent-refused .ensures ∙ ap (λ (n : ℕ). cond (eqb n 5) (refused 5) (refused 6)) (c .before .before .refusal .ensures) ∙ r .0, r .1)
 
 product-requires : tie.Need-product-requires
@@ -57,7 +57,7 @@ unfolding valueOf
 returns-2 c =
     let s = sound (c .before .before .before .before .before .before .before .before .before .before .before .before .before .args .total .now) (sym (c .before .before .before .before .before .before .before .before .before .before .refusal .ensures) ∙ c .before .before .before .before .before .before .before .before .before .if1 .left) in
     let v = rw (c .before .before .before .before .before .before .p .given .1) at (c .before .before .before .before .before .before .before .before .product .ensures) in
-    tried (c .before .before .before .before .before .before .before .before .before .before .before .before .before .args .total .now) (product (c .before .before .before .before .before .before .before .before .before .before .before .before .before .args .x) (c .before .before .before .before .before .before .before .before .before .before .before .before .before .args .y)) (s .0) (s .1) _ _ (v .is) _ _ _ (c .before .before .before .add .ensures .0) (c .tried .ensures) (c .before .before .before .add .ensures .1)
+    tried (c .before .before .before .before .before .before .before .before .before .before .before .before .before .args .total .now) (ofProduct (c .before .before .before .before .before .before .before .before .before .before .before .before .before .args .x) (c .before .before .before .before .before .before .before .before .before .before .before .before .before .args .y)) (s .0) (s .1) _ _ (v .is) _ _ _ (c .before .before .before .add .ensures .0) (c .tried .ensures) (c .before .before .before .add .ensures .1)
 
 same-length-3 : tie.Need-same-length-3
 same-length-3 c = search needs
@@ -67,7 +67,7 @@ unfolding valueOf
 returns-3 c =
     let s = sound (c .before .before .before .before .before .before .before .args .total .now) (sym (c .before .before .before .before .refusal .ensures) ∙ c .before .before .before .if1 .left) in
     let v = rw (c .enum-told .given .1) at (c .before .before .product .ensures) in
-    special (c .before .before .before .before .before .before .before .args .total .now) (product (c .before .before .before .before .before .before .before .args .x) (c .before .before .before .before .before .before .before .args .y)) (s .0) (s .1) (ap isFinite (v .is))
+    special (c .before .before .before .before .before .before .before .args .total .now) (ofProduct (c .before .before .before .before .before .before .before .args .x) (c .before .before .before .before .before .before .before .args .y)) (s .0) (s .1) (ap isFinite (v .is))
 
 same-length-4 : tie.Need-same-length-4
 same-length-4 c = search needs
@@ -77,7 +77,7 @@ unfolding valueOf
 returns-4 c =
     let s = sound (c .before .before .before .before .before .before .before .args .total .now) (sym (c .before .before .before .before .refusal .ensures) ∙ c .before .before .before .if1 .left) in
     let v = rw (c .enum-told2 .given .1) at (c .before .before .product .ensures) in
-    special (c .before .before .before .before .before .before .before .args .total .now) (product (c .before .before .before .before .before .before .before .args .x) (c .before .before .before .before .before .before .before .args .y)) (s .0) (s .1) (ap isFinite (v .is))
+    special (c .before .before .before .before .before .before .before .args .total .now) (ofProduct (c .before .before .before .before .before .before .before .args .x) (c .before .before .before .before .before .before .before .args .y)) (s .0) (s .1) (ap isFinite (v .is))
 
 pub add-product-spec : {M : Type 1} → statement M
 add-product-spec =

@@ -6,7 +6,7 @@ use lib.IntN.{natAbs}
 use Rattle.rounding.specs.Format.{binary32}
 use Rattle.augmented.specs.Pairs.{pairOf}
 use Rattle.words.specs.Words.{integer}
-use Rattle.totals.specs.Totals.{number, count, exact, patterns}
+use Rattle.totals.specs.Totals.{number, count, exact, pairAnswer}
 use Rattle.totals.proofs.Adding.{fit-bounds, sum-room}
 use Rattle.totals.proofs.Answers.{reading-pair}
 use Rattle.accumulator.proofs.Lent.{sound, lent-reads-length, lent-reads-unfit}
@@ -29,7 +29,7 @@ of-number-requires c κs =
 returns : tie.Need-returns
 returns c =
     let s = sound (c .before .before .before .before .before .args .total .now) (sym (c .before .before .before .refusal .ensures) ∙ c .before .before .match .keys1) in
-    c .of-number .ensures ∙ ap (λ (ws : List ℕ). patterns (pairOf binary32 (exact (integer ws)))) (c .before .copied .ensures)
+    c .of-number .ensures ∙ ap (λ (ws : List ℕ). pairAnswer (pairOf binary32 (exact (integer ws)))) (c .before .copied .ensures)
     ∙ sym (reading-pair (c .before .before .before .before .before .args .total .now) (s .0) (s .1))
 
 returns-2 : tie.Need-returns-2

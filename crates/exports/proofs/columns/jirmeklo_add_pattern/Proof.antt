@@ -1,7 +1,7 @@
 use borrow.Author.Needs.{needs}
 use mathlib.Core.Path.{_≡_, sym, ap, _∙_}
 use Rattle.accumulator.specs.Answers.{answerAdded}
-use Rattle.exports.specs.Answers.{numberOf}
+use Rattle.exports.specs.Answers.{refusalNumber}
 use Rattle.exports.proofs.columns.jirmeklo_add_pattern.Statement.{statement}
 use Rattle.exports.proofs.columns.jirmeklo_add_pattern.Tie as tie
 
@@ -17,7 +17,7 @@ same-length c = search needs
 returns : tie.Need-returns
 returns c =
     let r = c .before .before .before .add-pattern in
-    (c .number .ensures ∙ ap numberOf (r .ensures .0), r .ensures .1)
+    (c .number .ensures ∙ ap refusalNumber (r .ensures .0), r .ensures .1)
 
 pub jirmeklo-add-pattern-spec : {M : Type 1} → statement M
 jirmeklo-add-pattern-spec =

@@ -1,7 +1,7 @@
 use borrow.Author.Needs.{needs}
 use mathlib.Core.Path.{_≡_, sym, ap, _∙_}
 use Rattle.accumulator.specs.Answers.{answerAdded}
-use Rattle.exports.specs.Answers.{numberOf}
+use Rattle.exports.specs.Answers.{refusalNumber}
 use Rattle.exports.proofs.columns.jirmeklo_add_product.Statement.{statement}
 use Rattle.exports.proofs.columns.jirmeklo_add_product.Tie as tie
 
@@ -17,7 +17,7 @@ same-length c = search needs
 returns : tie.Need-returns
 returns c =
     let r = c .before .before .before .add-product in
-    (c .number .ensures ∙ ap numberOf (r .ensures .0), r .ensures .1)
+    (c .number .ensures ∙ ap refusalNumber (r .ensures .0), r .ensures .1)
 
 pub jirmeklo-add-product-spec : {M : Type 1} → statement M
 jirmeklo-add-product-spec =

@@ -1,7 +1,7 @@
 use borrow.Author.Needs.{needs}
 use mathlib.Core.Path.{_≡_, sym, ap, _∙_}
 use Rattle.accumulator.specs.Answers.{answerCleared}
-use Rattle.exports.specs.Answers.{numberOf}
+use Rattle.exports.specs.Answers.{refusalNumber}
 use Rattle.exports.proofs.columns.jirmeklo_clear.Statement.{statement}
 use Rattle.exports.proofs.columns.jirmeklo_clear.Tie as tie
 
@@ -21,7 +21,7 @@ returns : tie.Need-returns
 returns c =
     let r = c .before .before .before .before .clear in
     let e = rw (c .enum-told .given .1) at (r .ensures .0) in
-    (ap numberOf e, r .ensures .1)
+    (ap refusalNumber e, r .ensures .1)
 
 same-length-2 : tie.Need-same-length-2
 same-length-2 c = search needs
@@ -30,7 +30,7 @@ returns-2 : tie.Need-returns-2
 returns-2 c =
     let r = c .before .before .before .before .clear in
     let e = rw (c .enum-told2 .given .1) at (r .ensures .0) in
-    (ap numberOf e, r .ensures .1)
+    (ap refusalNumber e, r .ensures .1)
 
 pub jirmeklo-clear-spec : {M : Type 1} → statement M
 jirmeklo-clear-spec =

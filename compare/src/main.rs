@@ -1,4 +1,4 @@
-//! `compare check` compares the library with its references, `bench` times it, `step` and `pair` ask it one question.
+//! `compare check` compares the library with its references, `bench` times it, `step`, `pair` and `total` ask it one question.
 mod bench;
 mod check;
 mod edges;
@@ -27,9 +27,10 @@ use step::{Question, Step, STEPS};
 use subject::{Library, Subject};
 
 const USAGE: &str = "usage: compare check [--seed N] [--count N] [--pairs N] [--columns N] | compare bench [--seed N]
-     | compare step STEP PATTERN PATTERN [PATTERN] | compare pair OPERATION PATTERN PATTERN
+     | compare step STEP PATTERN PATTERN [PATTERN] | compare pair OPERATION PATTERN PATTERN | compare total TERM...
     STEP        add, sub, mul or fma, which takes three patterns; a pattern is eight upper-case hexadecimal digits
     OPERATION   sum, dif or mul
+    TERM        a pattern, or two with * between, whose product is added
     --seed N    the seed of the random questions (default 1)
     --count N   random questions a step, shared by the shapes (default 24000000)
     --pairs N   random questions an operation of the pairs, shared by the shapes (default 16800000)
@@ -43,6 +44,7 @@ fn main() -> ExitCode {
     let answered = match command.as_str() {
         "step" => one_step(rest),
         "pair" => one_pair(rest),
+        "total" => one_total(rest),
         _ => return measured_or_compared(command, rest),
     };
     let Some(answer) = answered else {
@@ -105,6 +107,25 @@ fn one_pair(words: &[String]) -> Option<String> {
     let operation = OPERATIONS.into_iter().find(|operation| operation.name() == name)?;
     let &[x, y] = patterns(words)?.as_slice() else { return None };
     Some(pairs::subject::Library.pair(operation, x, y).shown("\t"))
+}
+
+/// Adds the terms to a cleared total: what it then reads, first and second, or the first refusal.
+fn one_total(words: &[String]) -> Option<String> {
+    let mut total = [0; 21];
+    totals::subject::clear(&mut total);
+    for word in words {
+        let terms = word.split('*').map(pattern::read).collect::<Option<Vec<u32>>>()?;
+        let refusal = match terms.as_slice() {
+            &[x] => totals::subject::add_pattern(&mut total, x),
+            &[x, y] => totals::subject::add_product(&mut total, x, y),
+            _ => return None,
+        };
+        if refusal != 0 {
+            return Some(format!("{word} is refused: {refusal}"));
+        }
+    }
+    let reading = totals::subject::read(&total);
+    Some(format!("{:08X}\t{:08X}", reading.first, reading.second))
 }
 
 fn options(words: &[String]) -> Option<Options> {

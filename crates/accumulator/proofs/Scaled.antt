@@ -1,11 +1,11 @@
 -- Patterns and products as terms: their exact values. Assumes nothing.
-use mathlib.Core.Path.{_≡_, refl, sym, ap, _∙_}
+use mathlib.Core.Path.{_≡_, sym, ap, _∙_}
 use mathlib.Core.Bool.{Bool}
 use Prim.Native.Nat.{ℕ, _+_, _*_, _^_}
 use native.Mathlib.Nat.{mul-assoc}
 use lib.Pow.{pow-add}
 use Rattle.rounding.specs.Format.{binary32}
-use Rattle.rounding.specs.Value.{Value, finite, decode}
+use Rattle.rounding.specs.Value.{finite}
 use Rattle.binary32.specs.declared.class.Class.{Class}
 use Rattle.binary32.specs.Exact.{finer}
 use Rattle.binary32.specs.Classes.{classOf, valueOf}

@@ -1,8 +1,7 @@
 // Whether a total is fit: its top words tell, but at the limit itself.
 use rounding::pick::pick_pattern;
 ghost use mathlib.Core.Path.{_≡_};
-ghost use mathlib.Core.Bool.{not, cond, _&&_};
-ghost use Prim.Native.Nat.{_-_};
+ghost use mathlib.Core.Bool.{cond};
 ghost use lib.Dec.{eqb};
 ghost use lib.ListN.{length};
 ghost use Rattle.words.specs.Words.{natural, complement};

@@ -31,6 +31,7 @@ pub enum Reading {
     Unfit,
 }
 
+// Any 21 words: a total that is damaged can be cleared.
 pub fn clear(total: &mut [u32]) -> Cleared
     ensures { λ r. ⌜ (answerCleared r ≡ clearing (now (total .entry))) × (now (total .exit) ≡ afterClearing (now (total .entry))) ⌝ }
 {
@@ -76,6 +77,18 @@ pub fn add_product(total: &mut [u32], x: u32, y: u32) -> Added
     }
 }
 
+pub fn read(total: &[u32]) -> Reading
+    ensures { λ r. ⌜ answerRead r ≡ reading (now (total .entry)) ⌝ }
+{
+    match fit::refusal(total) {
+        0 => halves::of_number(halves::copied(total)),
+        5 => Reading::Length,
+        // 6
+        _ => Reading::Unfit,
+    }
+}
+
+// What is wrong with the lent words: 5, or else 6.
 fn lent_refused(refusal: u32) -> Added
     ensures { λ r. ⌜ answerAdded r ≡ cond (eqb refusal 5) (refused 5) (refused 6) ⌝ }
 {
@@ -91,15 +104,4 @@ fn tried(room: bool) -> Added
     ensures { λ r. ⌜ answerAdded r ≡ cond room done (refused 8) ⌝ }
 {
     if room { Added::Done } else { Added::Full }
-}
-
-pub fn read(total: &[u32]) -> Reading
-    ensures { λ r. ⌜ answerRead r ≡ reading (now (total .entry)) ⌝ }
-{
-    match fit::refusal(total) {
-        0 => halves::of_number(halves::copied(total)),
-        5 => Reading::Length,
-        // 6
-        _ => Reading::Unfit,
-    }
 }

@@ -6,7 +6,7 @@ use Prim.Native.Nat.{ℕ, suc, _+_, _*_, _^_, _≤_, _<_}
 use native.Mathlib.Decide.{decLe}
 use native.Mathlib.Nat.{le-trans, le-of-eq, lt-of-le-of-lt, lt-irrefl, mul-le-mul-right, add-le-add, suc-mul}
 use native.Mathlib.Omega.{arith}
-use borrow.Author.Tests.{lt-ltb, le-ltb, le-leb, leb-true, eq-eqb, eqb-true, eqb-false, ne-eqb}
+use borrow.Author.Tests.{lt-ltb, le-ltb, le-leb, leb-true, eqb-true, eqb-false}
 use lib.Dec.{eqb, leb, lit<}
 use lib.IntN.{ℤ, pos, negsuc, natAbs, subℕ, _+ℤ_}
 use lib.ListN.{length}
@@ -50,7 +50,7 @@ fit-bounds t e =
     let p = both (leb (count t) 65536) (leb (natAbs (number t)) (count t * 2 ^ 554)) e in
     (leb-true (count t) 65536 (p .0), leb-true (natAbs (number t)) (count t * 2 ^ 554) (p .1))
 
-pub bounds-fit : (t : List ℕ) → count t ≤ 65536 → natAbs (number t) ≤ count t * 2 ^ 554 → fit t ≡ true
+bounds-fit : (t : List ℕ) → count t ≤ 65536 → natAbs (number t) ≤ count t * 2 ^ 554 → fit t ≡ true
 unfolding fit
 bounds-fit t h l = rw (le-leb (count t) 65536 h, le-leb (natAbs (number t)) (count t * 2 ^ 554) l)
 

@@ -1,6 +1,6 @@
 -- What clearing, adding and reading answer, and the words as they end, by the conditions in their order. Assumes nothing.
-use mathlib.Core.Path.{_≡_, refl, sym, ap, _∙_}
-use mathlib.Core.Bool.{true, false, cond}
+use mathlib.Core.Path.{_≡_, sym}
+use mathlib.Core.Bool.{true, false}
 use mathlib.Core.List.{List}
 use Prim.Native.Nat.{ℕ, suc}
 use borrow.Author.Tests.{eq-eqb, ne-eqb}
@@ -9,7 +9,7 @@ use lib.IntN.{_+ℤ_}
 use Rattle.rounding.specs.Format.{binary32}
 use Rattle.augmented.specs.Pairs.{pairOf}
 use Rattle.totals.specs.Theorems.{RefusedTerm, AddingRefused, ReadingRefused, Clears}
-use Rattle.totals.specs.Totals.{number, count, totalOf, fit, Term, finiteOperands, exactTerm, whole, Answer, refused, done, isDone, adding, afterAdding, clearing, afterClearing, exact, pairAnswer, reading}
+use Rattle.totals.specs.Totals.{number, count, totalOf, fit, Term, finiteOperands, exactTerm, whole, refused, done, adding, afterAdding, clearing, afterClearing, exact, pairAnswer, reading}
 
 -- ---- clearing
 module _ (t : List ℕ) where

@@ -1,16 +1,16 @@
 -- A total's fitness by its top three words; the words below them count at the limit alone. Assumes nothing.
-use mathlib.Core.Path.{_≡_, refl, sym, ap, _∙_}
-use mathlib.Core.Bool.{Bool, true, false, cond, _&&_}
+use mathlib.Core.Path.{_≡_, sym, ap, _∙_}
+use mathlib.Core.Bool.{Bool, true, false, cond}
 use mathlib.Core.List.{List, [], _∷_, _++_, map, map-append}
 use Prim.Native.Nat.{ℕ, suc, _+_, _-_, _*_, _^_, _≤_, _<_}
-use native.Mathlib.Nat.{mul-le-mul-left, mul-suc, mul-comm, mul-assoc}
+use native.Mathlib.Nat.{mul-le-mul-left, mul-suc, mul-assoc}
 use native.Mathlib.Omega.{arith}
 use borrow.Author.Tests.{le-leb, lt-leb, leb-true, leb-false}
 use lib.Dec.{leb, eqb}
 use lib.IntN.{natAbs}
 use lib.ListN.{length, length-map, drop, getD, take}
 use lib.Seq.{drop-cons, take-add, length-take-le}
-use Rattle.words.specs.Words.{Words, natural, integer, complement}
+use Rattle.words.specs.Words.{Words, natural, complement}
 use Rattle.words.proofs.Append.{natural-append}
 use Rattle.words.proofs.Parts.{take-words}
 use Rattle.words.proofs.TwosComplement.{natural-complement, integer-positive, integer-negative}
@@ -144,11 +144,3 @@ module _ (t : List ℕ) (full : length t ≡ 21) (words : Words t) where
 pub unfit-count : (t : List ℕ) → 65536 < count t → false ≡ fit t
 unfolding fit
 unfit-count t h = rw (lt-leb (count t) 65536 h)
-
-pub fit-count : (t : List ℕ) → fit t ≡ true → count t ≤ 65536
-unfolding fit
-fit-count t h = leb-true (count t) 65536 (and-left (leb (count t) 65536) _ h)
-  where
-    and-left : (a b : Bool) → (a && b) ≡ true → a ≡ true
-    and-left true b e = refl
-    and-left false b e = e

@@ -15,7 +15,7 @@ use Rattle.words.proofs.Parts.{part-added}
 use Rattle.words.proofs.TwosComplement.{formed}
 
 -- the weight of the word times the number that is added there
-pub placed : (sig exp : ℕ) → 2 ^ (32 * (exp / 32)) * (sig * 2 ^ (exp % 32)) ≡ sig * 2 ^ exp
+placed : (sig exp : ℕ) → 2 ^ (32 * (exp / 32)) * (sig * 2 ^ (exp % 32)) ≡ sig * 2 ^ exp
 placed sig exp =
     let e : 32 * (exp / 32) + exp % 32 ≡ exp = omega arith in
     let W = 2 ^ (32 * (exp / 32)) in
@@ -31,7 +31,7 @@ module _ (t : List ℕ) (words : Words t) (s : Bool) (sig exp : ℕ) (fits : exp
     abbrev put : List ℕ
     put = take (exp / 32) t ++ (new ++ drop (20 - exp / 32) (drop (exp / 32) t))
 
-    pub part-placed : 20 ≤ length t → put ≡ wordsOfInteger 20 (integer (take 20 t) +ℤ int s (sig * 2 ^ exp)) ++ drop 20 t
+    part-placed : 20 ≤ length t → put ≡ wordsOfInteger 20 (integer (take 20 t) +ℤ int s (sig * 2 ^ exp)) ++ drop 20 t
     part-placed l =
         let k : exp / 32 + (20 - exp / 32) ≡ 20 = omega arith in
         ap (λ (xs : List ℕ). take (exp / 32) t ++ (xs ++ drop (20 - exp / 32) (drop (exp / 32) t))) added

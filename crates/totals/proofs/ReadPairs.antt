@@ -19,9 +19,9 @@ use Rattle.binary32.proofs.Result.{result-encode}
 use Rattle.binary32.proofs.Sums.{finer-sum}
 use Rattle.augmented.specs.Pairs.{Halves, pairOf, answer, exactSum, exactProduct, sumPair, productPair}
 use Rattle.augmented.proofs.Second.{first-infinite, second-infinite}
-use Rattle.totals.specs.Totals.{number, ofPattern, ofProduct, finiteOperands, whole, pair, exact, pairAnswer, reading}
-use Rattle.totals.specs.Columns.{zeros, column, AllFinite, columnSum}
-use Rattle.totals.specs.Theorems.{FitTotal, ReadOverflow, ReadSum, ReadProduct}
+use Rattle.totals.specs.Totals.{ofPattern, ofProduct, whole, pair, exact, pairAnswer}
+use Rattle.totals.specs.Columns.{AllFinite, columnSum}
+use Rattle.totals.specs.Theorems.{ReadOverflow, ReadSum, ReadProduct}
 use Rattle.totals.proofs.TermBound.{untrue}
 use Rattle.totals.proofs.ReadTotal.{read-fit, read-column}
 

@@ -14,7 +14,7 @@ use Rattle.rounding.proofs.Codec.{decode-fits}
 use Rattle.binary32.specs.Exact.{int, times, finer}
 use Rattle.totals.specs.Totals.{Term, ofPattern, ofProduct, finiteOperands, exactTerm, whole}
 
-pub int-magnitude : (s : Bool) (a : ℕ) → natAbs (int s a) ≡ a
+int-magnitude : (s : Bool) (a : ℕ) → natAbs (int s a) ≡ a
 int-magnitude false a = refl
 int-magnitude true zero = refl
 int-magnitude true (suc a) = refl

@@ -36,7 +36,7 @@ finer-finite nan = refl
 finer-finite (infinite s) = refl
 finer-finite (finite s a) = refl
 
-pub term-finite : (x : Term) → finiteOperands x ≡ isFinite (exactTerm x)
+term-finite : (x : Term) → finiteOperands x ≡ isFinite (exactTerm x)
 term-finite (ofPattern x) = sym (finer-finite (decode binary32 x))
 term-finite (ofProduct x y) = sym (times-finite (decode binary32 x) (decode binary32 y))
 

@@ -3,7 +3,7 @@ use mathlib.Core.Path.{_≡_, refl, sym, ap, ap₂, _∙_}
 use mathlib.Core.Bool.{Bool, true, false, cond}
 use mathlib.Core.List.{List, [], _∷_, _++_, append-assoc, append-nil}
 use Prim.Native.Nat.{ℕ, zero, suc, _+_, _-_, _*_, _/_, _%_, _^_, _≤_, _<_}
-use native.Mathlib.Nat.{mul-suc, mul-assoc, add-comm, zero-add, one-mul, mod-eq-of-lt}
+use native.Mathlib.Nat.{mul-suc, mul-assoc, add-comm, one-mul}
 use native.Mathlib.Numerals.{add-one}
 use native.Mathlib.Omega.{arith}
 use lib.Bits.{bitXor, xor-zero-r, xor-add-and, and-mask}
@@ -16,11 +16,11 @@ use Rattle.words.specs.Words.{Words, complement}
 abbrev pub turn : Bool → ℕ → ℕ
 turn s w = cond s (complement w) w
 
-pub turn-back : (s : Bool) (w : ℕ) → w < 2 ^ 32 → turn s (turn s w % 2 ^ 32) ≡ w
+turn-back : (s : Bool) (w : ℕ) → w < 2 ^ 32 → turn s (turn s w % 2 ^ 32) ≡ w
 turn-back true w h = omega arith
 turn-back false w h = omega arith
 
-pub turn-lt : (s : Bool) (w : ℕ) → w < 2 ^ 32 → turn s w < 2 ^ 32
+turn-lt : (s : Bool) (w : ℕ) → w < 2 ^ 32 → turn s w < 2 ^ 32
 turn-lt true w h = omega arith
 turn-lt false w h = h
 

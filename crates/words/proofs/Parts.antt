@@ -7,10 +7,10 @@ use native.Mathlib.Nat.{suc-add, zero-add}
 use native.Mathlib.Omega.{arith}
 use lib.Dec.{lit<}
 use lib.IntN.{pos, _+ℤ_}
-use lib.ListN.{length, take, drop, getD}
+use lib.ListN.{length, take, drop}
 use lib.Seq.{drop-drop, getD-drop, length-take-le}
 use Rattle.binary32.specs.Exact.{int}
-use Rattle.words.specs.Words.{Words, natural, integer, wordsOf, wordsOfInteger}
+use Rattle.words.specs.Words.{Words, natural, integer, wordsOfInteger}
 use Rattle.words.proofs.Carry.{walk, walk-from}
 use Rattle.words.proofs.Signed.{walk-integer}
 use Rattle.words.proofs.TwosComplement.{words-natural, words-unique}
@@ -29,7 +29,7 @@ pub walk-is : (s : Bool) (ws : List ℕ) (n : ℕ) → Words ws → walk s ws n 
 unfolding wordsOfInteger
 walk-is s ws n k = ap (λ (xs : List ℕ). walk s xs n) (sym (words-natural ws k)) ∙ walk-integer s (length ws) (pos (natural ws)) n
 
-pub walk-signed : (s : Bool) (ws : List ℕ) (n : ℕ) → Words ws → walk s ws n ≡ wordsOfInteger (length ws) (integer ws +ℤ int s n)
+walk-signed : (s : Bool) (ws : List ℕ) (n : ℕ) → Words ws → walk s ws n ≡ wordsOfInteger (length ws) (integer ws +ℤ int s n)
 walk-signed s ws n k = ap (λ (xs : List ℕ). walk s xs n) (sym (words-unique ws k)) ∙ walk-integer s (length ws) (integer ws) n
 
 -- ---- k words from word w on

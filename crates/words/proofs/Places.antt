@@ -1,12 +1,12 @@
 -- Each word by its place, and how far a number of words goes. Assumes nothing.
 use mathlib.Core.Path.{_≡_, refl, sym, ap, _∙_}
 use mathlib.Core.List.{List, [], _∷_, map}
-use Prim.Native.Nat.{ℕ, zero, suc, _+_, _-_, _*_, _/_, _%_, _^_, _≤_, _<_}
+use Prim.Native.Nat.{ℕ, zero, suc, _+_, _-_, _*_, _/_, _%_, _^_, _<_}
 use native.Mathlib.Nat.{mul-suc, add-comm, div-one, div-div-eq-div-mul}
 use native.Mathlib.Omega.{arith}
 use lib.ListN.{length, getD}
 use lib.Pow.{pow-add}
-use Rattle.words.specs.Words.{Words, natural, wordsOf, wordsOfInteger, complement}
+use Rattle.words.specs.Words.{natural, wordsOf, wordsOfInteger, complement}
 use Rattle.words.specs.Theorems.{WordAt, NaturalWords}
 use Rattle.words.proofs.TwosComplement.{words-length, words-natural, natural-complement}
 

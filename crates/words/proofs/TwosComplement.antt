@@ -1,6 +1,5 @@
 -- Two's complement: the words of a whole number hold it, and no others do. Assumes nothing.
 use mathlib.Core.Path.{_≡_, refl, sym, ap, _∙_}
-use mathlib.Core.Bool.{Bool, true, false}
 use mathlib.Core.List.{List, [], _∷_, map}
 use Prim.Native.Nat.{ℕ, zero, suc, _+_, _-_, _*_, _/_, _%_, _^_, _≤_, _<_}
 use native.Mathlib.Decide.{decLe}
@@ -8,9 +7,9 @@ use native.Mathlib.Nat.{mul-suc, add-comm}
 use native.Mathlib.Omega.{arith}
 use borrow.Author.Tests.{lt-ltb, le-ltb}
 use lib.Dec.{lit<}
-use lib.IntN.{ℤ, pos, negsuc, natAbs, _-ℤ_}
-use lib.ListN.{length, getD, length-map}
-use lib.Pow.{pow-add, pow-pos}
+use lib.IntN.{pos, negsuc, _-ℤ_}
+use lib.ListN.{length, length-map}
+use lib.Pow.{pow-add}
 use Rattle.words.specs.Words.{Words, natural, integer, wordsOf, wordsOfInteger, complement}
 use Rattle.words.specs.Theorems.{Held, WordsUnique, Formed}
 use Rattle.words.proofs.Signed.{words-back}
@@ -24,13 +23,13 @@ unfolding wordsOf
 words-length zero n = refl
 words-length (suc k) n = ap suc (words-length k _)
 
-pub words-words : (k n : ℕ) → Words (wordsOf k n)
+words-words : (k n : ℕ) → Words (wordsOf k n)
 unfolding wordsOf
 words-words zero n i = lit< tt
 words-words (suc k) n zero = omega arith
 words-words (suc k) n (suc i) = words-words k (n / 4294967296) i
 
-pub complement-words : (ws : List ℕ) → Words (map complement ws)
+complement-words : (ws : List ℕ) → Words (map complement ws)
 complement-words [] i = lit< tt
 complement-words (w ∷ ws) zero = omega arith
 complement-words (w ∷ ws) (suc i) = complement-words ws i

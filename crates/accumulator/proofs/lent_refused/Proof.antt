@@ -1,4 +1,3 @@
-use mathlib.Core.Path.{sym}
 use borrow.Author.Tests.{eq-eqb, ne-eqb}
 use Rattle.accumulator.proofs.lent_refused.Statement.{statement}
 use Rattle.accumulator.proofs.lent_refused.Tie as tie

@@ -1,6 +1,5 @@
 use borrow.Author.Needs.{needs}
-use mathlib.Core.Path.{_≡_, sym, ap, _∙_}
-use Rattle.accumulator.specs.Answers.{answerAdded}
+use mathlib.Core.Path.{ap, _∙_}
 use Rattle.exports.specs.Answers.{refusalNumber}
 use Rattle.exports.proofs.columns.jirmeklo_add_pattern.Statement.{statement}
 use Rattle.exports.proofs.columns.jirmeklo_add_pattern.Tie as tie

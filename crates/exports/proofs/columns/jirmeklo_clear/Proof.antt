@@ -1,6 +1,5 @@
 use borrow.Author.Needs.{needs}
-use mathlib.Core.Path.{_≡_, sym, ap, _∙_}
-use Rattle.accumulator.specs.Answers.{answerCleared}
+use mathlib.Core.Path.{ap}
 use Rattle.exports.specs.Answers.{refusalNumber}
 use Rattle.exports.proofs.columns.jirmeklo_clear.Statement.{statement}
 use Rattle.exports.proofs.columns.jirmeklo_clear.Tie as tie

@@ -1,5 +1,5 @@
 use borrow.Author.Needs.{needs}
-use mathlib.Core.Path.{_≡_, sym, ap, _∙_}
+use mathlib.Core.Path.{ap, _∙_}
 use Rattle.exports.specs.Answers.{replyOf}
 use Rattle.exports.proofs.columns.jirmeklo_read.Statement.{statement}
 use Rattle.exports.proofs.columns.jirmeklo_read.Tie as tie

@@ -37,6 +37,7 @@ pub fn copied(total: &[u32]) -> [u32; 20]
     number
 }
 
+// Second is rounded from the words that are left when first is taken away. RN0 of a number is never NaN.
 pub fn of_number(number: [u32; 20]) -> Reading
     requires { ⌜ natAbs (integer number) < 2 ^ 639 ⌝ }
     ensures { λ r. ⌜ answerRead r ≡ pairAnswer (pairOf binary32 (exact (integer number))) ⌝ }
@@ -106,6 +107,7 @@ fn turned(number: [u32; 20], minus: bool) -> [u32; 20]
     words
 }
 
+// Leading digits, and the exponent of the last one.
 pub struct Digits {
     pub sig: u64,
     pub exp: u16,

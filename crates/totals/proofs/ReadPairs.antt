@@ -1,5 +1,5 @@
 -- Reading against overflow and against the direct pairs of two operands. Assumes nothing.
-use mathlib.Core.Path.{_≡_, refl, sym, ap, ap₂, _∙_}
+use mathlib.Core.Path.{_≡_, sym, ap, ap₂, _∙_}
 use mathlib.Core.Logic.{_≢_}
 use mathlib.Core.Bool.{Bool, true, false, _&&_}
 use mathlib.Core.List.{[], _∷_}
@@ -23,19 +23,22 @@ use Rattle.totals.specs.Totals.{ofPattern, ofProduct, whole, pair, exact
 use Rattle.totals.specs.Columns.{AllFinite, columnSum}
 use Rattle.totals.specs.Theorems.{ReadOverflow, ReadSum, ReadProduct}
 use Rattle.totals.proofs.TermBound.{untrue}
+use Rattle.totals.proofs.Rest.{exact-int}
 use Rattle.totals.proofs.ReadTotal.{read-fit, read-column}
 
--- a number by its sign and magnitude, if it is not zero
-exact-int : (s : Bool) (N : ℕ) → int s N ≢ pos 0 → exact (int s N) ≡ finite s N
-exact-int false N n = refl
-exact-int true zero n = absurd (n refl)
-exact-int true (suc N) n = refl
+-- a number that is not zero has its sign
+zero-int : (s : Bool) (N : ℕ) → N ≡ 0 → int s N ≡ pos 0
+zero-int false N e = ap pos e
+zero-int true N e = ap (λ (x : ℕ). int true x) e
+
+exact-some : (s : Bool) (N : ℕ) → int s N ≢ pos 0 → exact (int s N) ≡ finite s N
+exact-some s N n = exact-int s N (λ e. absurd (n (zero-int s N e)))
 
 pub read-overflow : ReadOverflow
 read-overflow t s N f e h =
     let o = over-edge binary32 (lit≤ tt, lit≤ tt) ToZero N h in
     let n : int s N ≢ pos 0 = λ (q : int s N ≡ pos 0). not-zero s N h q in
-    read-fit t f ∙ ap (λ z. pairAnswer (pairOf binary32 (exact z))) e ∙ ap (λ v. pairAnswer (pairOf binary32 v)) (exact-int s N n)
+    read-fit t f ∙ ap (λ z. pairAnswer (pairOf binary32 (exact z))) e ∙ ap (λ v. pairAnswer (pairOf binary32 v)) (exact-some s N n)
     ∙ ap₂ (λ (v w : Value). pair (encode binary32 v) (encode binary32 w)) (first-infinite binary32 s N o) (second-infinite binary32 s N o)
   where
     not-zero : (s : Bool) (N : ℕ) → edge binary32 < N → int s N ≡ pos 0 → ⊥
@@ -53,7 +56,7 @@ sum-value (finite s a) (infinite t) e f n = untrue f
 sum-value (finite s a) (finite t b) e f n =
     let p = plus-exact s (a * 2 ^ 149) t (b * 2 ^ 149) in
     let z : int s (a * 2 ^ 149) +ℤ (int t (b * 2 ^ 149) +ℤ pos 0) ≡ int (p .0) (p .1) = ap (λ (k : ℤ). int s (a * 2 ^ 149) +ℤ k) (+ℤ-idr (int t (b * 2 ^ 149))) ∙ sym (p .3) in
-    ap exact z ∙ exact-int (p .0) (p .1) (λ q. n (z ∙ q)) ∙ sym (p .2) ∙ sym (finer-sum binary32 s a t b)
+    ap exact z ∙ exact-some (p .0) (p .1) (λ q. n (z ∙ q)) ∙ sym (p .2) ∙ sym (finer-sum binary32 s a t b)
 
 -- the patterns of a pair, as the answer of two operands shows them
 shown : (x y : ℕ) (p : Halves) → pairAnswer p ≡ pair (result binary32 (x ∷ y ∷ []) (p .first)) (result binary32 (x ∷ y ∷ []) (p .second))
@@ -74,7 +77,7 @@ product-value (finite s a) nan e n = untrue e
 product-value (finite s a) (infinite t) e n = untrue e
 product-value (finite s a) (finite t b) e n =
     let z = +ℤ-idr (int (unlike s t) (a * b)) in
-    ap exact z ∙ exact-int (unlike s t) (a * b) (λ q. n (z ∙ q))
+    ap exact z ∙ exact-some (unlike s t) (a * b) (λ q. n (z ∙ q))
 
 pub read-product : ReadProduct
 unfolding columnSum AllFinite productPair answer

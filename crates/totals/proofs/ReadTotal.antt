@@ -1,6 +1,6 @@
 -- Reading a total: the halves of a fit one, of a column, a zero total, and one that is rounded to zero. Assumes nothing.
 use mathlib.Core.Path.{_≡_, refl, sym, ap, ap₂, _∙_}
-use mathlib.Core.Bool.{Bool, true, false, not, cond}
+use mathlib.Core.Bool.{Bool, false, not, cond}
 use Prim.Native.Nat.{ℕ, suc, _*_, _^_, _≤_, _<_}
 use native.Mathlib.Nat.{le-trans, le-of-eq}
 use native.Mathlib.Omega.{arith}
@@ -22,7 +22,7 @@ use Rattle.totals.specs.Columns.{zeros, column}
 use Rattle.totals.specs.Theorems.{ReadFit, ReadColumn, ReadZero, ReadRoundedToZero, ReadFinite}
 use Rattle.totals.proofs.Answers.{reading-pair}
 use Rattle.totals.proofs.Columns.{exact-column}
-use Rattle.totals.proofs.Rest.{rest-whole}
+use Rattle.totals.proofs.Rest.{exact-int, rest-whole}
 use Rattle.totals.proofs.TotalPair.{zero-taken}
 
 pub read-fit : ReadFit
@@ -57,12 +57,8 @@ half = refl
 pub read-rounded-to-zero : ReadRoundedToZero
 read-rounded-to-zero t s N f e h =
     let none : head binary32 s (suc N) ≡ 0 = le-zero (le-trans (rounded-mono ToZero 23 149 (suc N) (2 ^ 148) h) (le-of-eq half)) in
-    read-fit t f ∙ ap (λ z. pairAnswer (pairOf binary32 (exact z))) e ∙ ap (λ v. pairAnswer (pairOf binary32 v)) (exact-sign s N) ∙ vanished s (suc N) none
+    read-fit t f ∙ ap (λ z. pairAnswer (pairOf binary32 (exact z))) e ∙ ap (λ v. pairAnswer (pairOf binary32 v)) (exact-int s (suc N) (λ z. absurd (omega arith))) ∙ vanished s (suc N) none
   where
-    exact-sign : (s : Bool) (N : ℕ) → exact (int s (suc N)) ≡ finite s (suc N)
-    exact-sign false N = refl
-    exact-sign true N = refl
-
     le-zero : {n : ℕ} → n ≤ 0 → n ≡ 0
     le-zero h = omega arith
 

@@ -22,7 +22,8 @@ use Rattle.augmented.specs.Pairs.{rest}
 use Rattle.totals.specs.Totals.{exact}
 
 -- ---- the rest as a whole number
-exact-int : (r : Bool) (c : ℕ) → (c ≡ 0 → r ≡ false) → exact (int r c) ≡ finite r c
+-- a number by its sign and magnitude, where a zero has the sign +
+pub exact-int : (r : Bool) (c : ℕ) → (c ≡ 0 → r ≡ false) → exact (int r c) ≡ finite r c
 exact-int false c h = refl
 exact-int true zero h = ap (λ (b : Bool). finite b 0) (sym (h refl))
 exact-int true (suc c) h = refl

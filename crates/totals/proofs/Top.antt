@@ -3,18 +3,17 @@ use mathlib.Core.Path.{_≡_, sym, ap, _∙_}
 use mathlib.Core.Bool.{Bool, true, false, cond}
 use mathlib.Core.List.{List, [], _∷_, _++_, map}
 use Prim.Native.Nat.{ℕ, suc, _+_, _*_, _^_, _≤_, _<_}
-use native.Mathlib.Nat.{mul-suc, add-comm, add-zero, mul-le-mul-left}
+use native.Mathlib.Nat.{mul-suc, add-zero, mul-le-mul-left}
 use native.Mathlib.Numerals.{add-one}
 use native.Mathlib.Omega.{arith}
 use borrow.Author.Tests.{leb-true, leb-false}
 use lib.Dec.{leb}
 use lib.IntN.{pos, negsuc, natAbs}
 use lib.ListN.{length, take, getD, drop-of-length-le}
-use lib.Pow.{pow-add}
 use lib.Seq.{split-at, length-take-le}
 use Rattle.rounding.specs.Value.{finite}
 use Rattle.words.specs.Words.{Words, natural, integer, wordsOf, complement}
-use Rattle.words.proofs.Append.{natural-append}
+use Rattle.words.proofs.Append.{base-suc, natural-append}
 use Rattle.words.proofs.Parts.{take-words}
 use Rattle.words.proofs.TwosComplement.{natural-back, natural-complement, integer-positive, integer-negative}
 use Rattle.totals.specs.Totals.{exact}
@@ -60,7 +59,7 @@ module _ (k : ℕ) (ws : List ℕ) (full : length ws ≡ suc k) (words : Words w
       (natural-complement (take k ws) (take-words k ws words) ∙ ap (λ (x : ℕ). 2 ^ (32 * x)) low-length)
 
   range : 2 ^ (32 * length ws) ≡ 4294967296 * 2 ^ (32 * k)
-  range = rw (full, mul-suc, add-comm (32 * k) 32, pow-add 2 32 (32 * k))
+  range = ap (λ (x : ℕ). 2 ^ (32 * x)) full ∙ base-suc k
 
   lower-half : top < 2 ^ 31 → 2 * natural ws < 2 ^ (32 * length ws)
   lower-half h = rw (split, range) (lower (natural (take k ws)) (2 ^ (32 * k)) top low-lt h)

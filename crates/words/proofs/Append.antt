@@ -1,4 +1,4 @@
--- The number that words hold, by two parts of them. Assumes nothing.
+-- The range of a count of words, and the number that words hold, by two parts of them. Assumes nothing.
 use mathlib.Core.Path.{_≡_}
 use mathlib.Core.List.{List, [], _∷_, _++_}
 use Prim.Native.Nat.{ℕ, suc, _+_, _*_, _^_}
@@ -8,7 +8,8 @@ use lib.ListN.{length}
 use lib.Pow.{pow-add}
 use Rattle.words.specs.Words.{natural}
 
-base-suc : (k : ℕ) → 2 ^ (32 * suc k) ≡ 4294967296 * 2 ^ (32 * k)
+-- one word more, in the range
+pub base-suc : (k : ℕ) → 2 ^ (32 * suc k) ≡ 4294967296 * 2 ^ (32 * k)
 base-suc k = rw (mul-suc, add-comm (32 * k) 32, pow-add 2 32 (32 * k))
 
 regroup : (w v b m : ℕ) → w + 4294967296 * v + 4294967296 * b * m ≡ w + 4294967296 * (v + b * m)

@@ -3,14 +3,14 @@ use mathlib.Core.Path.{_≡_, refl, sym, ap, ap₂, _∙_}
 use mathlib.Core.Bool.{Bool, true, false, cond}
 use mathlib.Core.List.{List, [], _∷_, _++_, append-assoc, append-nil}
 use Prim.Native.Nat.{ℕ, zero, suc, _+_, _-_, _*_, _/_, _%_, _^_, _≤_, _<_}
-use native.Mathlib.Nat.{mul-suc, mul-assoc, add-comm, one-mul}
+use native.Mathlib.Nat.{mul-assoc, one-mul}
 use native.Mathlib.Numerals.{add-one}
 use native.Mathlib.Omega.{arith}
 use lib.Bits.{bitXor, xor-zero-r, xor-add-and, and-mask}
 use lib.ListN.{length, take, drop, set, getD, drop-of-length-le}
-use lib.Pow.{pow-add}
 use lib.Seq.{drop-cons, take-suc-set, drop-set-lt, take-all}
 use Rattle.words.specs.Words.{Words, complement}
+use Rattle.words.proofs.Append.{base-suc}
 
 -- the word itself, or its complement
 abbrev pub turn : Bool → ℕ → ℕ
@@ -68,8 +68,8 @@ walk-none s (w ∷ ws) k =
     ap₂ (λ (x : ℕ) (xs : List ℕ). x ∷ xs) (ap (turn s) e ∙ turn-back s w h) (ap (walk s ws) z ∙ walk-none s ws (λ i. k (suc i)))
 
 -- ---- a walk from word w on is one from the first, of a number that much higher
-base-suc : (k n : ℕ) → 2 ^ (32 * suc k) * n ≡ 4294967296 * (2 ^ (32 * k) * n)
-base-suc k n = rw (mul-suc, add-comm (32 * k) 32, pow-add 2 32 (32 * k), mul-assoc)
+raised : (k n : ℕ) → 2 ^ (32 * suc k) * n ≡ 4294967296 * (2 ^ (32 * k) * n)
+raised k n = ap (λ (x : ℕ). x * n) (base-suc k) ∙ mul-assoc 4294967296 (2 ^ (32 * k)) n
 
 high-rem : (w m : ℕ) → (w + 4294967296 * m) % 4294967296 ≡ w % 4294967296
 high-rem w m = omega arith
@@ -85,7 +85,7 @@ walk-from s (suc w) (x ∷ ws) n k h =
     let m = 2 ^ (32 * w) * n in
     let l = k 0 in
     let a : turn s ((turn s x + 2 ^ (32 * suc w) * n) % 4294967296) ≡ x =
-    ap (λ (y : ℕ). turn s ((turn s x + y) % 4294967296)) (base-suc w n) ∙ ap (turn s) (high-rem (turn s x) m) ∙ turn-back s x l
+    ap (λ (y : ℕ). turn s ((turn s x + y) % 4294967296)) (raised w n) ∙ ap (turn s) (high-rem (turn s x) m) ∙ turn-back s x l
     in
-    let b : (turn s x + 2 ^ (32 * suc w) * n) / 4294967296 ≡ m = ap (λ (y : ℕ). (turn s x + y) / 4294967296) (base-suc w n) ∙ high-quot (turn s x) m (turn-lt s x l) in
+    let b : (turn s x + 2 ^ (32 * suc w) * n) / 4294967296 ≡ m = ap (λ (y : ℕ). (turn s x + y) / 4294967296) (raised w n) ∙ high-quot (turn s x) m (turn-lt s x l) in
     sym (ap₂ (λ (y : ℕ) (ys : List ℕ). y ∷ ys) a (ap (walk s ws) b ∙ sym (walk-from s w ws n (λ i. k (suc i)) (omega arith))))

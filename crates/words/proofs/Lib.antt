@@ -1,7 +1,7 @@
+pub mod Append
 pub mod Carry
 pub mod Signed
 pub mod TwosComplement
-pub mod Append
 pub mod Parts
 pub mod Places
 pub mod Significand

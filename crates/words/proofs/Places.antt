@@ -2,12 +2,12 @@
 use mathlib.Core.Path.{_≡_, refl, sym, ap, _∙_}
 use mathlib.Core.List.{List, [], _∷_, map}
 use Prim.Native.Nat.{ℕ, zero, suc, _+_, _-_, _*_, _/_, _%_, _^_, _<_}
-use native.Mathlib.Nat.{mul-suc, add-comm, div-one, div-div-eq-div-mul}
+use native.Mathlib.Nat.{div-one, div-div-eq-div-mul}
 use native.Mathlib.Omega.{arith}
 use lib.ListN.{length, getD}
-use lib.Pow.{pow-add}
 use Rattle.words.specs.Words.{natural, wordsOf, wordsOfInteger, complement}
 use Rattle.words.specs.Theorems.{WordAt, NaturalWords}
+use Rattle.words.proofs.Append.{base-suc}
 use Rattle.words.proofs.TwosComplement.{words-length, words-natural, natural-complement}
 
 place : (k n i : ℕ) → i < k → getD (wordsOf k n) i 0 ≡ n / 2 ^ (32 * i) % 2 ^ 32
@@ -16,7 +16,7 @@ place zero n i h = absurd (omega arith)
 place (suc k) n zero h = ap (λ (x : ℕ). x % 2 ^ 32) (sym (div-one n))
 place (suc k) n (suc i) h =
     place k (n / 4294967296) i (omega arith)
-    ∙ ap (λ (x : ℕ). x % 2 ^ 32) (div-div-eq-div-mul n 4294967296 (2 ^ (32 * i)) ∙ ap (λ (x : ℕ). n / x) (sym (rw (mul-suc, add-comm (32 * i) 32, pow-add 2 32 (32 * i)))))
+    ∙ ap (λ (x : ℕ). x % 2 ^ 32) (div-div-eq-div-mul n 4294967296 (2 ^ (32 * i)) ∙ ap (λ (x : ℕ). n / x) (sym (base-suc i)))
 
 -- mapped word by word
 mapped : (ws : List ℕ) (i : ℕ) → i < length ws → getD (map complement ws) i 0 ≡ complement (getD ws i 0)

@@ -3,19 +3,15 @@ use mathlib.Core.Path.{_≡_, refl, sym, ap, _∙_}
 use mathlib.Core.List.{List, [], _∷_, map}
 use Prim.Native.Nat.{ℕ, zero, suc, _+_, _-_, _*_, _/_, _%_, _^_, _≤_, _<_}
 use native.Mathlib.Decide.{decLe}
-use native.Mathlib.Nat.{mul-suc, add-comm}
 use native.Mathlib.Omega.{arith}
 use borrow.Author.Tests.{lt-ltb, le-ltb}
 use lib.Dec.{lit<}
 use lib.IntN.{pos, negsuc, _-ℤ_}
 use lib.ListN.{length, length-map}
-use lib.Pow.{pow-add}
 use Rattle.words.specs.Words.{Words, natural, integer, wordsOf, wordsOfInteger, complement}
 use Rattle.words.specs.Theorems.{Held, WordsUnique, Formed}
+use Rattle.words.proofs.Append.{base-suc}
 use Rattle.words.proofs.Signed.{words-back}
-
-base-suc : (k : ℕ) → 2 ^ (32 * suc k) ≡ 4294967296 * 2 ^ (32 * k)
-base-suc k = rw (mul-suc, add-comm (32 * k) 32, pow-add 2 32 (32 * k))
 
 -- ---- natural numbers
 pub words-length : (k n : ℕ) → length (wordsOf k n) ≡ k

@@ -7,7 +7,7 @@ use lib.ListN.{length, getD}
 use lib.IntN.{ℤ, pos, negsuc, natAbs}
 use Rattle.words.specs.Words.{Words, natural, integer, wordsOfInteger}
 
--- ---- "lowest word first": word i counts 2 ^ (32 i), and in a negative number it is the complement of the magnitude's, less one
+-- ---- "lowest word first": word i counts 2 ^ (32 i); the words of -(n + 1) are the complements of n's
 abbrev pub WordAt : Type 0
 WordAt =
     (k n i : ℕ) → i < k

@@ -1,12 +1,12 @@
 -- One term: when a total accepts it, that the sum is exact and the total fit again, and that a refused term changes nothing. Assumes nothing.
 use mathlib.Core.Path.{_≡_, refl, sym, ap}
-use mathlib.Core.Bool.{Bool, true, false, not, cond, _&&_}
+use mathlib.Core.Bool.{true≢false, Bool, true, false, not, cond, _&&_}
 use mathlib.Core.List.{List}
 use Prim.Native.Nat.{ℕ, suc, _+_, _*_, _^_, _≤_, _<_}
 use native.Mathlib.Decide.{decLe}
 use native.Mathlib.Nat.{le-trans, le-of-eq, lt-of-le-of-lt, lt-irrefl, mul-le-mul-right, add-le-add, suc-mul}
 use native.Mathlib.Omega.{arith}
-use borrow.Author.Tests.{lt-ltb, le-ltb, le-leb, leb-true, eqb-true, eqb-false}
+use borrow.Author.Tests.{le-leb, leb-true, eqb-true, eqb-false}
 use lib.Dec.{eqb, leb, lit<}
 use lib.IntN.{ℤ, pos, negsuc, natAbs, subℕ, _+ℤ_}
 use lib.ListN.{length}
@@ -15,15 +15,12 @@ use Rattle.totals.specs.Totals.{number, count, totalOf, fit, Term, finit
 use Rattle.totals.specs.Theorems.{FitTotal, FitIs, LowestUnfit, AcceptedTerm, ExactAdding}
 use Rattle.totals.proofs.Answers.{adding-done, after-done}
 use Rattle.totals.proofs.Held.{total-number, total-count, total-full, total-words}
-use Rattle.totals.proofs.TermBound.{untrue, term-bound}
+use Rattle.totals.proofs.Rest.{abs-sub}
+use Rattle.totals.proofs.TermBound.{term-bound}
 
 -- ---- magnitudes
 sub-magnitude : (a b : ℕ) → natAbs (subℕ a b) ≤ a + b
-sub-magnitude a b =
-    elim (decLe b a) [
-      | yes h ↦ rw (le-ltb a b h) (omega arith)
-      | no h ↦ rw (lt-ltb a b (omega arith)) (omega arith)
-    ]
+sub-magnitude a b = rw (abs-sub a b) (omega arith)
 
 sum-magnitude : (y z : ℤ) → natAbs (y +ℤ z) ≤ natAbs y + natAbs z
 sum-magnitude (pos a) (pos b) = le-of-eq refl
@@ -42,7 +39,7 @@ one-more z n x h e = le-trans (sum-magnitude z (whole (exactTerm x))) (le-trans 
 -- ---- fit totals
 both : (a b : Bool) → a && b ≡ true → (a ≡ true) × (b ≡ true)
 both true b e = (refl, e)
-both false b e = untrue e
+both false b e = absurd (true≢false (sym e))
 
 pub fit-bounds : (t : List ℕ) → fit t ≡ true → (count t ≤ 65536) × (natAbs (number t) ≤ count t * 2 ^ 554)
 unfolding fit

@@ -3,30 +3,22 @@ use mathlib.Core.Path.{_≡_, sym, ap, _∙_}
 use mathlib.Core.Bool.{Bool, true, false, cond}
 use mathlib.Core.List.{List, [], _∷_, _++_, map, map-append}
 use Prim.Native.Nat.{ℕ, suc, _+_, _-_, _*_, _^_, _≤_, _<_}
-use native.Mathlib.Nat.{mul-le-mul-left, mul-suc, mul-assoc}
+use native.Mathlib.Nat.{mul-assoc}
 use native.Mathlib.Omega.{arith}
 use borrow.Author.Tests.{le-leb, lt-leb, leb-true, leb-false}
 use lib.Dec.{leb, eqb}
 use lib.IntN.{natAbs}
 use lib.ListN.{length, length-map, drop, getD, take}
-use lib.Seq.{drop-cons, take-add, length-take-le}
+use lib.Seq.{drop-cons, take-add, getD-take, length-take-le}
 use Rattle.words.specs.Words.{Words, natural, complement}
 use Rattle.words.proofs.Append.{natural-append}
 use Rattle.words.proofs.Parts.{take-words}
-use Rattle.words.proofs.TwosComplement.{natural-complement, integer-positive, integer-negative}
+use Rattle.words.proofs.TwosComplement.{natural-complement}
 use Rattle.totals.specs.Totals.{fit, count, number}
+use Rattle.totals.proofs.Top as by-top
 use Rattle.totals.proofs.Limit.{strictly-under, strictly-over, under, over, level}
 
--- over a variable b, as a power of two is one for omega
-part-below : (l b q p : ℕ) → l < b → q < p → 2 * (l + b * q) < b * p + b * p
-part-below l b q p s h =
-    let m : b * suc q ≤ b * p = mul-le-mul-left b h in
-    let e = mul-suc b q in
-    omega arith
-
-part-above : (l b q p : ℕ) → p ≤ q → b * p + b * p ≤ 2 * (l + b * q)
-part-above l b q p h = let m : b * p ≤ b * q = mul-le-mul-left b h in omega arith
-
+-- over a variable m, as a power of two is one for omega
 both-below : (x y m : ℕ) → x + y + 1 ≡ m → (y < m) × (x < m)
 both-below x y m e = (omega arith, omega arith)
 
@@ -73,21 +65,15 @@ module _ (t : List ℕ) (full : length t ≡ 21) (words : Words t) where
   bounds : (low < 2 ^ 544) × (low-complement < 2 ^ 544)
   bounds = both-below low-complement low (2 ^ 544) (natural-complement (take 17 t) (take-words 17 t words) ∙ ap (λ (k : ℕ). 2 ^ (32 * k)) seventeen)
 
-  range : 2 ^ (32 * length (take 20 t)) ≡ 2 ^ 544 * 2 ^ 95 + 2 ^ 544 * 2 ^ 95
-  range = ap (λ (k : ℕ). 2 ^ (32 * k)) twenty
-
   -- ---- the magnitude, by the sign that word 19 shows
+  shown : getD (take 20 t) 19 0 ≡ getD t 19 0
+  shown = getD-take 20 t 19 0 (omega arith)
+
   pub positive : getD t 19 0 < 2147483648 → natAbs (number t) ≡ low + 2 ^ 544 * top
-  positive h =
-      let a = words 17 in
-      let b = words 18 in
-      let p : top < 2 ^ 95 = omega arith in
-      ap natAbs (integer-positive (take 20 t) (rw (split, range) (part-below low (2 ^ 544) top (2 ^ 95) (bounds .0) p))) ∙ split
+  positive h = ap natAbs (by-top.positive 19 (take 20 t) twenty (take-words 20 t words) (rw shown h)) ∙ split
 
   pub negative : 2147483648 ≤ getD t 19 0 → natAbs (number t) ≡ suc (low-complement + 2 ^ 544 * top-complement)
-  negative h =
-      let p : 2 ^ 95 ≤ top = omega arith in
-      ap natAbs (integer-negative (take 20 t) (take-words 20 t words) (rw (split, range) (part-above low (2 ^ 544) top (2 ^ 95) p))) ∙ ap suc split-complement
+  negative h = ap natAbs (by-top.negative 19 (take 20 t) twenty (take-words 20 t words) (rw shown h)) ∙ ap suc split-complement
 
   -- ---- the limit counts 2 ^ 544 too
   limit : count t * 2 ^ 554 ≡ count t * 1024 * 2 ^ 544

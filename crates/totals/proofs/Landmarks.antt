@@ -1,14 +1,14 @@
 -- Totals and terms at landmarks, operands that are finite, values of terms, and the number that is read: what ties the definitions to
 -- numbers. Assumes nothing.
-use mathlib.Core.Path.{_≡_, refl, ap, ap₂, _∙_}
-use mathlib.Core.Bool.{Bool, true, false, cond, _&&_}
-use Prim.Native.Nat.{ℕ, _%_, _^_}
-use lib.Dec.{ltb, leb, eqb}
+use mathlib.Core.Path.{refl, sym, ap, ap₂, _∙_}
+use mathlib.Core.Bool.{_&&_}
+use Prim.Native.Nat.{_^_}
 use lib.IntN.{pos, negsuc}
 use Rattle.rounding.specs.Format.{binary32}
-use Rattle.rounding.specs.Value.{Value, nan, infinite, finite, fields, magnitude, unsigned, decode, isFinite}
+use Rattle.rounding.specs.Value.{Value, fields, magnitude, unsigned, decode}
 use Rattle.binary32.specs.Exact.{times, finer}
 use Rattle.binary32.proofs.Integers.{times-exact, int-scale}
+use Rattle.augmented.proofs.Patterns.{finite-is}
 use Rattle.words.specs.Words.{wordsOf, wordsOfInteger}
 use Rattle.totals.specs.Totals.{whole}
 use Rattle.totals.specs.Theorems.{TotalLandmarks, TermLandmarks, FiniteOperandsAre, PatternTerm, ProductTerm, ExactBack}
@@ -22,17 +22,8 @@ unfolding decode unsigned magnitude fields times finer
 term-landmarks = (refl, refl, refl, refl, refl)
 
 -- ---- which operands are finite, by the exponent field
-kind : (b c s : Bool) (a : ℕ) → isFinite (cond b (finite s a) (cond c (infinite s) nan)) ≡ b
-kind true c s a = refl
-kind false true s a = refl
-kind false false s a = refl
-
-finite-is : (x : ℕ) → isFinite (decode binary32 x) ≡ ltb (x % 2 ^ 31) 0x7f80_0000
-unfolding decode unsigned
-finite-is x = kind (ltb (x % 2 ^ 31) 0x7f80_0000) (eqb (x % 2 ^ 31) 0x7f80_0000) (leb (2 ^ 31) x) (magnitude 23 (x % 2 ^ 31))
-
 pub finite-operands-are : FiniteOperandsAre
-finite-operands-are x y = (finite-is x, ap₂ _&&_ (finite-is x) (finite-is y))
+finite-operands-are x y = (sym (finite-is x), sym (ap₂ _&&_ (finite-is x) (finite-is y)))
 
 -- ---- values of terms
 pub pattern-term : PatternTerm

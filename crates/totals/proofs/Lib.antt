@@ -1,3 +1,4 @@
+pub mod Top
 pub mod Limit
 pub mod Fitness
 pub mod Zeros
@@ -5,7 +6,6 @@ pub mod Placed
 pub mod Answers
 pub mod Terms
 pub mod LeadingDigits
-pub mod Top
 pub mod Rest
 pub mod TotalPair
 pub mod Held

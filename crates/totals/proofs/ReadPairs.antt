@@ -1,7 +1,7 @@
 -- Reading against overflow and against the direct pairs of two operands. Assumes nothing.
 use mathlib.Core.Path.{_≡_, sym, ap, ap₂, _∙_}
 use mathlib.Core.Logic.{_≢_}
-use mathlib.Core.Bool.{Bool, true, false, _&&_}
+use mathlib.Core.Bool.{true≢false, Bool, true, false, _&&_}
 use mathlib.Core.List.{[], _∷_}
 use Prim.Native.Nat.{ℕ, zero, suc, _*_, _^_, _<_}
 use native.Mathlib.Omega.{arith}
@@ -22,7 +22,6 @@ use Rattle.augmented.proofs.Second.{first-infinite, second-infinite}
 use Rattle.totals.specs.Totals.{ofPattern, ofProduct, whole, pair, exact, pairAnswer}
 use Rattle.totals.specs.Columns.{AllFinite, columnSum}
 use Rattle.totals.specs.Theorems.{ReadOverflow, ReadSum, ReadProduct}
-use Rattle.totals.proofs.TermBound.{untrue}
 use Rattle.totals.proofs.Rest.{exact-int}
 use Rattle.totals.proofs.ReadTotal.{read-fit, read-column}
 
@@ -49,10 +48,10 @@ read-overflow t s N f e h =
 sum-value : (v w : Value) → isFinite v ≡ true → isFinite w ≡ true → (whole (finer binary32 v) +ℤ (whole (finer binary32 w) +ℤ pos 0) ≢ pos 0)
     → exact (whole (finer binary32 v) +ℤ (whole (finer binary32 w) +ℤ pos 0)) ≡ finer binary32 (plus v w)
 unfolding finer plus
-sum-value nan w e f n = untrue e
-sum-value (infinite s) w e f n = untrue e
-sum-value (finite s a) nan e f n = untrue f
-sum-value (finite s a) (infinite t) e f n = untrue f
+sum-value nan w e f n = absurd (true≢false (sym e))
+sum-value (infinite s) w e f n = absurd (true≢false (sym e))
+sum-value (finite s a) nan e f n = absurd (true≢false (sym f))
+sum-value (finite s a) (infinite t) e f n = absurd (true≢false (sym f))
 sum-value (finite s a) (finite t b) e f n =
     let p = plus-exact s (a * 2 ^ 149) t (b * 2 ^ 149) in
     let z : int s (a * 2 ^ 149) +ℤ (int t (b * 2 ^ 149) +ℤ pos 0) ≡ int (p .0) (p .1) = ap (λ (k : ℤ). int s (a * 2 ^ 149) +ℤ k) (+ℤ-idr (int t (b * 2 ^ 149))) ∙ sym (p .3) in
@@ -71,10 +70,10 @@ read-sum x y e f n =
 
 product-value : (v w : Value) → isFinite v && isFinite w ≡ true → (whole (times v w) +ℤ pos 0 ≢ pos 0) → exact (whole (times v w) +ℤ pos 0) ≡ times v w
 unfolding times
-product-value nan w e n = untrue e
-product-value (infinite s) w e n = untrue e
-product-value (finite s a) nan e n = untrue e
-product-value (finite s a) (infinite t) e n = untrue e
+product-value nan w e n = absurd (true≢false (sym e))
+product-value (infinite s) w e n = absurd (true≢false (sym e))
+product-value (finite s a) nan e n = absurd (true≢false (sym e))
+product-value (finite s a) (infinite t) e n = absurd (true≢false (sym e))
 product-value (finite s a) (finite t b) e n =
     let z = +ℤ-idr (int (unlike s t) (a * b)) in
     ap exact z ∙ exact-some (unlike s t) (a * b) (λ q. n (z ∙ q))

@@ -42,7 +42,7 @@ unfolding rest negate finer
 rest-whole z s a = plus-whole z (not s) (a * 2 ^ 149)
 
 -- ---- its magnitude
-abs-sub : (a b : ℕ) → natAbs (subℕ a b) ≡ dist a b
+pub abs-sub : (a b : ℕ) → natAbs (subℕ a b) ≡ dist a b
 abs-sub a b =
     elim (decLe b a) [
       | yes h ↦ rw (le-ltb a b h) (omega arith)

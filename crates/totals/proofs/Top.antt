@@ -67,10 +67,10 @@ module _ (k : ℕ) (ws : List ℕ) (full : length ws ≡ suc k) (words : Words w
   upper-half : 2 ^ 31 ≤ top → 2 ^ (32 * length ws) ≤ 2 * natural ws
   upper-half h = rw (split, range) (upper (natural (take k ws)) (2 ^ (32 * k)) top h)
 
-  positive : top < 2 ^ 31 → integer ws ≡ pos (natural ws)
+  pub positive : top < 2 ^ 31 → integer ws ≡ pos (natural ws)
   positive h = integer-positive ws (lower-half h)
 
-  negative : 2 ^ 31 ≤ top → integer ws ≡ negsuc (natural (map complement ws))
+  pub negative : 2 ^ 31 ≤ top → integer ws ≡ negsuc (natural (map complement ws))
   negative h = integer-negative ws words (upper-half h)
 
   pub exact-top : (s : Bool) → s ≡ leb (2 ^ 31) top → exact (integer ws) ≡ finite s (natAbs (integer ws))

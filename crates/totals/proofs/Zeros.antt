@@ -1,13 +1,13 @@
 -- Whether words hold 0, and words that are all 0. Assumes nothing.
 use mathlib.Core.Path.{_≡_, refl, sym, ap, _∙_}
 use mathlib.Core.Bool.{true, false}
-use mathlib.Core.List.{List, [], _∷_, _++_}
+use mathlib.Core.List.{List}
 use Prim.Native.Nat.{ℕ, zero, suc, _+_, _*_, _≤_, _<_}
 use native.Mathlib.Numerals.{add-one}
 use native.Mathlib.Omega.{arith}
 use borrow.Author.Tests.{ne-eqb}
 use lib.Dec.{eqb}
-use lib.ListN.{length, take, drop, set, getD, replicate, drop-of-length-le}
+use lib.ListN.{length, take, drop, set, getD, replicate, replicate-append-replicate, drop-of-length-le}
 use lib.Seq.{drop-cons, take-suc-set}
 use Rattle.words.specs.Words.{natural}
 
@@ -30,9 +30,5 @@ unfolding natural
 zero-done ws i h = rw (drop-of-length-le ws)
 
 -- ---- clearing word by word
-replicate-more : (i : ℕ) → replicate {A = ℕ} (suc i) 0 ≡ replicate i 0 ++ (0 ∷ [])
-replicate-more zero = refl
-replicate-more (suc i) = ap (λ (xs : List ℕ). 0 ∷ xs) (replicate-more i)
-
 pub clear-more : (ws : List ℕ) (i : ℕ) → i < length ws → take i ws ≡ replicate i 0 → take (i + 1) (set ws i 0) ≡ replicate (i + 1) 0
-clear-more ws i h e = rw (add-one, take-suc-set ws i 0 h, e) (sym (replicate-more i))
+clear-more ws i h e = rw (add-one, take-suc-set ws i 0 h, e) (replicate-append-replicate {A = ℕ} i 1 0 ∙ ap (λ (n : ℕ). replicate n 0) (add-one i))

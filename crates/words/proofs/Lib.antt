@@ -1,4 +1,5 @@
 pub mod Append
+pub mod Complements
 pub mod Carry
 pub mod Signed
 pub mod TwosComplement

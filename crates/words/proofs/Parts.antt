@@ -1,5 +1,5 @@
 -- What the carrying add on a part of the words says of all of them. Assumes nothing.
-use mathlib.Core.Path.{_≡_, refl, sym, ap, _∙_}
+use mathlib.Core.Path.{_≡_, sym, ap, _∙_}
 use mathlib.Core.Bool.{Bool}
 use mathlib.Core.List.{List, [], _∷_, _++_, append-assoc}
 use Prim.Native.Nat.{ℕ, zero, suc, _+_, _-_, _*_, _^_, _≤_, _<_}
@@ -8,7 +8,7 @@ use native.Mathlib.Omega.{arith}
 use lib.Dec.{lit<}
 use lib.IntN.{pos, _+ℤ_}
 use lib.ListN.{length, take, drop}
-use lib.Seq.{drop-drop, getD-drop, length-take-le}
+use lib.Seq.{take-take, drop-drop, getD-drop, length-take-le}
 use Rattle.binary32.specs.Exact.{int}
 use Rattle.words.specs.Words.{Words, natural, integer, wordsOfInteger}
 use Rattle.words.proofs.Carry.{walk, walk-from}
@@ -33,11 +33,6 @@ walk-signed : (s : Bool) (ws : List ℕ) (n : ℕ) → Words ws → walk s ws n 
 walk-signed s ws n k = ap (λ (xs : List ℕ). walk s xs n) (sym (words-unique ws k)) ∙ walk-integer s (length ws) (integer ws) n
 
 -- ---- k words from word w on
-take-less : (k v : ℕ) (ws : List ℕ) → take v (take (v + k) ws) ≡ take v ws
-take-less k zero ws = refl
-take-less k (suc v) [] = rw suc-add
-take-less k (suc v) (x ∷ ws) = rw (suc-add, take-less k v ws)
-
 drop-less : (k v : ℕ) (ws : List ℕ) → drop v (take (v + k) ws) ≡ take k (drop v ws)
 drop-less k zero ws = rw zero-add
 drop-less zero (suc v) [] = rw suc-add
@@ -53,7 +48,7 @@ module _ (t : List ℕ) (w k : ℕ) (words : Words t) (inside : w + k ≤ length
       let all = take (w + k) t in
       let l : length all ≡ w + k = length-take-le (w + k) t inside in
       let a : take w t ++ walk s part n ≡ walk s all (2 ^ (32 * w) * n) =
-      rw (← take-less k w t, ← drop-less k w t) (walk-from s w all n (take-words (w + k) t words) (omega arith))
+      rw (← take-take w (w + k) t (omega arith), ← drop-less k w t) (walk-from s w all n (take-words (w + k) t words) (omega arith))
       in
       let b : walk s all (2 ^ (32 * w) * n) ≡ wordsOfInteger (w + k) (integer all +ℤ int s (2 ^ (32 * w) * n)) =
       walk-signed s all (2 ^ (32 * w) * n) (take-words (w + k) t words) ∙ ap (λ (x : ℕ). wordsOfInteger x (integer all +ℤ int s (2 ^ (32 * w) * n))) l

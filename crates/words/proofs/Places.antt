@@ -8,7 +8,8 @@ use lib.ListN.{length, getD}
 use Rattle.words.specs.Words.{natural, wordsOf, wordsOfInteger, complement}
 use Rattle.words.specs.Theorems.{WordAt, NaturalWords}
 use Rattle.words.proofs.Append.{base-suc}
-use Rattle.words.proofs.TwosComplement.{words-length, words-natural, natural-complement}
+use Rattle.words.proofs.Complements.{words-length}
+use Rattle.words.proofs.TwosComplement.{words-natural, natural-complement}
 
 place : (k n i : ℕ) → i < k → getD (wordsOf k n) i 0 ≡ n / 2 ^ (32 * i) % 2 ^ 32
 unfolding wordsOf

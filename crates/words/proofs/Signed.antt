@@ -9,6 +9,7 @@ use lib.IntN.{ℤ, pos, negsuc, negℤ, subℕ, _+ℤ_}
 use borrow.Author.Tests.{lt-ltb, le-ltb}
 use Rattle.binary32.specs.Exact.{int}
 use Rattle.words.specs.Words.{wordsOf, wordsOfInteger, complement}
+use Rattle.words.proofs.Complements.{words-words, complement-back}
 use Rattle.words.proofs.Carry.{walk}
 
 -- ---- adding
@@ -71,18 +72,10 @@ abbrev opposite : ℤ → ℤ
 opposite (pos n) = negsuc n
 opposite (negsuc n) = pos n
 
-comp-comp : (w : ℕ) → 4294967295 - (4294967295 - w % 4294967296) ≡ w % 4294967296
-comp-comp w = omega arith
-
-pub words-back : (k n : ℕ) → map complement (map complement (wordsOf k n)) ≡ wordsOf k n
-unfolding wordsOf
-words-back zero n = refl
-words-back (suc k) n = rw (comp-comp n, words-back k (n / 4294967296))
-
 opposite-words : (k : ℕ) (z : ℤ) → map complement (wordsOfInteger k z) ≡ wordsOfInteger k (opposite z)
 unfolding wordsOfInteger
 opposite-words k (pos n) = refl
-opposite-words k (negsuc n) = words-back k n
+opposite-words k (negsuc n) = complement-back (wordsOf k n) (words-words k n)
 
 opposite-sum : (z : ℤ) (n : ℕ) → opposite (opposite z +ℤ pos n) ≡ z +ℤ negℤ (pos n)
 opposite-sum (pos a) zero = let e : suc a - suc 0 ≡ a + 0 = omega arith in rw (sub-lt 0 (suc a) (omega arith)) (ap pos e)

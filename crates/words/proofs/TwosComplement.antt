@@ -5,31 +5,14 @@ use Prim.Native.Nat.{ℕ, zero, suc, _+_, _-_, _*_, _/_, _%_, _^_, _≤_, _<_}
 use native.Mathlib.Decide.{decLe}
 use native.Mathlib.Omega.{arith}
 use borrow.Author.Tests.{lt-ltb, le-ltb}
-use lib.Dec.{lit<}
 use lib.IntN.{pos, negsuc, _-ℤ_}
 use lib.ListN.{length, length-map}
 use Rattle.words.specs.Words.{Words, natural, integer, wordsOf, wordsOfInteger, complement}
 use Rattle.words.specs.Theorems.{Held, WordsUnique, Formed}
 use Rattle.words.proofs.Append.{base-suc}
-use Rattle.words.proofs.Signed.{words-back}
+use Rattle.words.proofs.Complements.{words-length, words-words, complement-words, complement-back}
 
 -- ---- natural numbers
-pub words-length : (k n : ℕ) → length (wordsOf k n) ≡ k
-unfolding wordsOf
-words-length zero n = refl
-words-length (suc k) n = ap suc (words-length k _)
-
-words-words : (k n : ℕ) → Words (wordsOf k n)
-unfolding wordsOf
-words-words zero n i = lit< tt
-words-words (suc k) n zero = omega arith
-words-words (suc k) n (suc i) = words-words k (n / 4294967296) i
-
-complement-words : (ws : List ℕ) → Words (map complement ws)
-complement-words [] i = lit< tt
-complement-words (w ∷ ws) zero = omega arith
-complement-words (w ∷ ws) (suc i) = complement-words ws i
-
 -- a number that has room comes back
 pub natural-back : (k n : ℕ) → n < 2 ^ (32 * k) → natural (wordsOf k n) ≡ n
 unfolding natural wordsOf
@@ -97,14 +80,7 @@ held k (negsuc n) h =
     let s : natural (map complement ws) + natural ws + 1 ≡ 2 ^ (32 * k) = natural-complement ws (words-words k n) ∙ ap (λ (x : ℕ). 2 ^ (32 * x)) (words-length k n) in
     let l : length (map complement ws) ≡ k = length-map ws complement ∙ words-length k n in
     integer-negative (map complement ws) (complement-words ws) (rw l (upper n (2 ^ (32 * k)) (natural ws) (natural (map complement ws)) h r s))
-    ∙ ap negsuc (ap natural (words-back k n) ∙ r)
-
-complement-back : (ws : List ℕ) → Words ws → map complement (map complement ws) ≡ ws
-complement-back [] k = refl
-complement-back (w ∷ ws) k =
-    let h = k 0 in
-    let e : 4294967295 - (4294967295 - w) ≡ w = omega arith in
-    rw (e, complement-back ws (λ i. k (suc i)))
+    ∙ ap negsuc (ap natural (complement-back (wordsOf k n) (words-words k n)) ∙ r)
 
 pub words-unique : WordsUnique
 unfolding wordsOfInteger

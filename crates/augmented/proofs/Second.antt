@@ -1,7 +1,7 @@
 -- The pair of an exact number, by its sign and magnitude: first is what RN0 gives, second the rounded left-over on its side. Assumes nothing.
 use mathlib.Core.Path.{_≡_, refl, sym, ap, ap₂, _∙_}
 use mathlib.Core.Logic.{_⊎_, inl, inr}
-use mathlib.Core.Bool.{Bool, true, false, not, Bool·beq, cond, _&&_}
+use mathlib.Core.Bool.{Bool, true, false, not, cond, _&&_}
 use Prim.Native.Nat.{ℕ, suc, _+_, _-_, _*_, _^_, _≤_, _<_}
 use native.Mathlib.Nat.{le-trans, le-of-lt, le-of-eq, lt-of-le-of-lt, zero-mul}
 use native.Mathlib.Omega.{arith}
@@ -19,12 +19,8 @@ use Rattle.rounding.proofs.Representable.{rep-zero}
 use Rattle.rounding.proofs.Rounded.{rounded-near, rounded-none, rounded-mono}
 use Rattle.rounding.proofs.RoundValue.{round-below, round-above}
 use Rattle.binary32.specs.Exact.{negate, plusFinite, plus, finer}
-use Rattle.binary32.proofs.Sums.{like?, sum-same, sum-left, sum-right, sum-none}
+use Rattle.binary32.proofs.Sums.{like?, not-like, sum-same, sum-left, sum-right, sum-none}
 use Rattle.augmented.specs.Pairs.{rest, zeroTakes, secondOf, pairOf, addsUp, underflowed}
-
-not-same : (s : Bool) → Bool·beq s (not s) ≡ false
-not-same true = refl
-not-same false = refl
 
 pub unlike-true : (s : Bool) → unlike s true ≡ not s
 unlike-true true = refl
@@ -40,10 +36,10 @@ module _ (s : Bool) (N A : ℕ) where
   pub less-is : (N ≡ A → ⊥) → plusFinite s N (not s) A ≡ finite (unlike s (ltb N A)) (dist A N)
   less-is n =
       elim (tri N A) [
-        | inl h ↦ sum-right s N (not s) A (not-same s) h ∙ ap₂ finite (sym (unlike-true s) ∙ ap (unlike s) (sym (lt-ltb N A h))) (omega arith)
+        | inl h ↦ sum-right s N (not s) A (not-like s) h ∙ ap₂ finite (sym (unlike-true s) ∙ ap (unlike s) (sym (lt-ltb N A h))) (omega arith)
         | inr o ↦ elim o [
           | inl e ↦ absurd (n e)
-          | inr h ↦ sum-left s N (not s) A (not-same s) h ∙ ap₂ finite (sym (unlike-false s) ∙ ap (unlike s) (sym (le-ltb N A (le-of-lt h)))) (omega arith)
+          | inr h ↦ sum-left s N (not s) A (not-like s) h ∙ ap₂ finite (sym (unlike-false s) ∙ ap (unlike s) (sym (le-ltb N A (le-of-lt h)))) (omega arith)
         ]
       ]
 
@@ -68,7 +64,7 @@ module _ (F : Format) (s : Bool) (N a : ℕ) where
 
   pub rest-none : N ≡ a * 2 ^ low F → rest F (finite s N) (finite s a) ≡ finite false 0
   unfolding rest negate finer plus
-  rest-none e = sum-none s N (not s) (a * 2 ^ low F) (not-same s) e
+  rest-none e = sum-none s N (not s) (a * 2 ^ low F) (not-like s) e
 
   pub second-is : secondOf F (finite s N) (finite s a) ≡ zeroTakes s (roundFinite ToZero F side gap)
   unfolding secondOf round zeroTakes

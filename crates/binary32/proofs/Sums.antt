@@ -1,7 +1,7 @@
 -- Sums of magnitudes with signs: the four cases, exchange of the addends, and a common factor. Assumes nothing.
 use mathlib.Core.Path.{_≡_, refl, ap, ap₂, _∙_, sym}
 use mathlib.Core.Logic.{_⊎_, inl, inr}
-use mathlib.Core.Bool.{Bool, true, false, Bool·beq, cond}
+use mathlib.Core.Bool.{Bool, true, false, not, Bool·beq, cond}
 use Prim.Native.Nat.{ℕ, _+_, _-_, _*_, _^_, _≤_, _<_}
 use native.Mathlib.Nat.{le-of-lt, le-of-eq, add-comm, add-mul, zero-mul, mul-lt-mul-of-pos-right}
 use native.Mathlib.Decide.{decLe}
@@ -43,6 +43,20 @@ like-eq true true e = refl
 like-eq true false e = sym e
 like-eq false true e = e
 like-eq false false e = refl
+
+pub like-own : (s : Bool) → Bool·beq s s ≡ true
+like-own true = refl
+like-own false = refl
+
+pub not-like : (s : Bool) → Bool·beq s (not s) ≡ false
+not-like true = refl
+not-like false = refl
+
+pub unlike-eq : (s t : Bool) → Bool·beq s t ≡ false → t ≡ not s
+unlike-eq true true e = e
+unlike-eq true false e = refl
+unlike-eq false true e = refl
+unlike-eq false false e = sym e
 
 like-swap : (s t : Bool) → Bool·beq t s ≡ Bool·beq s t
 like-swap true true = refl

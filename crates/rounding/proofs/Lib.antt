@@ -5,6 +5,7 @@ pub mod Multiple
 pub mod Representable
 pub mod NearLaws
 pub mod SumError
+pub mod Sterbenz
 pub mod Rounded
 pub mod HalfPlace
 pub mod Sticky
@@ -12,6 +13,12 @@ pub mod Bits
 pub mod Codec
 pub mod Signalling
 pub mod Scaled
+pub mod Predecessor
+pub mod TieDown
+pub mod Chosen
+pub mod Rescaled
+pub mod ProductError
+pub mod SmallProducts
 pub mod Halfway
 pub mod Even
 pub mod RoundValue

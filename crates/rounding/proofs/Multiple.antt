@@ -25,7 +25,7 @@ sub-mul c d G = mul-comm (c - d) G ∙ mul-sub G c d ∙ simp (mul-comm)
 pub mult-add : (g a b : ℕ) → Mult g a → Mult g b → Mult g (a + b)
 mult-add g a b x y = (x .0 + y .0, simp (x .1, y .1, add-mul))
 
-mult-sub : (g a b : ℕ) → Mult g a → Mult g b → Mult g (a - b)
+pub mult-sub : (g a b : ℕ) → Mult g a → Mult g b → Mult g (a - b)
 mult-sub g a b x y = (x .0 - y .0, simp (x .1, y .1, sub-mul))
 
 pub mult-dist : (g a b : ℕ) → Mult g a → Mult g b → Mult g (dist a b)

@@ -11,6 +11,9 @@ use Rattle.rounding.proofs.Multiple.{Mult, mult-down}
 abbrev pub rep-mult : {p l n : ℕ} (r : Rep p l n) → Mult (r .e) n
 rep-mult r = (r .m, r .is)
 
+pub rep-low : {p l n : ℕ} → Rep p l n → Mult l n
+rep-low {n = n} r = mult-down n (r .low) (rep-mult r)
+
 -- ---- which numbers are representable
 pub rep-zero : {p l : ℕ} → Rep p l 0
 rep-zero {p} {l} = record { e = l; m = 0; low = le-refl l; small = pow-pos p; is = sym (zero-mul (2 ^ l)) }
@@ -47,6 +50,17 @@ rep-unit {n = n} {k = k} r h =
     elim (decLe k (r .e)) [
       | yes g ↦ mult-down n g (rep-mult r)
       | no g ↦ let b = r .low in absurd (omega (arith, h (omega arith), rep-under {k = k} r (omega arith)))
+    ]
+
+-- ---- with another lowest exponent
+pub rep-lower : {p l k n : ℕ} → l ≤ k → Rep p k n → Rep p l n
+rep-lower h r = record { e = r .e; m = r .m; low = le-trans h (r .low); small = r .small; is = r .is }
+
+pub rep-raise : {p l k n : ℕ} → 2 ^ p * 2 ^ k ≤ n → Rep (suc p) l n → Rep (suc p) k n
+rep-raise {k = k} h r =
+    elim (decLe k (r .e)) [
+      | yes g ↦ record { e = r .e; m = r .m; low = g; small = r .small; is = r .is }
+      | no g ↦ absurd (omega (arith, rep-under {k = k} r (omega arith)))
     ]
 
 -- a number that is no larger than x and y, and a multiple of 2 ^ g wherever both are

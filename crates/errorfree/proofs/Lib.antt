@@ -1,0 +1,14 @@
+pub mod Signed
+pub mod Steps
+pub mod Split
+pub mod ProductSplit
+pub mod Recomposed
+pub mod FastTwoSum
+pub mod Powers
+pub mod Edge
+pub mod Halved
+pub mod MiddleSecond
+pub mod Middle
+pub mod TinyRounding
+pub mod TinyTest
+pub mod Tiny

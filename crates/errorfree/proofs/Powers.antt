@@ -1,0 +1,67 @@
+-- Powers of two: what a number that is bounded by one rounds to, and products with one, exact or rounded. Assumes nothing.
+use mathlib.Core.Path.{_≡_, sym, ap, _∙_, subst}
+use mathlib.Core.Bool.{Bool, false}
+use Prim.Native.Nat.{ℕ, suc, _+_, _-_, _*_, _^_, _≤_, _<_}
+use native.Mathlib.Nat.{mul-comm, one-mul, le-of-mul-le-mul-right}
+use native.Mathlib.Omega.{arith}
+use lib.Pow.{pow-pos}
+use Rattle.rounding.specs.declared.Ties.the-variants.{ToEven}
+use Rattle.rounding.specs.Format.{Format, low, limit}
+use Rattle.rounding.specs.Nearest.{Rep, Near}
+use Rattle.rounding.specs.Value.{finite, roundFinite}
+use Rattle.rounding.proofs.Multiple.{joined}
+use Rattle.rounding.proofs.NearLaws.{near-ge, near-le}
+use Rattle.rounding.proofs.Representable.{rep-le, rep-lower}
+use Rattle.rounding.proofs.Rounded.{rounded-near}
+use Rattle.rounding.proofs.Scaled.{rep-up}
+use Rattle.rounding.proofs.Rescaled.{near-down}
+use Rattle.binary32.specs.Steps.{mulValue}
+use Rattle.errorfree.specs.Constants.{down}
+use Rattle.errorfree.proofs.Steps.{toEven, round-whole, mul-positive}
+
+-- ---- N units of u * u beside m * 2 ^ k units of u, a number of the format
+bound-rep : (F : Format) (m k : ℕ) → m ≤ 2 ^ suc (F .fraction) → Rep (suc (F .fraction)) (low F) (m * 2 ^ k * 2 ^ low F)
+bound-rep F m k b = subst (λ (z : ℕ). Rep (suc (F .fraction)) (low F) z) (sym (joined m k (low F) (k + low F) (let z : k + low F ≡ k + low F = omega arith in z))) (rep-le (F .fraction) (low F) m (k + low F) (omega arith) b)
+
+pub even-le : (F : Format) (N m k : ℕ) → m ≤ 2 ^ suc (F .fraction) → N ≤ m * 2 ^ k * 2 ^ low F → toEven F N ≤ m * 2 ^ k
+even-le F N m k b h = le-of-mul-le-mul-right (near-le (rounded-near ToEven (F .fraction) (low F) N) (bound-rep F m k b) h) (pow-pos (low F))
+
+pub even-ge : (F : Format) (N m k : ℕ) → m ≤ 2 ^ suc (F .fraction) → m * 2 ^ k * 2 ^ low F ≤ N → m * 2 ^ k ≤ toEven F N
+even-ge F N m k b h = le-of-mul-le-mul-right (near-ge (rounded-near ToEven (F .fraction) (low F) N) (bound-rep F m k b) h) (pow-pos (low F))
+
+pub pow-le-of : (F : Format) (N k : ℕ) → N ≤ 2 ^ k * 2 ^ low F → toEven F N ≤ 2 ^ k
+pow-le-of F N k h = rw one-mul at (even-le F N 1 k (pow-pos (suc (F .fraction))) (rw one-mul h))
+
+pub pow-ge-of : (F : Format) (N k : ℕ) → 2 ^ k * 2 ^ low F ≤ N → 2 ^ k ≤ toEven F N
+pow-ge-of F N k h = rw one-mul at (even-ge F N 1 k (pow-pos (suc (F .fraction))) (rw one-mul h))
+
+-- ---- scaled up: 2 ^ (low F + k) is 2 ^ k, so `up F` and `upUp F` are among them
+pub rep-shift : {p m : ℕ} (k : ℕ) → Rep p 0 m → Rep p 0 (m * 2 ^ k)
+rep-shift k r = rep-lower (let z : 0 ≤ 0 + k = omega arith in z) (rep-up k r)
+
+pub up-step : (F : Format) (s : Bool) (m k : ℕ) → Rep (suc (F .fraction)) 0 (m * 2 ^ k) → m * 2 ^ k < limit F → mulValue F (finite false (2 ^ (low F + k))) (finite s m) ≡ finite s (m * 2 ^ k)
+up-step F s m k r b =
+    mul-positive F (2 ^ (low F + k)) s m
+    ∙ ap (roundFinite ToEven F s) (mul-comm (2 ^ (low F + k)) m ∙ sym (joined m k (low F) (low F + k) (let z : k + low F ≡ low F + k = omega arith in z)))
+    ∙ round-whole ToEven F s (m * 2 ^ k) r b
+
+-- ---- scaled down by 2 ^ suc (F .fraction)
+module _ (F : Format) (wide : suc (F .fraction) ≤ low F) where
+  down-arg : (m : ℕ) → 2 ^ (low F - suc (F .fraction)) * (m * 2 ^ suc (F .fraction)) ≡ m * 2 ^ low F
+  down-arg m =
+      mul-comm (2 ^ (low F - suc (F .fraction))) (m * 2 ^ suc (F .fraction))
+      ∙ joined m (suc (F .fraction)) (low F - suc (F .fraction)) (low F) (let z : suc (F .fraction) + (low F - suc (F .fraction)) ≡ low F = omega arith in z)
+
+  pub down-step : (s : Bool) (m : ℕ) → Rep (suc (F .fraction)) 0 m → m < limit F → mulValue F (down F) (finite s (m * 2 ^ suc (F .fraction))) ≡ finite s m
+  down-step s m r b = mul-positive F (2 ^ (low F - suc (F .fraction))) s (m * 2 ^ suc (F .fraction)) ∙ ap (roundFinite ToEven F s) (down-arg m) ∙ round-whole ToEven F s m r b
+
+  -- what d units of u scaled down round to, beside d: a multiple of 2 ^ suc (F .fraction)
+  pub down-rounds : (d : ℕ) → Near (suc (F .fraction)) (suc (F .fraction)) d (toEven F (2 ^ (low F - suc (F .fraction)) * d) * 2 ^ suc (F .fraction))
+  down-rounds d =
+      let D = suc (F .fraction) in
+      let s = low F - D in
+      let e = toEven F (2 ^ s * d) in
+      let l-is : D + s ≡ low F = omega arith in
+      near-down d (e * 2 ^ D) s
+      (rw l-is (subst (λ (z : ℕ). Near D (low F) (d * 2 ^ s) z) (sym (joined e D s (low F) l-is))
+      (subst (λ (z : ℕ). Near D (low F) z (e * 2 ^ low F)) (mul-comm (2 ^ s) d) (rounded-near ToEven (F .fraction) (low F) (2 ^ s * d)))))

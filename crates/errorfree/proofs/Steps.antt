@@ -1,0 +1,107 @@
+-- The steps on finite values: rounded by one rule or the other, and exact where the exact result is a number of the format. Assumes nothing.
+use mathlib.Core.Path.{_≡_, refl, sym, ap, _∙_, subst}
+use mathlib.Core.Bool.{Bool, true, false, not}
+use Prim.Native.Nat.{ℕ, suc, _+_, _-_, _*_, _^_, _≤_, _<_}
+use native.Mathlib.Nat.{le-trans, le-of-eq, lt-of-le-of-lt, le-of-mul-le-mul-right, zero-add, zero-mul, mul-one, eq-of-mul-eq-mul-right}
+use native.Mathlib.Decide.{decLe}
+use native.Mathlib.Omega.{arith}
+use lib.Ieee.{unlike}
+use lib.Pow.{pow-pos}
+use Rattle.rounding.specs.declared.Ties.{Ties}
+use Rattle.rounding.specs.declared.Ties.the-variants.{ToEven, ToZero}
+use Rattle.rounding.specs.Format.{Format, low, limit}
+use Rattle.rounding.specs.Round.{rounded}
+use Rattle.rounding.specs.Nearest.{dist, Rep, Near, Near0}
+use Rattle.rounding.specs.Value.{Value, nan, infinite, finite, roundFinite, round, RNe}
+use Rattle.rounding.proofs.NearLaws.{near-exact, near-ge}
+use Rattle.rounding.proofs.Representable.{rep-zero}
+use Rattle.rounding.proofs.Rounded.{rounded-near, rounded-near0, rounded-none}
+use Rattle.rounding.proofs.RoundValue.{round-below, round-above}
+use Rattle.rounding.proofs.Rescaled.{near-down, near0-down}
+use Rattle.rounding.proofs.Sterbenz.{rep-double}
+use Rattle.rounding.proofs.Predecessor.{upper, below-add, below-rep}
+use Rattle.rounding.proofs.TieDown.{small-exact}
+use Rattle.binary32.specs.Exact.{negate, plusFinite, plus, times, finer}
+use Rattle.binary32.specs.Steps.{addValue, subValue, mulValue}
+use Rattle.errorfree.proofs.Signed.{Rel, Is, rel-dist, is-negate, is-plus}
+
+-- N units of u * u, rounded to the nearest number of the format, in units of u
+abbrev pub toEven : Format → ℕ → ℕ
+toEven F N = rounded ToEven (F .fraction) (low F) N
+
+abbrev pub toZero : Format → ℕ → ℕ
+toZero F N = rounded ToZero (F .fraction) (low F) N
+
+-- ---- a whole number n of u, rounded
+pub whole-near : (t : Ties) (F : Format) (n : ℕ) → Near (suc (F .fraction)) 0 n (rounded t (F .fraction) (low F) (n * 2 ^ low F))
+whole-near t F n = near-down n (rounded t (F .fraction) (low F) (n * 2 ^ low F)) (low F) (rw zero-add (rounded-near t (F .fraction) (low F) (n * 2 ^ low F)))
+
+pub even-at : (F : Format) (n : ℕ) → Near (suc (F .fraction)) 0 n (toEven F (n * 2 ^ low F))
+even-at F n = whole-near ToEven F n
+
+pub zero-at : (F : Format) (n : ℕ) → Near0 (suc (F .fraction)) 0 n (toZero F (n * 2 ^ low F))
+zero-at F n = near0-down n (toZero F (n * 2 ^ low F)) (low F) (rw zero-add (rounded-near0 (F .fraction) (low F) (n * 2 ^ low F)))
+
+-- RN0 is at most RNe
+pub zero-le-even : (F : Format) (N : ℕ) → toZero F N ≤ toEven F N
+zero-le-even F N =
+    let k = rounded-near0 (F .fraction) (low F) N in
+    let h = rounded-near ToEven (F .fraction) (low F) N in
+    let x = k .near .best (toEven F N * 2 ^ low F) (h .rep) in
+    let y = h .best (toZero F N * 2 ^ low F) (k .near .rep) in
+    le-of-mul-le-mul-right (k .tie (toEven F N * 2 ^ low F) (h .rep) (omega arith)) (pow-pos (low F))
+
+-- at most half of the rounded number is left over
+pub error-le : {p n A : ℕ} → Near (suc p) 0 n A → 2 * dist n A ≤ A
+error-le {p} {n} {A} h =
+    elim (decLe A (2 ^ p)) [
+      | yes g ↦ omega (arith, small-exact h (n, sym (mul-one n)) (omega arith))
+      | no g ↦ elim (decLe A n) [
+        | yes k ↦ elim (decLe n (2 * A)) [ yes j ↦ omega (arith, h .best (2 * A) (rep-double (h .rep))) | no j ↦ absurd (omega (arith, near-ge h (rep-double (h .rep)) (omega arith), pow-pos p)) ]
+        | no k ↦
+            let u = upper p 0 A (h .rep) (omega arith) in
+            above A (A - 2 ^ u .f) (2 ^ u .f) n (pow-pos (u .f)) (below-add u) (omega arith) (h .best (A - 2 ^ u .f) (below-rep u))
+      ]
+    ]
+  where
+    above : (A P F n : ℕ) → 0 < F → P + F ≡ A → n ≤ A → dist A n ≤ dist P n → 2 * dist n A ≤ A
+    above A P F n z e k b = omega arith
+
+-- ---- exact steps
+pub round-whole : (t : Ties) (F : Format) (s : Bool) (a : ℕ) → Rep (suc (F .fraction)) 0 a → a < limit F → roundFinite t F s (a * 2 ^ low F) ≡ finite s a
+round-whole t F s a r h =
+    let e = near-exact (whole-near t F a) r in
+    round-below t F s (a * 2 ^ low F) (lt-of-le-of-lt (le-of-eq e) h) ∙ ap (finite s) e
+
+is-rounded : (F : Format) (r : Bool) (v : Value) (p n : ℕ) → Is r v p n → Rep (suc (F .fraction)) 0 (dist p n) → dist p n < limit F → Is r (RNe F (finer F v)) p n
+unfolding finer round
+is-rounded F r nan p n h rep lt = absurd h
+is-rounded F r (infinite s) p n h rep lt = absurd h
+is-rounded F r (finite s m) p n h rep lt = let d = rel-dist r s m p n h in rw (round-whole ToEven F s m (rw d rep) (rw d lt)) h
+
+pub is-add : (F : Format) (r : Bool) (x y : Value) (p n p' n' : ℕ) → Is r x p n → Is r y p' n' → Rep (suc (F .fraction)) 0 (dist (p + p') (n + n')) → dist (p + p') (n + n') < limit F
+    → Is r (addValue F x y) (p + p') (n + n')
+unfolding addValue
+is-add F r x y p n p' n' h k = is-rounded F r (plus x y) (p + p') (n + n') (is-plus r x y p n p' n' h k)
+
+pub is-sub : (F : Format) (r : Bool) (x y : Value) (p n p' n' : ℕ) → Is r x p n → Is r y p' n' → Rep (suc (F .fraction)) 0 (dist (p + n') (n + p')) → dist (p + n') (n + p') < limit F
+    → Is r (subValue F x y) (p + n') (n + p')
+unfolding subValue
+is-sub F r x y p n p' n' h k = is-add F r x (negate y) p n n' p' h (is-negate r y p' n' k)
+
+-- ---- products of finite values
+pub mul-finite : (F : Format) (s : Bool) (a : ℕ) (t : Bool) (b : ℕ) → mulValue F (finite s a) (finite t b) ≡ roundFinite ToEven F (unlike s t) (a * b)
+unfolding mulValue times round
+mul-finite F s a t b = refl
+
+-- by a positive one
+pub mul-positive : (F : Format) (c : ℕ) (t : Bool) (m : ℕ) → mulValue F (finite false c) (finite t m) ≡ roundFinite ToEven F t (c * m)
+unfolding mulValue times round
+mul-positive F c false m = refl
+mul-positive F c true m = refl
+
+pub zero-times : (F : Format) (s : Bool) (a : ℕ) → mulValue F (finite false 0) (finite s a) ≡ finite s 0
+unfolding limit
+zero-times F s a =
+    mul-positive F 0 s a ∙ ap (roundFinite ToEven F s) (zero-mul a ∙ sym (zero-mul (2 ^ low F)))
+    ∙ round-whole ToEven F s 0 rep-zero (pow-pos (suc (F .emax) + low F))

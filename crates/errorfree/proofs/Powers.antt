@@ -3,6 +3,7 @@ use mathlib.Core.Path.{_≡_, sym, ap, _∙_, subst}
 use mathlib.Core.Bool.{Bool, false}
 use Prim.Native.Nat.{ℕ, suc, _+_, _-_, _*_, _^_, _≤_, _<_}
 use native.Mathlib.Nat.{mul-comm, one-mul, le-of-mul-le-mul-right}
+use native.Mathlib.Decide.{decLe}
 use native.Mathlib.Omega.{arith}
 use lib.Pow.{pow-pos}
 use Rattle.rounding.specs.declared.Ties.the-variants.{ToEven}
@@ -34,6 +35,10 @@ pow-le-of F N k h = rw one-mul at (even-le F N 1 k (pow-pos (suc (F .fraction)))
 
 pub pow-ge-of : (F : Format) (N k : ℕ) → 2 ^ k * 2 ^ low F ≤ N → 2 ^ k ≤ toEven F N
 pow-ge-of F N k h = rw one-mul at (even-ge F N 1 k (pow-pos (suc (F .fraction))) (rw one-mul h))
+
+-- a number that rounds to more than a power of two is not below it
+pub pow-above : (F : Format) (N k : ℕ) → 2 ^ k < toEven F N → 2 ^ k * 2 ^ low F ≤ N
+pow-above F N k h = elim (decLe (2 ^ k * 2 ^ low F) N) [ yes g ↦ g | no g ↦ absurd (omega (arith, pow-le-of F N k (omega arith))) ]
 
 -- ---- scaled up: 2 ^ (low F + k) is 2 ^ k, so `up F` and `upUp F` are among them
 pub rep-shift : {p m : ℕ} (k : ℕ) → Rep p 0 m → Rep p 0 (m * 2 ^ k)

@@ -1,0 +1,68 @@
+-- The values of the sheet's constants are the factors of the error-free transformations. Assumes nothing.
+use mathlib.Core.Path.{_≡_, refl}
+use mathlib.Core.Bool.{false}
+use Prim.Native.Nat.{_^_}
+use Rattle.rounding.specs.Format.{binary32}
+use Rattle.rounding.specs.Value.{finite, decode}
+use Rattle.errorfree.specs.Constants as factor
+use Rattle.errorfree.proofs.Edge.{halfLimit, edgeRest}
+use Rattle.emulation.specs.Constants.{psi, two, minusTwo, half, kappa, twoTo24, twoTo48, twoToMinus24, plusZero, smallest, twoTo127, twoTo102, twoToMinus102, twoToMinus126}
+use Rattle.emulation.specs.Lines.{value}
+
+-- ---- the factors
+pub psi-value : value psi ≡ factor.psi binary32
+unfolding decode
+psi-value = refl
+
+pub two-value : value two ≡ factor.two binary32
+unfolding decode
+two-value = refl
+
+pub minus-two-value : value minusTwo ≡ factor.minusTwo binary32
+unfolding decode
+minus-two-value = refl
+
+pub half-value : value half ≡ factor.half binary32
+unfolding decode
+half-value = refl
+
+pub kappa-value : value kappa ≡ factor.kappa binary32
+unfolding decode
+kappa-value = refl
+
+pub up-value : value twoTo24 ≡ factor.up binary32
+unfolding decode
+up-value = refl
+
+pub up-up-value : value twoTo48 ≡ factor.upUp binary32
+unfolding decode
+up-up-value = refl
+
+pub down-value : value twoToMinus24 ≡ factor.down binary32
+unfolding decode
+down-value = refl
+
+pub zero-value : value plusZero ≡ factor.zero
+unfolding decode
+zero-value = refl
+
+-- ---- what results are compared with, and u
+pub half-limit-value : value twoTo127 ≡ finite false (halfLimit binary32)
+unfolding decode halfLimit
+half-limit-value = refl
+
+pub edge-rest-value : value twoTo102 ≡ finite false (edgeRest binary32)
+unfolding decode edgeRest
+edge-rest-value = refl
+
+pub tie-value : value twoToMinus102 ≡ finite false (2 ^ 47)
+unfolding decode
+tie-value = refl
+
+pub lowest-value : value twoToMinus126 ≡ finite false (2 ^ 23)
+unfolding decode
+lowest-value = refl
+
+pub smallest-value : value smallest ≡ finite false 1
+unfolding decode
+smallest-value = refl

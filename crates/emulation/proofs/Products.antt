@@ -1,0 +1,153 @@
+-- The product's sheet ends in the pair of the exact product, for all patterns: branch by branch. Assumes nothing.
+use mathlib.Core.Path.{_≡_, refl, sym, ap, ap₂, _∙_, subst}
+use mathlib.Core.Logic.{_⊎_, inl, inr}
+use mathlib.Core.Bool.{Bool, true, false, not, cond, _&&_}
+use Prim.Native.Nat.{ℕ, suc, _+_, _-_, _*_, _^_, _≤_, _<_}
+use native.Mathlib.Omega.{arith}
+use lib.Ieee.{unlike}
+use Rattle.rounding.specs.declared.Ties.the-variants.{ToEven}
+use Rattle.rounding.specs.Format.{binary32, low, limit}
+use Rattle.rounding.specs.Nearest.{Rep}
+use Rattle.rounding.specs.Value.{Value, nan, infinite, finite, encode, isFinite, isZero, round, roundFinite}
+use Rattle.rounding.proofs.RoundValue.{round-below, round-above}
+use Rattle.binary32.specs.Exact.{negate, plus, times, finer}
+use Rattle.binary32.specs.Steps.{mulValue, fmaValue, subValue, addValue, addStep, subStep, mulStep, fmaStep}
+use Rattle.binary32.proofs.Theorems.{add-decodes, sub-decodes, mul-decodes, fma-decodes}
+use Rattle.binary32.proofs.Result.{mul-step, fma-step}
+use Rattle.augmented.specs.Pairs.{pairOf}
+use Rattle.errorfree.specs.Comparisons.{same}
+use Rattle.errorfree.specs.Constants as factor
+use Rattle.errorfree.proofs.Steps.{toEven, mul-finite}
+use Rattle.errorfree.proofs.Split.{Split}
+use Rattle.errorfree.proofs.Powers.{pow-above}
+use Rattle.errorfree.proofs.ProductSplit.{whole, product-split}
+use Rattle.errorfree.proofs.Halved.{product-edge}
+use Rattle.errorfree.proofs.Tiny.{zero-pair, tiny-pair}
+use Rattle.errorfree.proofs.Middle.{middle-split, middle-first, middle-second}
+use Rattle.emulation.specs.Constants.{half, twoTo24, twoTo48, twoToMinus24, plusZero, smallest, twoToMinus102, twoToMinus126}
+use Rattle.emulation.specs.Lines.{Sheet, ends, value, minus, equal, signOf, zero}
+use Rattle.emulation.specs.Sheets.{recomposition, zeroFinish, recomposed, edgeFinish, infiniteProduct, tinyProduct, scaledDown, middleProduct, otherProduct}
+use Rattle.emulation.proofs.Patterns.{Pattern, sub-width, mul-width, fma-width, minus-value, negate-finite, sign-value, sign-width}
+use Rattle.emulation.proofs.Constants.{half-value, up-value, up-up-value, down-value, zero-value, tie-value, lowest-value, smallest-value}
+use Rattle.emulation.proofs.Foots.{Foots, foots, foots-infinite, foots-nan}
+use Rattle.emulation.proofs.Blocks.{value-cond, width-cond, recomposition-split, recomposition-widths, finish-first, finish-second, finish-width, recomposed-foot, recomposed-none, edge-foot, edge-none}
+
+-- ---- finite operands
+module _ (x y : ℕ) (s t : Bool) (a b : ℕ) (xi : value x ≡ finite s a) (yi : value y ≡ finite t b) (xr : Rep 24 0 a) (yr : Rep 24 0 b) (xb : a < limit binary32) (yb : b < limit binary32) where
+  abbrev r : Bool
+  r = unlike s t
+
+  abbrev p : ℕ
+  p = mulStep x y
+
+  abbrev A : ℕ
+  A = toEven binary32 (a * b)
+
+  pub p-value : value p ≡ roundFinite ToEven binary32 r (a * b)
+  p-value = mul-decodes x y ∙ ap₂ (mulValue binary32) xi yi ∙ mul-finite binary32 s a t b
+
+  -- a constant times an operand
+  scaled : (c : ℕ) (v : Value) → value c ≡ v → (z : ℕ) (w : Value) → value z ≡ w → value (mulStep c z) ≡ mulValue binary32 v w
+  scaled c v e z w f = mul-decodes c z ∙ ap₂ (mulValue binary32) e f
+
+  -- what a fused step leaves of a product
+  fused-value : (m k q : ℕ) (v w : Value) → value m ≡ v → value k ≡ w → Pattern q → value (fmaStep m k (minus q)) ≡ fmaValue binary32 v w (negate (value q))
+  fused-value m k q v w e f wq = fma-decodes m k (minus q) ∙ ap₂ (λ (u o : Value). fmaValue binary32 u o (value (minus q))) e f ∙ ap (fmaValue binary32 v w) (minus-value q wq)
+
+  pub infinite-foot : limit binary32 ≤ A → Foots (finite r (a * b)) (infiniteProduct x y p)
+  unfolding infiniteProduct
+  infinite-foot over =
+      let pi : value p ≡ infinite r = p-value ∙ round-above ToEven binary32 r (a * b) over in
+      let h = mulStep half x in
+      let a' = mulStep h y in
+      let b' = fmaStep h y (minus a') in
+      elim (product-edge binary32 (omega arith) (omega arith) a b xr yr xb yb over s t (value h) (value a') (value b') (scaled half (factor.half binary32) half-value x (finite s a) xi) (mul-decodes h y ∙ ap (mulValue binary32 (value h)) yi) (fused-value h y a' (value h) (finite t b) refl yi (mul-width h y))) [
+        | inl e ↦
+            let n = edge-none p a' b' (ap isFinite (e .0)) in
+            foots r (a * b) (infiniteProduct x y p) (rw (n .0) (mul-width x y)) (rw (n .1) (mul-width x y)) (ap value (n .0) ∙ pi ∙ sym (e .1), ap value (n .1) ∙ pi ∙ sym (e .2))
+        | inr e ↦ edge-foot p a' b' r (e .0) (e .1) (a * b) pi (mul-width x y) (e .2)
+      ]
+
+  -- below the limit p is RNe of the product
+  module _ (fine : A < limit binary32) where
+    pub pi : value p ≡ finite r A
+    pi = p-value ∙ round-below ToEven binary32 r (a * b) fine
+
+    pub zero-foot : A ≡ 0 → Foots (finite r (a * b)) (ends p p)
+    zero-foot z =
+        let e = zero-pair binary32 r (a * b) z in
+        let q : value p ≡ finite r 0 = pi ∙ ap (finite r) z in
+        foots r (a * b) (ends p p) (mul-width x y) (mul-width x y) (q ∙ sym (e .0), q ∙ sym (e .1))
+
+    pub other-foot : 2 ^ 47 < A → Foots (finite r (a * b)) (otherProduct x y p)
+    unfolding otherProduct
+    other-foot big =
+        let least = pow-above binary32 (a * b) 47 big in
+        let n = whole binary32 a b xr yr least in
+        let c = fmaStep x y (minus p) in
+        let ci : value c ≡ fmaValue binary32 (finite s a) (finite t b) (negate (finite r A)) = fused-value x y p (finite s a) (finite t b) xi yi (mul-width x y) ∙ ap (λ (v : Value). fmaValue binary32 (finite s a) (finite t b) (negate v)) pi in
+        subst (λ (N : ℕ). Foots (finite r N) (recomposed p c)) (sym (n .1)) (recomposed-foot r (n .0) A p c pi (mul-width x y) (fma-width x y (minus p)) (rw ci (product-split binary32 a b xr yr least s t fine)))
+
+    -- a less u with a's sign
+    lower-value : value (subStep p (signOf p smallest)) ≡ subValue binary32 (finite r A) (finite r 1)
+    lower-value = sub-decodes p (signOf p smallest) ∙ ap₂ (subValue binary32) pi (sign-value p r A pi smallest 1 (omega arith) smallest-value)
+
+    pub tiny-foot : 0 < A → A < 2 ^ 24 → Foots (finite r (a * b)) (tinyProduct x y p)
+    unfolding tinyProduct
+    tiny-foot pos lo =
+        let m = mulStep twoTo24 x in
+        let n = mulStep twoTo24 y in
+        let t1 = mulStep m n in
+        let t2 = fmaStep m n (minus t1) in
+        let g = mulStep twoTo48 p in
+        let t3 = subStep t1 g in
+        let z = addStep t2 t3 in
+        let w = subStep z t3 in
+        let tie = equal z (minus (signOf p twoToMinus102)) && equal w t2 in
+        let lower = subStep p (signOf p smallest) in
+        let test : tie ≡ same (value z) (finite (not r) (2 ^ 47)) && same (value w) (value t2) =
+        ap (λ (v : Value). same (value z) v && same (value w) (value t2))
+        (minus-value (signOf p twoToMinus102) (sign-width p twoToMinus102 (omega arith)) ∙ ap negate (sign-value p r A pi twoToMinus102 (2 ^ 47) (omega arith) tie-value) ∙ negate-finite r (2 ^ 47))
+        in
+        let first : value (cond tie lower p) ≡ cond (same (value z) (finite (not r) (2 ^ 47)) && same (value w) (value t2)) (subValue binary32 (finite r A) (finite r 1)) (finite r A) =
+        value-cond tie lower p ∙ ap₂ (λ (v u : Value). cond tie v u) lower-value pi ∙ ap (λ (c : Bool). cond c (subValue binary32 (finite r A) (finite r 1)) (finite r A)) test
+        in
+        let pair =
+        tiny-pair binary32 (omega arith) a b xr yr pos lo s t (value m) (value n) (value t1) (value t2) (value g) (value t3) (value z) (value w)
+        (scaled twoTo24 (factor.up binary32) up-value x (finite s a) xi) (scaled twoTo24 (factor.up binary32) up-value y (finite t b) yi) (mul-decodes m n)
+        (fused-value m n t1 (value m) (value n) refl refl (mul-width m n)) (scaled twoTo48 (factor.upUp binary32) up-up-value p (finite r A) pi) (sub-decodes t1 g) (add-decodes t2 t3) (sub-decodes z t3)
+        in
+        foots r (a * b) (tinyProduct x y p) (width-cond tie lower p (sub-width p (signOf p smallest)) (mul-width x y)) (mul-width plusZero (cond tie lower p))
+        (first ∙ pair .0, mul-decodes plusZero (cond tie lower p) ∙ ap₂ (mulValue binary32) zero-value first ∙ pair .1)
+
+    pub middle-foot : 2 ^ 24 ≤ A → A ≤ 2 ^ 47 → Foots (finite r (a * b)) (middleProduct x y)
+    unfolding middleProduct scaledDown
+    middle-foot lo hi =
+        let m = mulStep twoTo24 x in
+        let a' = mulStep m y in
+        let b' = fmaStep m y (minus a') in
+        let S = middle-split binary32 (omega arith) a b xr yr lo hi s t (value m) (value a') (value b') (scaled twoTo24 (factor.up binary32) up-value x (finite s a) xi) (mul-decodes m y ∙ ap (mulValue binary32 (value m)) yi) (fused-value m y a' (value m) (finite t b) refl yi (mul-width m y)) in
+        let f = recomposition-split r (S .n) (S .A) a' b' (S .is) (fma-width m y (minus a')) (S .split) in
+        let B = recomposition a' b' .second in
+        let C = recomposition a' b' .first in
+        let first = mulStep twoToMinus24 C in
+        let β = mulStep twoToMinus24 B in
+        let g = mulStep twoTo24 β in
+        let d = subStep g B in
+        let first-is : value first ≡ mulValue binary32 (factor.down binary32) (value C) = scaled twoToMinus24 (factor.down binary32) down-value C (value C) refl in
+        let second =
+        middle-second binary32 (omega arith) a b xr yr lo hi r (S .n) _ (value C) (value B) (S .product) f (value β) (value g) (value d)
+        (scaled twoToMinus24 (factor.down binary32) down-value B (value B) refl) (scaled twoTo24 (factor.up binary32) up-value β (value β) refl) (sub-decodes g B)
+        in
+        let tie = not (zero β) && equal d (signOf β twoToMinus126) in
+        let lower = subStep β (signOf β smallest) in
+        let test : tie ≡ not (isZero (value β)) && same (value d) (finite (second .t) (2 ^ 23)) =
+        ap (λ (v : Value). not (isZero (value β)) && same (value d) v) (sign-value β (second .t) (second .e) (second .is) twoToMinus126 (2 ^ 23) (omega arith) lowest-value)
+        in
+        let lower-is : value lower ≡ subValue binary32 (value β) (finite (second .t) 1) = sub-decodes β (signOf β smallest) ∙ ap (subValue binary32 (value β)) (sign-value β (second .t) (second .e) (second .is) smallest 1 (omega arith) smallest-value) in
+        let last : value (cond tie lower β) ≡ cond (not (isZero (value β)) && same (value d) (finite (second .t) (2 ^ 23))) (subValue binary32 (value β) (finite (second .t) 1)) (value β) =
+        value-cond tie lower β ∙ ap (λ (v : Value). cond tie v (value β)) lower-is ∙ ap (λ (c : Bool). cond c (subValue binary32 (value β) (finite (second .t) 1)) (value β)) test
+        in
+        foots r (a * b) (middleProduct x y) (rw (finish-first first (cond tie lower β)) (mul-width twoToMinus24 C)) (finish-width first (cond tie lower β) (width-cond tie lower β (sub-width β (signOf β smallest)) (mul-width twoToMinus24 B)))
+        (ap value (finish-first first (cond tie lower β)) ∙ first-is ∙ middle-first binary32 (omega arith) a b xr yr lo hi r (S .n) _ (value C) (value B) (S .product) f,
+         finish-second first (cond tie lower β) ∙ ap₂ (λ (v u : Value). cond (isZero v) (mulValue binary32 factor.zero u) v) last first-is ∙ second .finished)

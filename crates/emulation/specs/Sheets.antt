@@ -1,0 +1,151 @@
+-- The step sheet of a question (document 01, "The step sheet"), in that section's order. Assumes nothing.
+-- Every name that stands for a result is the step of the line that it is written on; `EachLine` of Theorems says so of all lines.
+use Prim.Native.Nat.{ℕ, _^_}
+use mathlib.Core.Bool.{Bool, true, false, not, cond, _&&_}
+use mathlib.Core.List.{List, [], _∷_, _++_}
+use lib.Dec.{ltb, leb, eqb}
+use Rattle.rounding.specs.Format.{binary32}
+use Rattle.rounding.specs.Value.{Value, nan, infinite, finite, decode}
+use Rattle.binary32.specs.Classes.{flip}
+use Rattle.binary32.specs.Steps.{addStep, subStep, mulStep, fmaStep}
+use Rattle.augmented.specs.Direct.{Operation, sum, difference, product}
+use Rattle.emulation.specs.Constants.{psi, two, minusTwo, half, kappa, twoTo24, twoTo48, twoToMinus24, plusZero, smallest, twoTo127, twoTo102, twoToMinus102, twoToMinus126}
+use Rattle.emulation.specs.Lines.{Step, add, subtract, multiply, fused, Line, line, fusedLine, Sheet, before, ends, value, minus, equal, less, signOf, zero, infinitely}
+
+-- "Recomposition of (a, b), three lines: z = ψ·a; d = z - a; e = 2·b. If e = d the pair is (z, -b), otherwise (a, b)."
+unfoldable pub recomposition : ℕ → ℕ → Sheet
+recomposition a b =
+    let z = mulStep psi a in
+    let d = subStep z a in
+    let e = mulStep two b in
+    before (line multiply psi a z ∷ line subtract z a d ∷ line multiply two b e ∷ []) (ends (cond (equal e d) z a) (cond (equal e d) (minus b) b))
+
+-- "Zero finish: where second is zero, one line second = (+0)·first."
+unfoldable pub zeroFinish : ℕ → ℕ → Sheet
+zeroFinish first second =
+    let nought = mulStep plusZero first in
+    cond (zero second) (before (line multiply plusZero first nought ∷ []) (ends first nought)) (ends first second)
+
+-- recomposition of (a, b), and zero finish
+unfoldable pub recomposed : ℕ → ℕ → Sheet
+recomposed a b = let r = recomposition a b in before (r .lines) (zeroFinish (r .first) (r .second))
+
+-- "If a' = ±2^127 and b' is 2^102 with the other sign: first = κ·a', second = (-2)·b'. Otherwise both are a."
+-- (Source document 002's algorithm 9 has 2^104 for 2^102.)
+unfoldable pub edgeFinish : ℕ → ℕ → ℕ → Sheet
+edgeFinish a a' b' =
+    let first = mulStep kappa a' in
+    let second = mulStep minusTwo b' in
+    cond (equal a' (signOf a' twoTo127) && equal b' (minus (signOf a' twoTo102))) (before (line multiply kappa a' first ∷ line multiply minusTwo b' second ∷ []) (ends first second)) (ends a a)
+
+-- ---- "Sum"
+-- "x' = ½·x; y' = ½·y; a' = x' + y'; v' = a' - x'; b' = y' - v'", and the edge
+unfoldable pub halvedSum : ℕ → ℕ → ℕ → Sheet
+halvedSum x y a =
+    let x' = mulStep half x in
+    let y' = mulStep half y in
+    let a' = addStep x' y' in
+    let v' = subStep a' x' in
+    let b' = subStep y' v' in
+    before (line multiply half x x' ∷ line multiply half y y' ∷ line add x' y' a' ∷ line subtract a' x' v' ∷ line subtract y' v' b' ∷ []) (edgeFinish a a' b')
+
+-- "Lines a = x + y; v = a - x; b = y - v; recompose; zero finish. If second is not zero and a is infinite: .."
+unfoldable pub sumInOrder : ℕ → ℕ → Sheet
+sumInOrder x y =
+    let a = addStep x y in
+    let v = subStep a x in
+    let b = subStep y v in
+    let r = recomposed a b in
+    before (line add x y a ∷ line subtract a x v ∷ line subtract y v b ∷ r .lines) (cond (not (zero (r .second)) && infinitely a) (halvedSum x y a) (ends (r .first) (r .second)))
+
+-- "Swap if |y| > |x|."
+unfoldable pub sumSheet : ℕ → ℕ → Sheet
+sumSheet x y = cond (less x y) (sumInOrder y x) (sumInOrder x y)
+
+-- ---- "Product": "Line a = x·y, then by a"
+-- "infinite: h = ½·x; a' = h·y; b' = fused(h, y, -a'); the same edge test on a' and b', the same two lines, or both are a"
+unfoldable pub infiniteProduct : ℕ → ℕ → ℕ → Sheet
+infiniteProduct x y a =
+    let h = mulStep half x in
+    let a' = mulStep h y in
+    let b' = fmaStep h y (minus a') in
+    before (line multiply half x h ∷ line multiply h y a' ∷ fusedLine h y (minus a') b' ∷ []) (edgeFinish a a' b')
+
+-- "m = 2^24·x; n = 2^24·y; t1 = m·n; t2 = fused(m, n, -t1); g = 2^48·a; t3 = t1 - g; z = t2 + t3; w = z - t3. If z is 2^-102 with the
+-- sign opposite to a, and w = t2: first = a minus u with a's sign, one line. Otherwise first = a. Then second = (+0)·first"
+unfoldable pub tinyProduct : ℕ → ℕ → ℕ → Sheet
+tinyProduct x y a =
+    let m = mulStep twoTo24 x in
+    let n = mulStep twoTo24 y in
+    let t1 = mulStep m n in
+    let t2 = fmaStep m n (minus t1) in
+    let g = mulStep twoTo48 a in
+    let t3 = subStep t1 g in
+    let z = addStep t2 t3 in
+    let w = subStep z t3 in
+    let tie = equal z (minus (signOf a twoToMinus102)) && equal w t2 in
+    let lower = subStep a (signOf a smallest) in
+    let first = cond tie lower a in
+    let second = mulStep plusZero first in
+    before
+    (line multiply twoTo24 x m ∷ line multiply twoTo24 y n ∷ line multiply m n t1 ∷ fusedLine m n (minus t1) t2 ∷ line multiply twoTo48 a g ∷ line subtract t1 g t3 ∷ line add t2 t3 z ∷ line subtract z t3 w ∷ [])
+    (before (cond tie (line subtract a (signOf a smallest) lower ∷ []) []) (before (line multiply plusZero first second ∷ []) (ends first second)))
+
+-- "first = 2^-24·A; β = 2^-24·B; g = 2^24·β; r = g - B. If β is not zero and r is 2^-126 with β's sign: β becomes β minus u with β's
+-- sign, one line. Second is β; zero finish"
+unfoldable pub scaledDown : ℕ → ℕ → Sheet
+scaledDown A B =
+    let first = mulStep twoToMinus24 A in
+    let β = mulStep twoToMinus24 B in
+    let g = mulStep twoTo24 β in
+    let r = subStep g B in
+    let tie = not (zero β) && equal r (signOf β twoToMinus126) in
+    let lower = subStep β (signOf β smallest) in
+    before (line multiply twoToMinus24 A first ∷ line multiply twoToMinus24 B β ∷ line multiply twoTo24 β g ∷ line subtract g B r ∷ [])
+    (before (cond tie (line subtract β (signOf β smallest) lower ∷ []) []) (zeroFinish first (cond tie lower β)))
+
+-- "m = 2^24·x; a' = m·y; b' = fused(m, y, -a'); recompose into (A, B)", and so on
+unfoldable pub middleProduct : ℕ → ℕ → Sheet
+middleProduct x y =
+    let m = mulStep twoTo24 x in
+    let a' = mulStep m y in
+    let b' = fmaStep m y (minus a') in
+    let r = recomposition a' b' in
+    before (line multiply twoTo24 x m ∷ line multiply m y a' ∷ fusedLine m y (minus a') b' ∷ r .lines) (scaledDown (r .first) (r .second))
+
+-- "b = fused(x, y, -a); recompose; zero finish"
+unfoldable pub otherProduct : ℕ → ℕ → ℕ → Sheet
+otherProduct x y a =
+    let b = fmaStep x y (minus a) in
+    before (fusedLine x y (minus a) b ∷ []) (recomposed a b)
+
+-- the five branches
+pub data Branch : Type 0 where
+  isInfinite : Branch
+  isZero : Branch
+  isTiny : Branch
+  isMiddle : Branch
+  isOther : Branch
+
+-- Magnitudes count u: 2^-125 is 2 ^ 24 of them, and 2^-102 is 2 ^ 47. "0 < |a| < 2^-125", "2^-125 ≤ |a| ≤ 2^-102", "otherwise (NaN too)".
+unfoldable pub branchOf : Value → Branch
+branchOf nan = isOther
+branchOf (infinite s) = isInfinite
+branchOf (finite s a) = cond (eqb a 0) isZero (cond (ltb a (2 ^ 24)) isTiny (cond (leb a (2 ^ 47)) isMiddle isOther))
+
+unfoldable pub productBy : Branch → ℕ → ℕ → ℕ → Sheet
+productBy isInfinite x y a = infiniteProduct x y a
+-- "zero: both are a"
+productBy isZero x y a = ends a a
+productBy isTiny x y a = tinyProduct x y a
+productBy isMiddle x y a = middleProduct x y
+productBy isOther x y a = otherProduct x y a
+
+unfoldable pub productSheet : ℕ → ℕ → Sheet
+productSheet x y = let a = mulStep x y in before (line multiply x y a ∷ []) (productBy (branchOf (value a)) x y a)
+
+-- ---- of a question: "(for a difference, after y's flip)"
+unfoldable pub sheetOf : Operation → ℕ → ℕ → Sheet
+sheetOf sum x y = sumSheet x y
+sheetOf difference x y = sumSheet x (flip binary32 y)
+sheetOf product x y = productSheet x y

@@ -6,3 +6,4 @@ pub mod NoNumber
 pub mod Sums
 pub mod Products
 pub mod ProductSheet
+pub mod EachLine

@@ -1,3 +1,4 @@
 pub mod Constants
 pub mod Lines
 pub mod Sheets
+pub mod Theorems

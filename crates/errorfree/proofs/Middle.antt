@@ -1,7 +1,7 @@
 -- A product that is small, but not among the smallest: one factor is scaled up, the product is split, and the pair is scaled down again. Assumes nothing.
 use mathlib.Core.Path.{_≡_, refl, sym, ap, ap₂, _∙_, subst}
 use mathlib.Core.Logic.{_≢_, inl, inr}
-use mathlib.Core.Bool.{Bool, true, false, cond}
+use mathlib.Core.Bool.{Bool, true, false, not, cond, _&&_}
 use Prim.Native.Nat.{ℕ, suc, _+_, _*_, _^_, _≤_, _<_}
 use native.Mathlib.Nat.{le-trans, le-of-eq, lt-of-le-of-lt, mul-comm, mul-assoc, mul-right-comm, mul-zero, mul-pos, zero-add, add-comm, pow-succ', mul-le-mul-right, le-mul-of-pos-right, eq-of-mul-eq-mul-right, eq-zero-or-pos}
 use native.Mathlib.Decide.{decLe}
@@ -24,13 +24,14 @@ use Rattle.binary32.specs.Exact.{negate}
 use Rattle.binary32.specs.Steps.{subValue, mulValue, fmaValue}
 use Rattle.augmented.specs.Pairs.{pairOf}
 use Rattle.augmented.proofs.Second.{tail, first-finite}
+use Rattle.errorfree.specs.Comparisons.{same}
 use Rattle.errorfree.specs.Constants.{Roomy, up, down, zero}
 use Rattle.errorfree.proofs.Signed.{Rel, Is, rel-dist}
 use Rattle.errorfree.proofs.Steps.{toEven, toZero, error-le, mul-finite}
 use Rattle.errorfree.proofs.Split.{Split, Split0, zero-finish, side-of, ltb-scale}
 use Rattle.errorfree.proofs.ProductSplit.{whole, product-split}
 use Rattle.errorfree.proofs.Powers.{pow-le-of, pow-ge-of, rep-shift, up-step, down-step}
-use Rattle.errorfree.proofs.MiddleSecond.{stepped, small, scaled-down, stepped-is}
+use Rattle.errorfree.proofs.MiddleSecond.{stepped, small, scaled-down, stepped-is, stepped-nonzero}
 
 -- the product of a and b with the sign r, 2 ^ suc (F .fraction) times larger, is n units of u, and a' and b' are what it is split into
 pub record Scaled (F : Format) (a b : ℕ) (r : Bool) (a' b' : Value) : Type 0 where
@@ -46,6 +47,8 @@ pub record Finished (F : Format) (s : Bool) (N : ℕ) (first c r : Value) : Type
   pub e : ℕ
   pub is : c ≡ finite t e
   pub finished : cond (isZero (stepped F t c r)) (mulValue F zero (mulValue F (down F) first)) (stepped F t c r) ≡ pairOf F (finite s N) .second
+  -- what was stepped down is no zero
+  pub nonzero : not (isZero c) && same r (finite t (2 ^ F .fraction)) ≡ true → isZero (stepped F t c r) ≡ false
 
 -- m with the sign u is q where t counts as plus
 own-sign : (t u : Bool) (m q : ℕ) → Rel t u m q 0 → (m ≡ q) × (m ≢ 0 → u ≡ t)
@@ -197,4 +200,5 @@ module _ (F : Format) (room : Roomy F) (a b : ℕ) (ar : Rep (suc (F .fraction))
               e = small F wide t d dr f tr dt (h .fine);
               is = scaled-down F wide t d dr f tr dt (h .fine) c g r c-is g-is r-is;
               finished = rw first-is (finish t d (w .0) (stepped F t c r) rel (w .2) (w .1));
+              nonzero = stepped-nonzero F wide t d dr f tr dt (h .fine) c g r c-is g-is r-is;
             }

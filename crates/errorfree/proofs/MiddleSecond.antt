@@ -1,29 +1,31 @@
 -- The rest of a scaled product, scaled down again: a tie that went up goes down by one u. Assumes nothing.
-use mathlib.Core.Path.{_≡_, sym, ap, _∙_}
+use mathlib.Core.Path.{_≡_, sym, ap, ap₂, _∙_, subst}
 use mathlib.Core.Logic.{inl, inr}
 use mathlib.Core.Bool.{Bool, true, false, not, _&&_, cond}
 use Prim.Native.Nat.{ℕ, suc, _+_, _-_, _*_, _^_, _≤_, _<_}
-use native.Mathlib.Nat.{le-refl, mul-one, one-mul, zero-mul, zero-add, pow-succ', le-mul-of-pos-right, eq-zero-or-pos}
+use native.Mathlib.Nat.{le-refl, mul-one, one-mul, zero-mul, zero-add, mul-left-comm, pow-succ', le-mul-of-pos-right, eq-zero-or-pos}
 use native.Mathlib.Decide.{decLe}
 use native.Mathlib.Omega.{arith}
+use borrow.Author.Tests.{ne-eqb}
 use lib.Dec.{T, eqb, eqb→eq}
-use lib.Pow.{pow-pos}
+use lib.Pow.{pow-add, pow-pos}
 use Rattle.rounding.specs.declared.Ties.the-variants.{ToEven}
 use Rattle.rounding.specs.Format.{Format, low, limit}
 use Rattle.rounding.specs.Nearest.{dist, Rep, Near, Near0}
-use Rattle.rounding.specs.Value.{Value, finite, isZero}
+use Rattle.rounding.specs.Value.{Value, nan, infinite, finite, isZero}
 use Rattle.rounding.proofs.Multiple.{sub-mul}
 use Rattle.rounding.proofs.NearLaws.{near-exact, near-le}
 use Rattle.rounding.proofs.Representable.{rep-lt, rep-lower, rep-raise}
 use Rattle.rounding.proofs.ProductError.{near-half}
 use Rattle.rounding.proofs.RoundValue.{round-below}
+use Rattle.rounding.proofs.Even.{half-to-even}
 use Rattle.rounding.proofs.Scaled.{rep-down}
 use Rattle.rounding.proofs.SmallProducts.{rest-down, rest-keep}
 use Rattle.rounding.proofs.TieDown.{dbl}
 use Rattle.binary32.specs.Steps.{subValue, mulValue}
 use Rattle.errorfree.specs.Comparisons.{same}
 use Rattle.errorfree.specs.Constants.{up, down}
-use Rattle.errorfree.proofs.Signed.{Is, rel-own, is-shift, same-eq, eq-same}
+use Rattle.errorfree.proofs.Signed.{and-both, Is, rel-own, rel-dist, is-shift, same-eq, eq-same}
 use Rattle.errorfree.proofs.Steps.{toEven, is-sub, mul-positive}
 use Rattle.errorfree.proofs.Powers.{up-step, down-rounds}
 
@@ -75,6 +77,53 @@ module _ (F : Format) (wide : suc (F .fraction) ≤ low F) (t : Bool) (d : ℕ) 
       let q = is-sub F t (finite t large) (finite t d) large 0 d 0 (rel-own t large) (rel-own t d) (rw e rep) (rw e (omega (arith, large-top))) in
       is-shift t gap (large + 0) (0 + d) large d q (omega arith)
 
+  -- ---- the tie that went up
+  nothing : small ≡ 0 → large ≡ 0
+  nothing e = ap (λ (z : ℕ). z * 2 ^ suc (F .fraction)) e ∙ zero-mul (2 ^ suc (F .fraction))
+
+  module _ (tie : large + 0 ≡ 2 ^ F .fraction + d) where
+    -- half of u would have gone down
+    above-one : 1 < small
+    above-one =
+        let K = suc (F .fraction) in
+        let b = pow-pos (F .fraction) in
+        elim (decLe small 1) [
+          | yes g ↦ elim (eq-zero-or-pos small) [
+            | inl z ↦ absurd (omega (arith, nothing z))
+            | inr z ↦
+                let one : small ≡ 1 = omega arith in
+                let l : large ≡ 2 ^ K = ap (λ (z : ℕ). z * 2 ^ K) one ∙ one-mul (2 ^ K) in
+                let twice : 2 * d ≡ 2 ^ K = omega (arith, pow-succ' 2 (F .fraction)) in
+                let all : 2 * (2 ^ (low F - K) * d) ≡ 2 ^ low F =
+                mul-left-comm 2 (2 ^ (low F - K)) d ∙ ap (λ (z : ℕ). 2 ^ (low F - K) * z) twice ∙ sym (pow-add 2 (low F - K) K) ∙ ap (λ (z : ℕ). 2 ^ z) (let z : low F - K + K ≡ low F = omega arith in z)
+                in
+                absurd (omega (arith, half-to-even (F .fraction) (low F) (2 ^ (low F - K) * d) all))
+          ]
+          | no g ↦ omega arith
+        ]
+
+    less-one : (small - 1) * 2 ^ suc (F .fraction) ≡ large - 2 ^ suc (F .fraction)
+    less-one = sub-mul small 1 (2 ^ suc (F .fraction)) ∙ ap (λ (z : ℕ). large - z) (one-mul (2 ^ suc (F .fraction)))
+
+    lower-near : Near0 (suc (F .fraction)) (suc (F .fraction)) d ((small - 1) * 2 ^ suc (F .fraction))
+    lower-near = let b = pow-pos (F .fraction) in let two = pow-succ' 2 (F .fraction) in rw less-one (rest-down dr near (omega arith) (omega arith) (omega arith))
+
+    lower-is : Is t (subValue F (finite t small) (finite t 1)) (small - 1) 0
+    lower-is =
+        let one = above-one in
+        let rep : Rep (suc (F .fraction)) 0 (small - 1) = rep-down (small - 1) (suc (F .fraction)) (rw zero-add (lower-near .near .rep)) in
+        let m : dist (small + 0) (0 + 1) ≡ small - 1 = omega arith in
+        let i = is-sub F t (finite t small) (finite t 1) small 0 1 0 (rel-own t small) (rel-own t 1) (rw m rep) (rw m (omega (arith, small-large, large-top))) in
+        is-shift t (subValue F (finite t small) (finite t 1)) (small + 0) (0 + 1) (small - 1) 0 i (omega arith)
+
+    lower-nonzero : isZero (subValue F (finite t small) (finite t 1)) ≡ false
+    lower-nonzero = by (subValue F (finite t small) (finite t 1)) lower-is
+      where
+        by : (v : Value) → Is t v (small - 1) 0 → isZero v ≡ false
+        by nan i = absurd i
+        by (infinite u) i = absurd i
+        by (finite u m) i = ne-eqb m 0 (λ (z : m ≡ 0). omega (arith, rel-dist t u m (small - 1) 0 i, above-one))
+
   -- q units of u with the sign t, the number nearest to d scaled down, ties to zero
   abbrev pub Result : Value → Type 0
   Result v = (q : ℕ) × Is t v q 0 × Near0 (suc (F .fraction)) (suc (F .fraction)) d (q * 2 ^ suc (F .fraction))
@@ -83,9 +132,6 @@ module _ (F : Format) (wide : suc (F .fraction) ≤ low F) (t : Bool) (d : ℕ) 
   result =
       go (eqb small 0) (eqb→eq small 0) (same gap halfPlace) (same-eq t gap halfPlace large d (2 ^ F .fraction) 0 gap-is (rel-own t (2 ^ F .fraction))) (eq-same t gap halfPlace large d (2 ^ F .fraction) 0 gap-is (rel-own t (2 ^ F .fraction)))
     where
-      nothing : small ≡ 0 → large ≡ 0
-      nothing e = ap (λ (z : ℕ). z * 2 ^ suc (F .fraction)) e ∙ zero-mul (2 ^ suc (F .fraction))
-
       keep : ¬ ((d < large) × (2 * (large - d) ≡ 2 ^ suc (F .fraction))) → Result (finite t small)
       keep no-tie = (small, rel-own t small, rest-keep dr near no-tie)
 
@@ -93,17 +139,7 @@ module _ (F : Format) (wide : suc (F .fraction) ≤ low F) (t : Bool) (d : ℕ) 
           → Result (cond (not z && c) (subValue F (finite t small) (finite t 1)) (finite t small))
       go true e c x y = keep (λ k. omega (arith, nothing (e tt)))
       go false e false x y = keep (λ k. y (omega (arith, pow-succ' 2 (F .fraction))))
-      go false e true x y =
-          let k = x tt in
-          let b = pow-pos (F .fraction) in
-          let two = pow-succ' 2 (F .fraction) in
-          let pos : 1 ≤ small = elim (eq-zero-or-pos small) [ inl z ↦ absurd (omega (arith, nothing z)) | inr z ↦ z ] in
-          let q : (small - 1) * 2 ^ suc (F .fraction) ≡ large - 2 ^ suc (F .fraction) = sub-mul small 1 (2 ^ suc (F .fraction)) ∙ ap (λ (z : ℕ). large - z) (one-mul (2 ^ suc (F .fraction))) in
-          let n0 : Near0 (suc (F .fraction)) (suc (F .fraction)) d ((small - 1) * 2 ^ suc (F .fraction)) = rw q (rest-down dr near (omega arith) (omega arith) (omega arith)) in
-          let rep : Rep (suc (F .fraction)) 0 (small - 1) = rep-down (small - 1) (suc (F .fraction)) (rw zero-add (n0 .near .rep)) in
-          let m : dist (small + 0) (0 + 1) ≡ small - 1 = omega arith in
-          let i = is-sub F t (finite t small) (finite t 1) small 0 1 0 (rel-own t small) (rel-own t 1) (rw m rep) (rw m (omega (arith, small-large, large-top))) in
-          (small - 1, is-shift t (subValue F (finite t small) (finite t 1)) (small + 0) (0 + 1) (small - 1) 0 i (omega arith), n0)
+      go false e true x y = (small - 1, lower-is (x tt), lower-near (x tt))
 
   module _ (c g r : Value) (c-is : c ≡ mulValue F (down F) (finite t d)) (g-is : g ≡ mulValue F (up F) c) (r-is : r ≡ subValue F g (finite t d)) where
     pub scaled-down : c ≡ finite t small
@@ -113,3 +149,11 @@ module _ (F : Format) (wide : suc (F .fraction) ≤ low F) (t : Bool) (d : ℕ) 
     stepped-is =
         let e : r ≡ gap = r-is ∙ ap (λ (v : Value). subValue F v (finite t d)) (g-is ∙ ap (mulValue F (up F)) scaled-down ∙ large-is) in
         rw (e, scaled-down) result
+
+    -- a correction leaves no zero
+    pub stepped-nonzero : not (isZero c) && same r (finite t (2 ^ F .fraction)) ≡ true → isZero (stepped F t c r) ≡ false
+    stepped-nonzero h =
+        let e : r ≡ gap = r-is ∙ ap (λ (v : Value). subValue F v (finite t d)) (g-is ∙ ap (mulValue F (up F)) scaled-down ∙ large-is) in
+        let k : not (eqb small 0) && same gap halfPlace ≡ true = sym (ap₂ (λ (v w : Value). not (isZero v) && same w halfPlace) scaled-down e) ∙ h in
+        let tie = same-eq t gap halfPlace large d (2 ^ F .fraction) 0 gap-is (rel-own t (2 ^ F .fraction)) (and-both (not (eqb small 0)) (same gap halfPlace) (subst (λ (b : Bool). T b) (sym k) tt) .1) in
+        rw (h, scaled-down) (lower-nonzero tie)

@@ -14,6 +14,7 @@ use Rattle.rounding.specs.Format.{Format, low, limit}
 use Rattle.rounding.specs.Round.{keep, lastPlace, tied}
 use Rattle.rounding.specs.Nearest.{dist, Near0}
 use Rattle.rounding.specs.Value.{finite}
+use Rattle.rounding.proofs.Even.{half-to-even}
 use Rattle.rounding.proofs.Keep.{keep-eq}
 use Rattle.rounding.proofs.LastPlace.{place-is}
 use Rattle.rounding.proofs.Multiple.{sub-mul}
@@ -78,18 +79,6 @@ module _ (N E Q S H U : ℕ) (S-is : S ≡ 2 * H) (Q-is : N * S ≡ Q * U) where
       let x : 2 * N + U ≡ 2 * (E * U) = omega arith in
       eq-of-mul-eq-mul-right U u (Q + H) (E * S) (scale-tie ∙ ap (λ (z : ℕ). z * H) x ∙ sym scale-rounded)
 
--- ---- half of u goes to zero, which is even
-half-to-even : (F : Format) (N : ℕ) → 2 * N ≡ 2 ^ low F → toEven F N ≡ 0
-half-to-even F N e =
-    let U = 2 ^ low F in
-    let f = F .fraction in
-    let less : N < U = omega (arith, pow-pos (low F)) in
-    let place : lastPlace f (low F) N ≡ low F =
-    place-is f (low F) (low F) N (le-refl (low F)) (lt-of-lt-of-le less (pow-mono (let z : low F ≤ suc f + low F = omega arith in z))) (λ h. absurd (omega arith))
-    in
-    let kept : keep ToEven (low F) N ≡ 0 = keep-eq ToEven (low F) N (ap (λ (z : ℕ). 2 * z) (mod-eq-of-lt less) ∙ e) ∙ ap (tied ToEven) (div-eq-of-lt less) in
-    eq-of-mul-eq-mul-right U (pow-pos (low F)) (toEven F N) 0 (rounded-keep ToEven f (low F) N ∙ ap (λ (k : ℕ). keep ToEven k N * 2 ^ k) place ∙ ap (λ (z : ℕ). z * U) kept)
-
 -- ---- which of A and A - 1 is RN0
 module _ (F : Format) (N : ℕ) (pos : 0 < toEven F N) (lo : toEven F N < 2 ^ suc (F .fraction)) where
   abbrev A : ℕ
@@ -143,6 +132,6 @@ module _ (F : Format) (N : ℕ) (pos : 0 < toEven F N) (lo : toEven F N < 2 ^ su
         | yes g ↦ absurd
             (let e : A ≡ 1 = omega (arith, pos) in
             let y : A * U ≡ U = ap (λ (z : ℕ). z * U) e ∙ one-mul U in
-            omega (arith, half-to-even F N (omega (arith, t .0, t .1))))
+            omega (arith, half-to-even (F .fraction) (low F) N (omega (arith, t .0, t .1))))
         | no g ↦ omega arith
       ]

@@ -2,16 +2,16 @@
 use mathlib.Core.Path.{_≡_, sym, ap, _∙_}
 use mathlib.Core.Logic.{inl, inr}
 use Prim.Native.Nat.{ℕ, suc, _+_, _-_, _*_, _/_, _%_, _^_, _≤_, _<_}
-use native.Mathlib.Nat.{le-trans, add-mul, div-add-mod', mod-lt, suc-mul, mul-assoc, eq-of-mul-eq-mul-right, pow-suc}
+use native.Mathlib.Nat.{le-refl, le-trans, lt-of-lt-of-le, mod-eq-of-lt, div-eq-of-lt, add-mul, div-add-mod', mod-lt, suc-mul, mul-assoc, eq-of-mul-eq-mul-right, pow-suc}
 use native.Mathlib.Decide.{decLe}
 use native.Mathlib.Omega.{arith}
-use lib.Pow.{pow-add, pow-pos}
+use lib.Pow.{pow-add, pow-pos, pow-mono}
 use Rattle.rounding.specs.declared.Ties.the-variants.{ToEven}
-use Rattle.rounding.specs.Round.{keep, lastPlace, rounded}
+use Rattle.rounding.specs.Round.{tied, keep, lastPlace, rounded}
 use Rattle.rounding.specs.Value.{bits}
 use Rattle.rounding.specs.Nearest.{dist, Rep}
 use Rattle.rounding.proofs.Compare.{tri}
-use Rattle.rounding.proofs.LastPlace.{place-ge, place-below}
+use Rattle.rounding.proofs.LastPlace.{place-is, place-ge, place-below}
 use Rattle.rounding.proofs.Keep.{keep-lt, keep-eq, keep-gt}
 use Rattle.rounding.proofs.Multiple.{split-unit}
 use Rattle.rounding.proofs.Representable.{floor-best, ceil-best}
@@ -85,3 +85,11 @@ neighbour-odd f L N m pos r ne e =
     let v : m ≡ x * 2 ^ (k - L) = eq-of-mul-eq-mul-right (2 ^ L) (pow-pos L) m (x * 2 ^ (k - L)) (other-is f L N (m * 2 ^ L) r apart e ∙ split-unit x (place-ge f L N)) in
     let b : bits f m ≡ (k - L) * 2 ^ f + x = ap (bits f) v ∙ bits-at f (k - L) x (omega (arith, quot-lt f L N)) (λ h. le-trans (quot-ge f L N (omega arith)) (omega arith)) in
     ap (λ (y : ℕ). y % 2) b ∙ last-bit f (k - L) x pos ∙ odd-half q
+
+-- ---- half of u is halfway between 0 and u, and goes to 0
+pub half-to-even : (f L N : ℕ) → 2 * N ≡ 2 ^ L → rounded ToEven f L N ≡ 0
+half-to-even f L N e =
+    let less : N < 2 ^ L = omega (arith, pow-pos L) in
+    let place : lastPlace f L N ≡ L = place-is f L L N (le-refl L) (lt-of-lt-of-le less (pow-mono (let z : L ≤ suc f + L = omega arith in z))) (λ h. absurd (omega arith)) in
+    let kept : keep ToEven L N ≡ 0 = keep-eq ToEven L N (ap (λ (z : ℕ). 2 * z) (mod-eq-of-lt less) ∙ e) ∙ ap (tied ToEven) (div-eq-of-lt less) in
+    eq-of-mul-eq-mul-right (2 ^ L) (pow-pos L) (rounded ToEven f L N) 0 (rounded-keep ToEven f L N ∙ ap (λ (k : ℕ). keep ToEven k N * 2 ^ k) place ∙ ap (λ (z : ℕ). z * 2 ^ L) kept)

@@ -1,0 +1,164 @@
+-- Each line of a sheet has the step of its own operands for a result. Assumes nothing.
+use mathlib.Core.Path.{_≡_, refl}
+use mathlib.Core.Bool.{Bool, true, false, not, cond, _&&_}
+use mathlib.Core.List.{List, [], _∷_, _++_}
+use Prim.Native.Nat.{ℕ}
+use Rattle.rounding.specs.Format.{binary32}
+use Rattle.binary32.specs.Steps.{addStep, subStep, mulStep, fmaStep}
+use Rattle.binary32.specs.Classes.{flip}
+use Rattle.augmented.specs.Direct.{Operation, sum, difference, product}
+use Rattle.emulation.specs.Lines.{add, subtract, multiply, stepOf, Line, line, fusedLine, Sheet, before, ends, value, minus, equal, less, signOf, zero, infinitely}
+use Rattle.emulation.specs.Constants.{psi, two, minusTwo, half, kappa, twoTo24, twoTo48, twoToMinus24, plusZero, smallest, twoToMinus102, twoToMinus126}
+use Rattle.emulation.specs.Sheets.{Branch, isInfinite, isZero, isTiny, isMiddle, isOther, recomposition, zeroFinish, recomposed, edgeFinish, halvedSum, sumInOrder, sumSheet, infiniteProduct, tinyProduct, scaledDown, middleProduct, otherProduct, branchOf, productBy, productSheet, sheetOf}
+use Rattle.emulation.specs.Theorems.{Each, EachLine}
+use Rattle.emulation.proofs.Blocks.{atEdge}
+
+-- ---- lists and choices
+each-append : (ls ms : List Line) → Each ls → Each ms → Each (ls ++ ms)
+unfolding Each
+each-append [] ms h k = k
+each-append (l ∷ ls) ms h k = (h .0, each-append ls ms (h .1) k)
+
+each-cond : (c : Bool) (s t : Sheet) → Each (s .lines) → Each (t .lines) → Each (cond c s t .lines)
+each-cond true s t h k = h
+each-cond false s t h k = k
+
+each-list : (c : Bool) (ls ms : List Line) → Each ls → Each ms → Each (cond c ls ms)
+each-list true ls ms h k = h
+each-list false ls ms h k = k
+
+none : Each []
+unfolding Each
+none = tt
+
+-- ---- a line of each operation, before others
+adds : (x y : ℕ) (ls : List Line) → Each ls → Each (line add x y (addStep x y) ∷ ls)
+unfolding Each stepOf
+adds x y ls h = ((refl, refl), h)
+
+subtracts : (x y : ℕ) (ls : List Line) → Each ls → Each (line subtract x y (subStep x y) ∷ ls)
+unfolding Each stepOf
+subtracts x y ls h = ((refl, refl), h)
+
+multiplies : (x y : ℕ) (ls : List Line) → Each ls → Each (line multiply x y (mulStep x y) ∷ ls)
+unfolding Each stepOf
+multiplies x y ls h = ((refl, refl), h)
+
+fuses : (x y z : ℕ) (ls : List Line) → Each ls → Each (fusedLine x y z (fmaStep x y z) ∷ ls)
+unfolding Each stepOf
+fuses x y z ls h = ((refl, tt), h)
+
+-- ---- the parts
+recomposition-each : (a b : ℕ) → Each (recomposition a b .lines)
+unfolding recomposition
+recomposition-each a b = multiplies psi a _ (subtracts (mulStep psi a) a _ (multiplies two b _ none))
+
+finish-each : (x y : ℕ) → Each (zeroFinish x y .lines)
+unfolding zeroFinish
+finish-each x y = each-cond (zero y) (before (line multiply plusZero x (mulStep plusZero x) ∷ []) (ends x (mulStep plusZero x))) (ends x y) (multiplies plusZero x _ none) none
+
+recomposed-each : (a b : ℕ) → Each (recomposed a b .lines)
+unfolding recomposed
+recomposed-each a b =
+    let r = recomposition a b in
+    each-append (r .lines) (zeroFinish (r .first) (r .second) .lines) (recomposition-each a b) (finish-each (r .first) (r .second))
+
+edge-each : (a a' b' : ℕ) → Each (edgeFinish a a' b' .lines)
+unfolding edgeFinish
+edge-each a a' b' =
+    each-cond (atEdge a a' b') (before (line multiply kappa a' (mulStep kappa a') ∷ line multiply minusTwo b' (mulStep minusTwo b') ∷ []) (ends (mulStep kappa a') (mulStep minusTwo b'))) (ends a a)
+    (multiplies kappa a' _ (multiplies minusTwo b' _ none)) none
+
+-- ---- sums
+halved-each : (x y a : ℕ) → Each (halvedSum x y a .lines)
+unfolding halvedSum
+halved-each x y a =
+    let x' = mulStep half x in
+    let y' = mulStep half y in
+    let a' = addStep x' y' in
+    let v' = subStep a' x' in
+    multiplies half x _ (multiplies half y _ (adds x' y' _ (subtracts a' x' _ (subtracts y' v' _ (edge-each a a' (subStep y' v'))))))
+
+order-each : (x y : ℕ) → Each (sumInOrder x y .lines)
+unfolding sumInOrder
+order-each x y =
+    let a = addStep x y in
+    let v = subStep a x in
+    let b = subStep y v in
+    let r = recomposed a b in
+    let c = not (zero (r .second)) && infinitely a in
+    adds x y _ (subtracts a x _ (subtracts y v _
+    (each-append (r .lines) (cond c (halvedSum x y a) (ends (r .first) (r .second)) .lines) (recomposed-each a b) (each-cond c (halvedSum x y a) (ends (r .first) (r .second)) (halved-each x y a) none))))
+
+sum-each : (x y : ℕ) → Each (sumSheet x y .lines)
+unfolding sumSheet
+sum-each x y = each-cond (less x y) (sumInOrder y x) (sumInOrder x y) (order-each y x) (order-each x y)
+
+-- ---- products
+infinite-each : (x y a : ℕ) → Each (infiniteProduct x y a .lines)
+unfolding infiniteProduct
+infinite-each x y a =
+    let h = mulStep half x in
+    let a' = mulStep h y in
+    multiplies half x _ (multiplies h y _ (fuses h y (minus a') _ (edge-each a a' (fmaStep h y (minus a')))))
+
+tiny-each : (x y a : ℕ) → Each (tinyProduct x y a .lines)
+unfolding tinyProduct
+tiny-each x y a =
+    let m = mulStep twoTo24 x in
+    let n = mulStep twoTo24 y in
+    let t1 = mulStep m n in
+    let t2 = fmaStep m n (minus t1) in
+    let g = mulStep twoTo48 a in
+    let t3 = subStep t1 g in
+    let z = addStep t2 t3 in
+    let w = subStep z t3 in
+    let tie = equal z (minus (signOf a twoToMinus102)) && equal w t2 in
+    let lower = subStep a (signOf a smallest) in
+    let first = cond tie lower a in
+    let correction = cond tie (line subtract a (signOf a smallest) lower ∷ []) [] in
+    multiplies twoTo24 x _ (multiplies twoTo24 y _ (multiplies m n _ (fuses m n (minus t1) _ (multiplies twoTo48 a _ (subtracts t1 g _ (adds t2 t3 _ (subtracts z t3 _
+    (each-append correction (line multiply plusZero first (mulStep plusZero first) ∷ []) (each-list tie (line subtract a (signOf a smallest) lower ∷ []) [] (subtracts a (signOf a smallest) _ none) none) (multiplies plusZero first _ none)))))))))
+
+scaled-each : (A B : ℕ) → Each (scaledDown A B .lines)
+unfolding scaledDown
+scaled-each A B =
+    let first = mulStep twoToMinus24 A in
+    let β = mulStep twoToMinus24 B in
+    let g = mulStep twoTo24 β in
+    let r = subStep g B in
+    let tie = not (zero β) && equal r (signOf β twoToMinus126) in
+    let lower = subStep β (signOf β smallest) in
+    let correction = cond tie (line subtract β (signOf β smallest) lower ∷ []) [] in
+    multiplies twoToMinus24 A _ (multiplies twoToMinus24 B _ (multiplies twoTo24 β _ (subtracts g B _
+    (each-append correction (zeroFinish first (cond tie lower β) .lines) (each-list tie (line subtract β (signOf β smallest) lower ∷ []) [] (subtracts β (signOf β smallest) _ none) none) (finish-each first (cond tie lower β))))))
+
+middle-each : (x y : ℕ) → Each (middleProduct x y .lines)
+unfolding middleProduct
+middle-each x y =
+    let m = mulStep twoTo24 x in
+    let a' = mulStep m y in
+    let b' = fmaStep m y (minus a') in
+    let r = recomposition a' b' in
+    multiplies twoTo24 x _ (multiplies m y _ (fuses m y (minus a') _ (each-append (r .lines) (scaledDown (r .first) (r .second) .lines) (recomposition-each a' b') (scaled-each (r .first) (r .second)))))
+
+other-each : (x y a : ℕ) → Each (otherProduct x y a .lines)
+unfolding otherProduct
+other-each x y a = fuses x y (minus a) _ (recomposed-each a (fmaStep x y (minus a)))
+
+product-each : (x y : ℕ) → Each (productSheet x y .lines)
+unfolding productSheet productBy
+product-each x y = multiplies x y _ (by (branchOf (value (mulStep x y))))
+  where
+    by : (k : Branch) → Each (productBy k x y (mulStep x y) .lines)
+    by isInfinite = infinite-each x y (mulStep x y)
+    by isZero = none
+    by isTiny = tiny-each x y (mulStep x y)
+    by isMiddle = middle-each x y
+    by isOther = other-each x y (mulStep x y)
+
+pub each-line : EachLine
+unfolding sheetOf
+each-line sum x y = sum-each x y
+each-line difference x y = sum-each x (flip binary32 y)
+each-line product x y = product-each x y

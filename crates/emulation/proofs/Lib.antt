@@ -7,3 +7,6 @@ pub mod Sums
 pub mod Products
 pub mod ProductSheet
 pub mod EachLine
+pub mod Counts
+pub mod ProductCounts
+pub mod Theorems

@@ -112,6 +112,10 @@ module _ (F : Format) (v w : Value) where
   unfolding mulValue
   mul-right h = round-none F (times v w) (times-right v w h)
 
+  pub mul-none : isFinite v && isFinite w ≡ false → isFinite (mulValue F v w) ≡ false
+  unfolding mulValue
+  mul-none n = round-none F (times v w) (product-none v w n)
+
 module _ (F : Format) (v w : Value) where
   pub sub-left : isFinite v ≡ false → isFinite (subValue F v w) ≡ false
   unfolding subValue

@@ -17,13 +17,14 @@ use Rattle.binary32.proofs.Result.{mul-step, fma-step}
 use Rattle.augmented.specs.Pairs.{pairOf}
 use Rattle.errorfree.specs.Comparisons.{same}
 use Rattle.errorfree.specs.Constants as factor
-use Rattle.errorfree.proofs.Steps.{toEven, mul-finite}
-use Rattle.errorfree.proofs.Split.{Split}
+use Rattle.errorfree.proofs.Steps.{toEven, toZero, mul-finite}
+use Rattle.errorfree.proofs.Split.{Split0}
 use Rattle.errorfree.proofs.Powers.{pow-above}
 use Rattle.errorfree.proofs.ProductSplit.{whole, product-split}
 use Rattle.errorfree.proofs.Halved.{product-edge}
 use Rattle.errorfree.proofs.Tiny.{zero-pair, tiny-pair}
-use Rattle.errorfree.proofs.Middle.{middle-split, middle-first, middle-second}
+use Rattle.errorfree.proofs.MiddleSecond.{stepped}
+use Rattle.errorfree.proofs.Middle.{Scaled, Finished, middle-split, middle-first, middle-second}
 use Rattle.emulation.specs.Constants.{half, twoTo24, twoTo48, twoToMinus24, plusZero, smallest, twoToMinus102, twoToMinus126}
 use Rattle.emulation.specs.Lines.{Sheet, ends, value, minus, equal, signOf, zero}
 use Rattle.emulation.specs.Sheets.{recomposition, zeroFinish, recomposed, edgeFinish, infiniteProduct, tinyProduct, scaledDown, middleProduct, otherProduct}
@@ -31,6 +32,41 @@ use Rattle.emulation.proofs.Patterns.{Pattern, sub-width, mul-width, fm
 use Rattle.emulation.proofs.Constants.{half-value, up-value, up-up-value, down-value, zero-value, tie-value, lowest-value, smallest-value}
 use Rattle.emulation.proofs.Foots.{Foots, foots, foots-infinite, foots-nan}
 use Rattle.emulation.proofs.Blocks.{value-cond, width-cond, recomposition-split, recomposition-widths, finish-first, finish-second, finish-width, recomposed-foot, recomposed-none, edge-foot, edge-none}
+
+-- ---- the middle branch's results
+module _ (x y : ℕ) where
+  abbrev pub m : ℕ
+  m = mulStep twoTo24 x
+
+  abbrev pub a' : ℕ
+  a' = mulStep m y
+
+  abbrev pub b' : ℕ
+  b' = fmaStep m y (minus a')
+
+  abbrev pub C : ℕ
+  C = recomposition a' b' .first
+
+  abbrev pub B : ℕ
+  B = recomposition a' b' .second
+
+  abbrev pub first : ℕ
+  first = mulStep twoToMinus24 C
+
+  abbrev pub β : ℕ
+  β = mulStep twoToMinus24 B
+
+  abbrev pub d : ℕ
+  d = subStep (mulStep twoTo24 β) B
+
+  abbrev pub tie : Bool
+  tie = not (zero β) && equal d (signOf β twoToMinus126)
+
+  abbrev pub lower : ℕ
+  lower = subStep β (signOf β smallest)
+
+  abbrev pub corrected : ℕ
+  corrected = cond tie lower β
 
 -- ---- finite operands
 module _ (x y : ℕ) (s t : Bool) (a b : ℕ) (xi : value x ≡ finite s a) (yi : value y ≡ finite t b) (xr : Rep 24 0 a) (yr : Rep 24 0 b) (xb : a < limit binary32) (yb : b < limit binary32) where
@@ -120,34 +156,37 @@ module _ (x y : ℕ) (s t : Bool) (a b : ℕ) (xi : value x ≡ finite s a) (yi 
         foots r (a * b) (tinyProduct x y p) (width-cond tie lower p (sub-width p (signOf p smallest)) (mul-width x y)) (mul-width plusZero (cond tie lower p))
         (first ∙ pair .0, mul-decodes plusZero (cond tie lower p) ∙ ap₂ (mulValue binary32) zero-value first ∙ pair .1)
 
-    pub middle-foot : 2 ^ 24 ≤ A → A ≤ 2 ^ 47 → Foots (finite r (a * b)) (middleProduct x y)
-    unfolding middleProduct scaledDown
-    middle-foot lo hi =
-        let m = mulStep twoTo24 x in
-        let a' = mulStep m y in
-        let b' = fmaStep m y (minus a') in
-        let S = middle-split binary32 (omega arith) a b xr yr lo hi s t (value m) (value a') (value b') (scaled twoTo24 (factor.up binary32) up-value x (finite s a) xi) (mul-decodes m y ∙ ap (mulValue binary32 (value m)) yi) (fused-value m y a' (value m) (finite t b) refl yi (mul-width m y)) in
-        let f = recomposition-split r (S .n) (S .A) a' b' (S .is) (fma-width m y (minus a')) (S .split) in
-        let B = recomposition a' b' .second in
-        let C = recomposition a' b' .first in
-        let first = mulStep twoToMinus24 C in
-        let β = mulStep twoToMinus24 B in
-        let g = mulStep twoTo24 β in
-        let d = subStep g B in
-        let first-is : value first ≡ mulValue binary32 (factor.down binary32) (value C) = scaled twoToMinus24 (factor.down binary32) down-value C (value C) refl in
-        let second =
-        middle-second binary32 (omega arith) a b xr yr lo hi r (S .n) _ (value C) (value B) (S .product) f (value β) (value g) (value d)
-        (scaled twoToMinus24 (factor.down binary32) down-value B (value B) refl) (scaled twoTo24 (factor.up binary32) up-value β (value β) refl) (sub-decodes g B)
-        in
-        let tie = not (zero β) && equal d (signOf β twoToMinus126) in
-        let lower = subStep β (signOf β smallest) in
-        let test : tie ≡ not (isZero (value β)) && same (value d) (finite (second .t) (2 ^ 23)) =
-        ap (λ (v : Value). not (isZero (value β)) && same (value d) v) (sign-value β (second .t) (second .e) (second .is) twoToMinus126 (2 ^ 23) (omega arith) lowest-value)
-        in
-        let lower-is : value lower ≡ subValue binary32 (value β) (finite (second .t) 1) = sub-decodes β (signOf β smallest) ∙ ap (subValue binary32 (value β)) (sign-value β (second .t) (second .e) (second .is) smallest 1 (omega arith) smallest-value) in
-        let last : value (cond tie lower β) ≡ cond (not (isZero (value β)) && same (value d) (finite (second .t) (2 ^ 23))) (subValue binary32 (value β) (finite (second .t) 1)) (value β) =
-        value-cond tie lower β ∙ ap (λ (v : Value). cond tie v (value β)) lower-is ∙ ap (λ (c : Bool). cond c (subValue binary32 (value β) (finite (second .t) 1)) (value β)) test
-        in
-        foots r (a * b) (middleProduct x y) (rw (finish-first first (cond tie lower β)) (mul-width twoToMinus24 C)) (finish-width first (cond tie lower β) (width-cond tie lower β (sub-width β (signOf β smallest)) (mul-width twoToMinus24 B)))
-        (ap value (finish-first first (cond tie lower β)) ∙ first-is ∙ middle-first binary32 (omega arith) a b xr yr lo hi r (S .n) _ (value C) (value B) (S .product) f,
-         finish-second first (cond tie lower β) ∙ ap₂ (λ (v u : Value). cond (isZero v) (mulValue binary32 factor.zero u) v) last first-is ∙ second .finished)
+    -- one factor scaled up, recomposed, and scaled down again
+    module _ (lo : 2 ^ 24 ≤ A) (hi : A ≤ 2 ^ 47) where
+      split-is : Scaled binary32 a b r (value (a' x y)) (value (b' x y))
+      split-is = middle-split binary32 (omega arith) a b xr yr lo hi s t (value (m x y)) (value (a' x y)) (value (b' x y)) (scaled twoTo24 (factor.up binary32) up-value x (finite s a) xi) (mul-decodes (m x y) y ∙ ap (mulValue binary32 (value (m x y))) yi) (fused-value (m x y) y (a' x y) (value (m x y)) (finite t b) refl yi (mul-width (m x y) y))
+
+      halves : Split0 binary32 r (split-is .n) (toZero binary32 (split-is .n * 2 ^ low binary32)) (value (C x y)) (value (B x y))
+      halves = recomposition-split r (split-is .n) (split-is .A) (a' x y) (b' x y) (split-is .is) (fma-width (m x y) y (minus (a' x y))) (split-is .split)
+
+      first-is : value (first x y) ≡ mulValue binary32 (factor.down binary32) (value (C x y))
+      first-is = scaled twoToMinus24 (factor.down binary32) down-value (C x y) (value (C x y)) refl
+
+      second : Finished binary32 r (a * b) (value (C x y)) (value (β x y)) (value (d x y))
+      second =
+          middle-second binary32 (omega arith) a b xr yr lo hi r (split-is .n) (toZero binary32 (split-is .n * 2 ^ low binary32)) (value (C x y)) (value (B x y)) (split-is .product) halves (value (β x y)) (value (mulStep twoTo24 (β x y))) (value (d x y))
+          (scaled twoToMinus24 (factor.down binary32) down-value (B x y) (value (B x y)) refl) (scaled twoTo24 (factor.up binary32) up-value (β x y) (value (β x y)) refl) (sub-decodes (mulStep twoTo24 (β x y)) (B x y))
+
+      test : (tie x y) ≡ not (isZero (value (β x y))) && same (value (d x y)) (finite (second .t) (2 ^ 23))
+      test = ap (λ (v : Value). not (isZero (value (β x y))) && same (value (d x y)) v) (sign-value (β x y) (second .t) (second .e) (second .is) twoToMinus126 (2 ^ 23) (omega arith) lowest-value)
+
+      corrected-is : value (corrected x y) ≡ stepped binary32 (second .t) (value (β x y)) (value (d x y))
+      corrected-is =
+          let lower-is : value (lower x y) ≡ subValue binary32 (value (β x y)) (finite (second .t) 1) = sub-decodes (β x y) (signOf (β x y) smallest) ∙ ap (subValue binary32 (value (β x y))) (sign-value (β x y) (second .t) (second .e) (second .is) smallest 1 (omega arith) smallest-value) in
+          value-cond (tie x y) (lower x y) (β x y) ∙ ap (λ (v : Value). cond (tie x y) v (value (β x y))) lower-is ∙ ap (λ (c : Bool). cond c (subValue binary32 (value (β x y)) (finite (second .t) 1)) (value (β x y))) test
+
+      pub middle-foot : Foots (finite r (a * b)) (middleProduct x y)
+      unfolding middleProduct scaledDown
+      middle-foot =
+          foots r (a * b) (middleProduct x y) (rw (finish-first (first x y) (corrected x y)) (mul-width twoToMinus24 (C x y))) (finish-width (first x y) (corrected x y) (width-cond (tie x y) (lower x y) (β x y) (sub-width (β x y) (signOf (β x y) smallest)) (mul-width twoToMinus24 (B x y))))
+          (ap value (finish-first (first x y) (corrected x y)) ∙ first-is ∙ middle-first binary32 (omega arith) a b xr yr lo hi r (split-is .n) (toZero binary32 (split-is .n * 2 ^ low binary32)) (value (C x y)) (value (B x y)) (split-is .product) halves,
+           finish-second (first x y) (corrected x y) ∙ ap₂ (λ (v u : Value). cond (isZero v) (mulValue binary32 factor.zero u) v) corrected-is first-is ∙ second .finished)
+
+      -- a correction leaves no zero to be finished
+      pub corrected-nonzero : (tie x y) ≡ true → zero (corrected x y) ≡ false
+      corrected-nonzero h = ap isZero corrected-is ∙ second .nonzero (sym test ∙ h)

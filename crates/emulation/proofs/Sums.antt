@@ -67,7 +67,7 @@ module _ (x y : ℕ) where
       never false = refl
 
   -- a is no number: v and b are none
-  b-none : isFinite (value a) ≡ false → isFinite (value b) ≡ false
+  pub b-none : isFinite (value a) ≡ false → isFinite (value b) ≡ false
   b-none h =
       ap isFinite (sub-decodes y (subStep a x))
       ∙ sub-right binary32 (value y) (value (subStep a x)) (ap isFinite (sub-decodes a x) ∙ sub-left binary32 (value a) (value x) h)

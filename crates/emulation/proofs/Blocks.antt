@@ -1,17 +1,14 @@
 -- Recomposition, zero finish and the edge on patterns: their values, and the pair that they end in. Assumes nothing.
-use mathlib.Core.Path.{_≡_, refl, sym, ap, ap₂, _∙_, subst}
-use mathlib.Core.Logic.{_≢_}
+use mathlib.Core.Path.{_≡_, refl, ap, ap₂, _∙_, subst}
 use mathlib.Core.Bool.{Bool, true, false, not, cond, _&&_}
-use mathlib.Core.List.{[]}
-use Prim.Native.Nat.{ℕ, suc, _*_, _^_}
+use Prim.Native.Nat.{ℕ, _*_, _^_}
 use native.Mathlib.Omega.{arith}
 use lib.Dec.{T, leb}
 use Rattle.rounding.specs.Format.{binary32, low, signBit}
-use Rattle.rounding.specs.Value.{Value, nan, infinite, finite, encode, isZero, isFinite, round}
+use Rattle.rounding.specs.Value.{Value, nan, infinite, finite, isZero, isFinite, round}
 use Rattle.binary32.specs.Exact.{negate, plus, times, finer}
 use Rattle.binary32.specs.Steps.{addValue, subValue, mulValue, subStep, mulStep}
 use Rattle.binary32.proofs.Theorems.{sub-decodes, mul-decodes}
-use Rattle.augmented.specs.Pairs.{pairOf}
 use Rattle.errorfree.specs.Comparisons.{same}
 use Rattle.errorfree.specs.Constants as factor
 use Rattle.errorfree.proofs.Steps.{toZero}
@@ -20,7 +17,7 @@ use Rattle.errorfree.proofs.Recomposed as split
 use Rattle.errorfree.proofs.Edge.{halfLimit, edgeRest}
 use Rattle.errorfree.proofs.Halved.{EdgePair}
 use Rattle.emulation.specs.Constants.{psi, two, minusTwo, kappa, plusZero, twoTo127, twoTo102}
-use Rattle.emulation.specs.Lines.{Sheet, ends, value, minus, equal, signOf, zero}
+use Rattle.emulation.specs.Lines.{Sheet, value, minus, equal, signOf, zero}
 use Rattle.emulation.specs.Sheets.{recomposition, zeroFinish, recomposed, edgeFinish}
 use Rattle.emulation.proofs.Patterns.{Pattern, mul-width, minus-width, minus-value, negate-finite, sign-value, sign-width}
 use Rattle.emulation.proofs.Constants.{psi-value, two-value, minus-two-value, kappa-value, zero-value, half-limit-value, edge-rest-value}
@@ -128,9 +125,10 @@ recomposition-none a b h =
 pub recomposed-none : (a b : ℕ) → isFinite (value a) ≡ false → zero b ≡ false → (recomposed a b .first ≡ a) × (recomposed a b .second ≡ b)
 unfolding recomposed
 recomposed-none a b h k =
-    let r = recomposition-none a b h in
-    (finish-first (recomposition a b .first) (recomposition a b .second) ∙ r .0,
-     finish-pattern (recomposition a b .first) (recomposition a b .second) ∙ rw (r .0, r .1, k) refl)
+    let r = recomposition-none a b h in (
+      finish-first (recomposition a b .first) (recomposition a b .second) ∙ r .0,
+      finish-pattern (recomposition a b .first) (recomposition a b .second) ∙ rw (r .0, r .1, k) refl,
+    )
 
 -- ---- the edge
 module _ (a a' b' : ℕ) where
@@ -156,11 +154,12 @@ module _ (a a' b' : ℕ) where
 
     pub edge-foot : (N : ℕ) → value a ≡ infinite s → Pattern a → EdgePair binary32 s N (value a') (value b') → Foots (finite s N) (edgeFinish a a' b')
     edge-foot N ai wa p =
-        foots s N (edgeFinish a a' b') (rw edge-first (width-cond atEdge (mulStep kappa a') a (mul-width kappa a') wa)) (rw edge-second (width-cond atEdge (mulStep minusTwo b') a (mul-width minusTwo b') wa))
-        (ap value edge-first ∙ value-cond atEdge (mulStep kappa a') a ∙ cond-eq atEdge (mul-decodes kappa a' ∙ ap (λ (v : Value). mulValue binary32 v (value a')) kappa-value) ai
-         ∙ ap (λ (c : Bool). cond c (mulValue binary32 (factor.kappa binary32) (value a')) (infinite s)) test-is ∙ p .0,
-         ap value edge-second ∙ value-cond atEdge (mulStep minusTwo b') a ∙ cond-eq atEdge (mul-decodes minusTwo b' ∙ ap (λ (v : Value). mulValue binary32 v (value b')) minus-two-value) ai
-         ∙ ap (λ (c : Bool). cond c (mulValue binary32 (factor.minusTwo binary32) (value b')) (infinite s)) test-is ∙ p .1)
+        foots s N (edgeFinish a a' b') (rw edge-first (width-cond atEdge (mulStep kappa a') a (mul-width kappa a') wa)) (rw edge-second (width-cond atEdge (mulStep minusTwo b') a (mul-width minusTwo b') wa)) (
+          ap value edge-first ∙ value-cond atEdge (mulStep kappa a') a ∙ cond-eq atEdge (mul-decodes kappa a' ∙ ap (λ (v : Value). mulValue binary32 v (value a')) kappa-value) ai
+              ∙ ap (λ (c : Bool). cond c (mulValue binary32 (factor.kappa binary32) (value a')) (infinite s)) test-is ∙ p .0,
+          ap value edge-second ∙ value-cond atEdge (mulStep minusTwo b') a ∙ cond-eq atEdge (mul-decodes minusTwo b' ∙ ap (λ (v : Value). mulValue binary32 v (value b')) minus-two-value) ai
+              ∙ ap (λ (c : Bool). cond c (mulValue binary32 (factor.minusTwo binary32) (value b')) (infinite s)) test-is ∙ p .1,
+        )
 
   -- a' is none
   no-test : isFinite (value a') ≡ false → atEdge ≡ false
@@ -170,6 +169,7 @@ module _ (a a' b' : ℕ) where
       none nan b m h = unfold same in refl
       none (infinite s) b m h = unfold same in refl
       none (finite s m) b k h = absurd (subst (λ (b : Bool). T b) h tt)
+
       by : (b : Bool) → same (value a') (value (cond b (minus twoTo127) twoTo127)) && equal b' (minus (signOf a' twoTo102)) ≡ false
       by true = ap (λ (c : Bool). c && equal b' (minus (signOf a' twoTo102))) (ap (same (value a')) (minus-value twoTo127 (omega arith) ∙ ap negate half-limit-value ∙ negate-finite false (halfLimit binary32)) ∙ none (value a') true (halfLimit binary32) h)
       by false = ap (λ (c : Bool). c && equal b' (minus (signOf a' twoTo102))) (ap (same (value a')) half-limit-value ∙ none (value a') false (halfLimit binary32) h)

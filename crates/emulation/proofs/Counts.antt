@@ -2,22 +2,21 @@
 use mathlib.Core.Path.{_≡_, refl, sym, ap, ap₂, _∙_, subst}
 use mathlib.Core.Logic.{_⊎_, inl, inr}
 use mathlib.Core.Bool.{Bool, true, false, not, cond, _&&_}
-use mathlib.Core.List.{List, [], _∷_, _++_}
-use Prim.Native.Nat.{ℕ, suc, _+_, _≤_}
+use Prim.Native.Nat.{ℕ, suc, _+_}
 use native.Mathlib.Omega.{arith}
 use lib.ListN.{length, length-append}
 use Rattle.rounding.specs.Format.{binary32}
 use Rattle.rounding.specs.Value.{Value, nan, infinite, finite, isFinite, isInfinite, RNe}
 use Rattle.binary32.specs.Exact.{finer}
-use Rattle.binary32.specs.Steps.{addValue, addStep, subStep, mulStep, fmaStep}
+use Rattle.binary32.specs.Steps.{addValue, addStep, subStep, mulStep}
 use Rattle.binary32.proofs.Theorems.{add-decodes}
 use Rattle.binary32.proofs.Special.{plus-comm}
 use Rattle.emulation.specs.Constants.{half}
-use Rattle.emulation.specs.Lines.{Line, Sheet, ends, value, less, zero, infinitely}
+use Rattle.emulation.specs.Lines.{Sheet, ends, value, less, zero, infinitely}
 use Rattle.emulation.specs.Sheets.{recomposition, zeroFinish, recomposed, edgeFinish, halvedSum, sumInOrder, sumSheet}
 use Rattle.emulation.specs.Theorems.{SumLines}
 use Rattle.emulation.proofs.Blocks.{atEdge, recomposition-none, recomposed-none}
-use Rattle.emulation.proofs.NoNumber.{none-zero}
+use Rattle.errorfree.proofs.NoNumber.{none-zero}
 use Rattle.emulation.proofs.Sums.{b-none}
 
 length-cond : (c : Bool) (s t : Sheet) → length (cond c s t .lines) ≡ cond c (length (s .lines)) (length (t .lines))
@@ -100,6 +99,7 @@ module _ (x y : ℕ) where
       six : {n : ℕ} (c : Bool) → n ≡ 3 + (3 + cond c 1 0) → (n ≡ 6) ⊎ (n ≡ 7)
       six true e = inr e
       six false e = inl e
+
       by : (v : Value) → value a ≡ v → SumLines v (length (sumInOrder x y .lines))
       by nan h = let n : isFinite (value a) ≡ false = ap isFinite h in plain-count (ap isInfinite h) ∙ ap (λ (k : ℕ). 3 + k) (recomposed-three a b n (none-zero (value b) (b-none x y n)))
       by (infinite s) h = elim (halved-count x y a) [ inl e ↦ inl (infinite-count s h ∙ ap (λ (k : ℕ). 6 + k) e) | inr e ↦ inr (infinite-count s h ∙ ap (λ (k : ℕ). 6 + k) e) ]

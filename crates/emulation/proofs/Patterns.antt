@@ -1,8 +1,8 @@
 -- Patterns of a sheet and their values: steps, flips, constants with a sign; and from a value back to its pattern. Assumes nothing.
-use mathlib.Core.Path.{_≡_, refl, sym, ap, _∙_, subst}
+use mathlib.Core.Path.{_≡_, refl, sym, ap, _∙_}
 use mathlib.Core.Logic.{_≢_, inl, inr}
 use mathlib.Core.Bool.{Bool, true, false, not, cond}
-use Prim.Native.Nat.{ℕ, _+_, _-_, _*_, _%_, _^_, _<_}
+use Prim.Native.Nat.{ℕ, _*_, _%_, _<_}
 use native.Mathlib.Nat.{lt-of-le-of-lt, le-of-eq}
 use native.Mathlib.Decide.{decLe}
 use native.Mathlib.Omega.{arith}
@@ -10,7 +10,7 @@ use borrow.Author.Tests.{le-leb, lt-leb}
 use lib.Dec.{leb}
 use Rattle.rounding.specs.declared.Ties.the-variants.{ToEven}
 use Rattle.rounding.specs.Format.{binary32, infinity, signBit}
-use Rattle.rounding.specs.Value.{Value, nan, infinite, finite, Fits, unsigned, decode, encode, round}
+use Rattle.rounding.specs.Value.{Value, nan, finite, unsigned, decode, encode, round}
 use Rattle.rounding.proofs.Codec.{unsigned-finite, unsigned-infinite, unsigned-nan, encode-decode}
 use Rattle.rounding.proofs.Compare.{tri}
 use Rattle.rounding.proofs.RoundValue.{round-fits}
@@ -72,6 +72,7 @@ sign-value a s A e c m w d = rw (sign e) (by s)
   where
     sign : value a ≡ finite s A → leb (signBit binary32) a ≡ s
     sign e = unsigned-sign (leb (signBit binary32) a) s (a % signBit binary32) A (unfold decode in e)
+
     by : (s : Bool) → value (cond s (minus c) c) ≡ finite s m
     by true = minus-value c w ∙ ap negate d ∙ negate-finite false m
     by false = d

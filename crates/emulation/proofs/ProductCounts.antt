@@ -1,16 +1,15 @@
 -- How many lines a product's sheet has, branch by branch. Assumes nothing.
-use mathlib.Core.Path.{_≡_, refl, sym, ap, ap₂, _∙_, subst}
+use mathlib.Core.Path.{_≡_, refl, sym, ap, _∙_, subst}
 use mathlib.Core.Logic.{_⊎_, inl, inr}
-use mathlib.Core.Bool.{Bool, true, false, not, cond, _&&_}
+use mathlib.Core.Bool.{Bool, true, false, cond, _&&_}
 use mathlib.Core.List.{List, [], _∷_, _++_}
-use Prim.Native.Nat.{ℕ, suc, _+_, _*_, _^_, _≤_, _<_}
-use native.Mathlib.Decide.{decLe}
+use Prim.Native.Nat.{ℕ, suc, _+_, _*_, _^_, _≤_}
 use native.Mathlib.Omega.{arith}
-use borrow.Author.Tests.{ltb-true, ltb-false, leb-true, eqb-true}
+use borrow.Author.Tests.{ltb-false, leb-true}
 use lib.Dec.{ltb, leb, eqb}
 use lib.Ieee.{unlike}
-use lib.ListN.{length, length-append}
-use Rattle.rounding.specs.Format.{binary32, limit}
+use lib.ListN.{length}
+use Rattle.rounding.specs.Format.{binary32}
 use Rattle.rounding.specs.Value.{Value, nan, infinite, finite, Fits, isFinite, round, RNe}
 use Rattle.rounding.specs.Value as values
 use Rattle.rounding.specs.declared.Ties.the-variants.{ToEven}
@@ -20,14 +19,14 @@ use Rattle.binary32.specs.Exact.{negate, plus, times, finer}
 use Rattle.binary32.specs.Steps.{fmaValue, addStep, subStep, mulStep, fmaStep}
 use Rattle.binary32.proofs.Theorems.{mul-decodes, fma-decodes}
 use Rattle.errorfree.proofs.Steps.{toEven}
-use Rattle.emulation.specs.Constants.{half, twoTo24, twoTo48, twoToMinus24, plusZero, smallest, twoToMinus102, twoToMinus126}
-use Rattle.emulation.specs.Lines.{subtract, multiply, Line, line, Sheet, value, minus, equal, signOf, zero}
-use Rattle.emulation.specs.Sheets.{Branch, isInfinite, isZero, isTiny, isMiddle, isOther, recomposition, zeroFinish, recomposed, edgeFinish, infiniteProduct, tinyProduct, scaledDown, middleProduct, otherProduct, branchOf, productBy, productSheet}
+use Rattle.emulation.specs.Constants.{half, twoTo24, twoTo48, plusZero, smallest, twoToMinus102}
+use Rattle.emulation.specs.Lines.{subtract, multiply, Line, line, value, minus, equal, signOf, zero}
+use Rattle.emulation.specs.Sheets.{Branch, isInfinite, isZero, isTiny, isMiddle, isOther, recomposition, zeroFinish, recomposed, infiniteProduct, tinyProduct, scaledDown, middleProduct, otherProduct, branchOf, productBy, productSheet}
 use Rattle.emulation.specs.Theorems.{ProductLines}
 use Rattle.emulation.proofs.Blocks.{atEdge}
 use Rattle.emulation.proofs.Counts.{finish-count, recomposed-count, recomposed-three, edge-count}
 use Rattle.emulation.proofs.Products.{first, β, tie, lower, corrected, p-value, corrected-nonzero}
-use Rattle.emulation.proofs.NoNumber.{not-both, number-of, both-of, mul-none}
+use Rattle.errorfree.proofs.NoNumber.{not-both, number-of, both-of, mul-none}
 use Rattle.emulation.proofs.Patterns.{mul-width, minus-value}
 
 -- one line or none, before others
@@ -64,6 +63,7 @@ tiny-count x y a =
     nine : {n : ℕ} (c : Bool) → n ≡ cond c 1 0 + 1 → (suc (suc (suc (suc (suc (suc (suc (suc (suc n)))))))) ≡ 10) ⊎ (suc (suc (suc (suc (suc (suc (suc (suc (suc n)))))))) ≡ 11)
     nine true e = inr (omega arith)
     nine false e = inl (omega arith)
+
     by : (c : Bool) (l k : Line) → let n = length (cond c (l ∷ []) [] ++ k ∷ []) in (suc (suc (suc (suc (suc (suc (suc (suc (suc n)))))))) ≡ 10) ⊎ (suc (suc (suc (suc (suc (suc (suc (suc (suc n)))))))) ≡ 11)
     by c l k = nine c (list-cond c l (k ∷ []))
 
@@ -133,6 +133,7 @@ module _ (x y : ℕ) where
     where
       range : (s : Bool) × (A : ℕ) × (value p ≡ finite s A) × (2 ^ 24 ≤ A) × (A ≤ 2 ^ 47)
       range = middle-range (value p) e
+
       by : (i : Bool) → isFinite (value x) && isFinite (value y) ≡ i → zero (corrected x y) ≡ false
       by false n = not-both (sym (ap isFinite (range .2)) ∙ ap isFinite (mul-decodes x y) ∙ mul-none binary32 (value x) (value y) n)
       by true n =

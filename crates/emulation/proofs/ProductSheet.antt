@@ -2,7 +2,7 @@
 use mathlib.Core.Path.{_≡_, refl, sym, ap, ap₂, _∙_, subst}
 use mathlib.Core.Logic.{inl, inr}
 use mathlib.Core.Bool.{Bool, true, false, cond, _&&_}
-use Prim.Native.Nat.{ℕ, suc, _*_, _^_, _≤_, _<_}
+use Prim.Native.Nat.{ℕ, _*_, _^_, _<_}
 use native.Mathlib.Nat.{eq-zero-or-pos}
 use native.Mathlib.Decide.{decLe}
 use native.Mathlib.Omega.{arith}
@@ -13,21 +13,20 @@ use Rattle.rounding.specs.declared.Ties.the-variants.{ToEven}
 use Rattle.rounding.specs.Format.{binary32, limit}
 use Rattle.rounding.specs.Nearest.{Rep}
 use Rattle.rounding.specs.Value.{Value, nan, infinite, finite, Fits, encode, isFinite, isZero, round}
-use Rattle.rounding.proofs.RoundValue.{round-below, round-above}
+use Rattle.rounding.proofs.RoundValue.{round-above}
 use Rattle.rounding.proofs.Codec.{decode-fits}
-use Rattle.binary32.specs.Exact.{negate, plus, times, finer}
+use Rattle.binary32.specs.Exact.{plus, times}
 use Rattle.binary32.specs.Steps.{mulValue, fmaValue, mulStep, fmaStep}
 use Rattle.binary32.proofs.Theorems.{mul-decodes, fma-decodes}
 use Rattle.binary32.proofs.Result.{mul-step, fma-step}
 use Rattle.errorfree.proofs.Steps.{toEven}
 use Rattle.emulation.specs.Constants.{half}
-use Rattle.emulation.specs.Lines.{Sheet, ends, value, minus}
+use Rattle.emulation.specs.Lines.{value, minus}
 use Rattle.emulation.specs.Sheets as branch
-use Rattle.emulation.specs.Sheets.{Branch, isInfinite, isTiny, isMiddle, isOther, recomposed, infiniteProduct, tinyProduct, middleProduct, otherProduct, branchOf, productBy, productSheet}
-use Rattle.emulation.proofs.Patterns.{mul-width, minus-value}
+use Rattle.emulation.specs.Sheets.{Branch, isTiny, isMiddle, isOther, infiniteProduct, otherProduct, branchOf, productBy, productSheet}
 use Rattle.emulation.proofs.Foots.{Foots, foots-infinite, foots-nan}
 use Rattle.emulation.proofs.Blocks.{recomposed-none, edge-none}
-use Rattle.emulation.proofs.NoNumber.{not-both, number-of, one-of, both-of, product-none, mul-left, mul-right}
+use Rattle.errorfree.proofs.NoNumber.{not-both, number-of, one-of, both-of, product-none, mul-left, mul-right}
 use Rattle.emulation.proofs.Products.{p-value, pi, infinite-foot, zero-foot, tiny-foot, middle-foot, other-foot}
 
 -- ---- finite operands: by the magnitude of a
@@ -59,7 +58,7 @@ module _ (x y : ℕ) (s t : Bool) (a b : ℕ) (xi : value x ≡ finite s a) (yi 
   finite-foot = elim (decLe (limit binary32) A) [
     | yes over ↦ rw (p-value x y s t a b xi yi xr yr xb yb ∙ round-above ToEven binary32 r (a * b) over) (infinite-foot x y s t a b xi yi xr yr xb yb over)
     | no fine ↦ let f : A < limit binary32 = omega arith in rw (pi x y s t a b xi yi xr yr xb yb f) (fine-foot f)
-    ]
+  ]
 
 -- ---- infinities and NaN
 module _ (x y : ℕ) where
@@ -100,7 +99,7 @@ module _ (x y : ℕ) where
       let pe : p ≡ encode binary32 (infinite s) = mul-step x y ∙ ap (encode binary32) (kept-infinite s e) in
       foots-infinite s (infiniteProduct x y p) (q .0 ∙ pe) (q .1 ∙ pe)
 
--- ---- all patterns
+  -- ---- all patterns
   none-foot : isFinite (value x) && isFinite (value y) ≡ false → Foots (times (value x) (value y)) (productBy (branchOf (value (mulStep x y))) x y (mulStep x y))
   unfolding branchOf productBy
   none-foot n = by (times (value x) (value y)) refl (product-none (value x) (value y) n)

@@ -1,20 +1,18 @@
 -- The product's sheet ends in the pair of the exact product, for all patterns: branch by branch. Assumes nothing.
 use mathlib.Core.Path.{_≡_, refl, sym, ap, ap₂, _∙_, subst}
-use mathlib.Core.Logic.{_⊎_, inl, inr}
+use mathlib.Core.Logic.{inl, inr}
 use mathlib.Core.Bool.{Bool, true, false, not, cond, _&&_}
-use Prim.Native.Nat.{ℕ, suc, _+_, _-_, _*_, _^_, _≤_, _<_}
+use Prim.Native.Nat.{ℕ, _*_, _^_, _≤_, _<_}
 use native.Mathlib.Omega.{arith}
 use lib.Ieee.{unlike}
 use Rattle.rounding.specs.declared.Ties.the-variants.{ToEven}
 use Rattle.rounding.specs.Format.{binary32, low, limit}
 use Rattle.rounding.specs.Nearest.{Rep}
-use Rattle.rounding.specs.Value.{Value, nan, infinite, finite, encode, isFinite, isZero, round, roundFinite}
+use Rattle.rounding.specs.Value.{Value, infinite, finite, isFinite, isZero, roundFinite}
 use Rattle.rounding.proofs.RoundValue.{round-below, round-above}
-use Rattle.binary32.specs.Exact.{negate, plus, times, finer}
-use Rattle.binary32.specs.Steps.{mulValue, fmaValue, subValue, addValue, addStep, subStep, mulStep, fmaStep}
+use Rattle.binary32.specs.Exact.{negate}
+use Rattle.binary32.specs.Steps.{mulValue, fmaValue, subValue, addStep, subStep, mulStep, fmaStep}
 use Rattle.binary32.proofs.Theorems.{add-decodes, sub-decodes, mul-decodes, fma-decodes}
-use Rattle.binary32.proofs.Result.{mul-step, fma-step}
-use Rattle.augmented.specs.Pairs.{pairOf}
 use Rattle.errorfree.specs.Comparisons.{same}
 use Rattle.errorfree.specs.Constants as factor
 use Rattle.errorfree.proofs.Steps.{toEven, toZero, mul-finite}
@@ -26,12 +24,12 @@ use Rattle.errorfree.proofs.Tiny.{zero-pair, tiny-pair}
 use Rattle.errorfree.proofs.MiddleSecond.{stepped}
 use Rattle.errorfree.proofs.Middle.{Scaled, Finished, middle-split, middle-first, middle-second}
 use Rattle.emulation.specs.Constants.{half, twoTo24, twoTo48, twoToMinus24, plusZero, smallest, twoToMinus102, twoToMinus126}
-use Rattle.emulation.specs.Lines.{Sheet, ends, value, minus, equal, signOf, zero}
-use Rattle.emulation.specs.Sheets.{recomposition, zeroFinish, recomposed, edgeFinish, infiniteProduct, tinyProduct, scaledDown, middleProduct, otherProduct}
+use Rattle.emulation.specs.Lines.{ends, value, minus, equal, signOf, zero}
+use Rattle.emulation.specs.Sheets.{recomposition, recomposed, infiniteProduct, tinyProduct, scaledDown, middleProduct, otherProduct}
 use Rattle.emulation.proofs.Patterns.{Pattern, sub-width, mul-width, fma-width, minus-value, negate-finite, sign-value, sign-width}
 use Rattle.emulation.proofs.Constants.{half-value, up-value, up-up-value, down-value, zero-value, tie-value, lowest-value, smallest-value}
-use Rattle.emulation.proofs.Foots.{Foots, foots, foots-infinite, foots-nan}
-use Rattle.emulation.proofs.Blocks.{value-cond, width-cond, recomposition-split, recomposition-widths, finish-first, finish-second, finish-width, recomposed-foot, recomposed-none, edge-foot, edge-none}
+use Rattle.emulation.proofs.Foots.{Foots, foots}
+use Rattle.emulation.proofs.Blocks.{value-cond, width-cond, recomposition-split, finish-first, finish-second, finish-width, recomposed-foot, edge-foot, edge-none}
 
 -- ---- the middle branch's results
 module _ (x y : ℕ) where
@@ -183,9 +181,10 @@ module _ (x y : ℕ) (s t : Bool) (a b : ℕ) (xi : value x ≡ finite s a) (yi 
       pub middle-foot : Foots (finite r (a * b)) (middleProduct x y)
       unfolding middleProduct scaledDown
       middle-foot =
-          foots r (a * b) (middleProduct x y) (rw (finish-first (first x y) (corrected x y)) (mul-width twoToMinus24 (C x y))) (finish-width (first x y) (corrected x y) (width-cond (tie x y) (lower x y) (β x y) (sub-width (β x y) (signOf (β x y) smallest)) (mul-width twoToMinus24 (B x y))))
-          (ap value (finish-first (first x y) (corrected x y)) ∙ first-is ∙ middle-first binary32 (omega arith) a b xr yr lo hi r (split-is .n) (toZero binary32 (split-is .n * 2 ^ low binary32)) (value (C x y)) (value (B x y)) (split-is .product) halves,
-           finish-second (first x y) (corrected x y) ∙ ap₂ (λ (v u : Value). cond (isZero v) (mulValue binary32 factor.zero u) v) corrected-is first-is ∙ second .finished)
+          foots r (a * b) (middleProduct x y) (rw (finish-first (first x y) (corrected x y)) (mul-width twoToMinus24 (C x y))) (finish-width (first x y) (corrected x y) (width-cond (tie x y) (lower x y) (β x y) (sub-width (β x y) (signOf (β x y) smallest)) (mul-width twoToMinus24 (B x y)))) (
+            ap value (finish-first (first x y) (corrected x y)) ∙ first-is ∙ middle-first binary32 (omega arith) a b xr yr lo hi r (split-is .n) (toZero binary32 (split-is .n * 2 ^ low binary32)) (value (C x y)) (value (B x y)) (split-is .product) halves,
+            finish-second (first x y) (corrected x y) ∙ ap₂ (λ (v u : Value). cond (isZero v) (mulValue binary32 factor.zero u) v) corrected-is first-is ∙ second .finished,
+          )
 
       -- a correction leaves no zero to be finished
       pub corrected-nonzero : (tie x y) ≡ true → zero (corrected x y) ≡ false

@@ -1,17 +1,16 @@
 -- The sum's sheet ends in the pair of the exact sum, for all patterns. Assumes nothing.
 use mathlib.Core.Path.{_≡_, refl, sym, ap, ap₂, _∙_, subst}
-use mathlib.Core.Logic.{_⊎_, inl, inr}
+use mathlib.Core.Logic.{inl, inr}
 use mathlib.Core.Bool.{Bool, true, false, not, cond, Bool·beq, _&&_}
-use Prim.Native.Nat.{ℕ, suc, _+_, _-_, _*_, _^_, _≤_, _<_}
+use Prim.Native.Nat.{ℕ, _+_, _-_, _*_, _^_, _≤_, _<_}
 use native.Mathlib.Nat.{lt-of-le-of-lt}
 use native.Mathlib.Decide.{decLe}
 use native.Mathlib.Omega.{arith}
 use borrow.Author.Tests.{le-ltb, ltb-true, ltb-false}
-use lib.Dec.{ltb}
 use Rattle.rounding.specs.declared.Ties.the-variants.{ToEven}
 use Rattle.rounding.specs.Format.{binary32, low, limit}
 use Rattle.rounding.specs.Nearest.{Rep}
-use Rattle.rounding.specs.Value.{Value, nan, infinite, finite, Fits, decode, encode, isFinite, isInfinite, isZero, round}
+use Rattle.rounding.specs.Value.{Value, nan, infinite, finite, Fits, encode, isFinite, isInfinite, isZero, round}
 use Rattle.rounding.proofs.NearLaws.{near-le}
 use Rattle.rounding.proofs.RoundValue.{round-below, round-above}
 use Rattle.rounding.proofs.Codec.{decode-fits}
@@ -20,22 +19,21 @@ use Rattle.binary32.specs.Steps.{addValue, subValue, mulValue, addStep, subStep
 use Rattle.binary32.proofs.Theorems.{add-decodes, sub-decodes, mul-decodes}
 use Rattle.binary32.proofs.Result.{add-step, sub-step}
 use Rattle.binary32.proofs.Special.{plus-comm}
-use Rattle.binary32.proofs.Sums.{like?, like-eq, unlike-eq, like-own, sum-same, sum-left, sum-none}
+use Rattle.binary32.proofs.Sums.{like?, like-eq, like-own, sum-same, sum-left, sum-none}
 use Rattle.errorfree.specs.Comparisons.{smaller}
 use Rattle.errorfree.specs.Constants as factor
 use Rattle.errorfree.proofs.Steps.{toEven, even-at}
-use Rattle.errorfree.proofs.Split.{Split}
 use Rattle.errorfree.proofs.FastTwoSum.{add-finite, fast-two-sum}
 use Rattle.errorfree.proofs.Halved.{sum-edge}
 use Rattle.emulation.specs.Constants.{half}
-use Rattle.emulation.specs.Lines.{Sheet, value, less, zero, infinitely}
-use Rattle.emulation.specs.Sheets.{recomposed, edgeFinish, halvedSum, sumInOrder, sumSheet}
-use Rattle.emulation.proofs.Patterns.{Pattern, add-width, sub-width}
+use Rattle.emulation.specs.Lines.{value, less, zero, infinitely}
+use Rattle.emulation.specs.Sheets.{recomposed, halvedSum, sumInOrder, sumSheet}
+use Rattle.emulation.proofs.Patterns.{add-width, sub-width}
 use Rattle.emulation.proofs.Constants.{half-value}
 use Rattle.emulation.proofs.Foots.{Foots, foots-infinite, foots-nan}
 use Rattle.emulation.proofs.Blocks.{first-cond, second-cond, recomposed-foot, recomposed-none, edge-foot, edge-none}
-use Rattle.emulation.proofs.NoNumber as no-number
-use Rattle.emulation.proofs.NoNumber.{not-both, none-zero, number-of, one-of, both-of, add-left, add-right, sub-left, sub-right, mul-right}
+use Rattle.errorfree.proofs.NoNumber as no-number
+use Rattle.errorfree.proofs.NoNumber.{not-both, none-zero, number-of, one-of, both-of, add-left, add-right, sub-left, sub-right, mul-right}
 
 -- ---- which lines lead to the foot
 module _ (x y : ℕ) where

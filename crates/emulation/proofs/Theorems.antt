@@ -1,6 +1,6 @@
 -- The theorems of `specs/Theorems.antt`. Assumes nothing.
-use mathlib.Core.Path.{_≡_, refl, sym, _∙_, subst}
-use mathlib.Core.Logic.{_⊎_, inl, inr}
+use mathlib.Core.Path.{refl, sym, _∙_}
+use mathlib.Core.Logic.{inl, inr}
 use Prim.Native.Nat.{ℕ, _≤_}
 use native.Mathlib.Omega.{arith}
 use lib.ListN.{length}
@@ -8,7 +8,7 @@ use Rattle.rounding.specs.Format.{binary32}
 use Rattle.rounding.specs.Value.{Value, nan, infinite, finite, decode}
 use Rattle.binary32.specs.Classes.{flip}
 use Rattle.binary32.specs.Steps.{addStep, mulStep}
-use Rattle.augmented.specs.Direct.{Operation, sum, difference, product}
+use Rattle.augmented.specs.Direct.{sum, difference, product}
 use Rattle.augmented.proofs.Read.{first-pattern, second-pattern}
 use Rattle.emulation.specs.Lines.{value}
 use Rattle.emulation.specs.Sheets.{Branch, isInfinite, isZero, isTiny, isMiddle, isOther, branchOf, sheetOf}

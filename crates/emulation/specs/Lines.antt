@@ -1,6 +1,6 @@
 -- The lines of a sheet, the sheet, and what makes no line (document 01, "The step sheet"). Assumes nothing.
 use Prim.Native.Nat.{ℕ}
-use mathlib.Core.Bool.{Bool, true, false, cond}
+use mathlib.Core.Bool.{Bool, cond}
 use mathlib.Core.List.{List, [], _∷_, _++_}
 use lib.Dec.{leb}
 use Rattle.rounding.specs.Format.{binary32, signBit}

@@ -1,16 +1,16 @@
 -- The step sheet of a question (document 01, "The step sheet"), in that section's order. Assumes nothing.
 -- Every name that stands for a result is the step of the line that it is written on; `EachLine` of Theorems says so of all lines.
 use Prim.Native.Nat.{ℕ, _^_}
-use mathlib.Core.Bool.{Bool, true, false, not, cond, _&&_}
-use mathlib.Core.List.{List, [], _∷_, _++_}
+use mathlib.Core.Bool.{not, cond, _&&_}
+use mathlib.Core.List.{[], _∷_}
 use lib.Dec.{ltb, leb, eqb}
 use Rattle.rounding.specs.Format.{binary32}
-use Rattle.rounding.specs.Value.{Value, nan, infinite, finite, decode}
+use Rattle.rounding.specs.Value.{Value, nan, infinite, finite}
 use Rattle.binary32.specs.Classes.{flip}
 use Rattle.binary32.specs.Steps.{addStep, subStep, mulStep, fmaStep}
 use Rattle.augmented.specs.Direct.{Operation, sum, difference, product}
 use Rattle.emulation.specs.Constants.{psi, two, minusTwo, half, kappa, twoTo24, twoTo48, twoToMinus24, plusZero, smallest, twoTo127, twoTo102, twoToMinus102, twoToMinus126}
-use Rattle.emulation.specs.Lines.{Step, add, subtract, multiply, fused, Line, line, fusedLine, Sheet, before, ends, value, minus, equal, less, signOf, zero, infinitely}
+use Rattle.emulation.specs.Lines.{add, subtract, multiply, line, fusedLine, Sheet, before, ends, value, minus, equal, less, signOf, zero, infinitely}
 
 -- "Recomposition of (a, b), three lines: z = ψ·a; d = z - a; e = 2·b. If e = d the pair is (z, -b), otherwise (a, b)."
 unfoldable pub recomposition : ℕ → ℕ → Sheet

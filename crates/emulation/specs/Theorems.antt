@@ -11,7 +11,7 @@ use Rattle.binary32.specs.Classes.{flip}
 use Rattle.binary32.specs.Steps.{addStep, mulStep}
 use Rattle.augmented.specs.Direct.{Operation, sum, difference, product, directPair}
 use Rattle.emulation.specs.Constants.{psi, two, minusTwo, half, kappa, twoTo24, twoTo48, twoToMinus24, plusZero, smallest, twoTo127, twoTo102, twoToMinus102, twoToMinus126}
-use Rattle.emulation.specs.Lines.{Step, add, subtract, multiply, fused, stepOf, Line, Sheet, value}
+use Rattle.emulation.specs.Lines.{Step, add, subtract, multiply, fused, stepOf, Line, value}
 use Rattle.emulation.specs.Sheets.{Branch, isInfinite, isZero, isTiny, isMiddle, isOther, branchOf, sheetOf}
 
 -- ---- what the constants stand for: magnitudes count u = 2^-149, so 1 is 2 ^ 149

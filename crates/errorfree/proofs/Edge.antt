@@ -1,9 +1,8 @@
 -- The edge of overflow: RNe of a number is infinite, and its half, split, tells whether RN0 is infinite too. Assumes nothing.
-use mathlib.Core.Path.{_≡_, refl, sym, ap, ap₂, _∙_, subst}
-use mathlib.Core.Logic.{_≢_, inl, inr}
+use mathlib.Core.Path.{_≡_, refl, sym, ap, ap₂, _∙_}
 use mathlib.Core.Bool.{Bool, true, false, not, cond, _&&_}
 use Prim.Native.Nat.{ℕ, suc, _+_, _-_, _*_, _^_, _≤_, _<_}
-use native.Mathlib.Nat.{le-refl, le-trans, le-of-eq, le-antisymm, lt-of-le-of-lt, mul-assoc, mul-left-comm, mul-right-comm, mul-le-mul-right, mul-lt-mul-of-pos-right, le-of-mul-le-mul-right, lt-of-mul-lt-mul-right, one-mul, pow-succ', suc-add, add-mul, eq-of-mul-eq-mul-right}
+use native.Mathlib.Nat.{le-refl, le-trans, le-of-eq, le-antisymm, mul-assoc, mul-left-comm, mul-right-comm, mul-le-mul-right, mul-lt-mul-of-pos-right, le-of-mul-le-mul-right, one-mul, pow-succ', suc-add, add-mul}
 use native.Mathlib.Decide.{decLe}
 use native.Mathlib.Omega.{arith}
 use borrow.Author.Tests.{lt-ltb, ne-eqb}
@@ -12,16 +11,14 @@ use lib.Ieee.{unlike}
 use lib.Pow.{pow-add, pow-pos, pow-mono}
 use Rattle.rounding.specs.declared.Ties.the-variants.{ToEven, ToZero}
 use Rattle.rounding.specs.Format.{Format, Proper, low, limit, edge}
-use Rattle.rounding.specs.Nearest.{dist, Rep, Near, Near0}
+use Rattle.rounding.specs.Nearest.{dist, Rep}
 use Rattle.rounding.specs.Value.{Value, nan, infinite, finite, roundFinite}
 use Rattle.rounding.proofs.Multiple.{sub-mul}
 use Rattle.rounding.proofs.NearLaws.{near-ge, near-le}
 use Rattle.rounding.proofs.Representable.{rep-le, rep-pow}
 use Rattle.rounding.proofs.Predecessor.{Upper, below-best}
-use Rattle.rounding.proofs.Rounded.{rounded-near}
 use Rattle.rounding.proofs.RoundValue.{under-edge, over-edge, zero-at-edge}
 use Rattle.rounding.proofs.Halfway.{even-up}
-use Rattle.binary32.specs.Exact.{negate}
 use Rattle.binary32.specs.Steps.{mulValue}
 use Rattle.augmented.specs.Pairs.{pairOf}
 use Rattle.augmented.proofs.Second.{unlike-true, first-infinite, second-infinite}
@@ -216,9 +213,10 @@ module _ (F : Format) (room : Roomy F) where
             let k = x tt in
             let h = at-edge ok s (2 * n) (omega (arith, k .1, limit-twice)) in
             let e : b ≡ finite (not s) (edgeRest F) = below-is s b n A i (omega (arith, k .0, k .1, q-pos)) ∙ ap (finite (not s)) (omega (arith, k .0, k .1)) in
-            let z : eqb (2 * edgeRest F) 0 ≡ false = ne-eqb (2 * edgeRest F) 0 (λ (w : 2 * edgeRest F ≡ 0). omega (arith, q-pos)) in
-            (ap (λ (m : ℕ). mulValue F (kappa F) (finite s m)) (k .0) ∙ kappa-is s ∙ finished-first F s (2 * n) last (finite s last) (finite s (2 * edgeRest F)) h,
-             ap (mulValue F (minusTwo F)) e ∙ minus-is s ∙ (rw z at (finished-second F s (2 * n) last (finite s last) (finite s (2 * edgeRest F)) h)))
+            let z : eqb (2 * edgeRest F) 0 ≡ false = ne-eqb (2 * edgeRest F) 0 (λ (w : 2 * edgeRest F ≡ 0). omega (arith, q-pos)) in (
+              ap (λ (m : ℕ). mulValue F (kappa F) (finite s m)) (k .0) ∙ kappa-is s ∙ finished-first F s (2 * n) last (finite s last) (finite s (2 * edgeRest F)) h,
+              ap (mulValue F (minusTwo F)) e ∙ minus-is s ∙ (rw z at (finished-second F s (2 * n) last (finite s last) (finite s (2 * edgeRest F)) h)),
+            )
         go false x y =
             let past : limit F < 2 * n + 2 * edgeRest F = elim (decLe (2 * n + 2 * edgeRest F) (limit F)) [ yes k ↦ absurd (y (omega (arith, over-ge ok (2 * n) over, limit-twice))) | no k ↦ omega arith ] in
             let inf = past-edge ok (2 * n) past in

@@ -1,24 +1,23 @@
 -- Fast2Sum: of a rounded sum a = x + y with |y| at most |x|, v = a - x and b = y - v are exact, and b is what the rounding left over. Assumes nothing.
-use mathlib.Core.Path.{_≡_, refl, sym, ap, ap₂, _∙_, subst}
+use mathlib.Core.Path.{_≡_, refl, sym, _∙_}
 use mathlib.Core.Logic.{inl, inr}
 use mathlib.Core.Bool.{Bool, true, false, not}
 use Prim.Native.Nat.{ℕ, suc, _+_, _-_, _*_, _^_, _≤_, _<_}
-use native.Mathlib.Nat.{lt-of-le-of-lt, le-antisymm}
+use native.Mathlib.Nat.{lt-of-le-of-lt}
 use native.Mathlib.Decide.{decLe}
 use native.Mathlib.Omega.{arith}
-use lib.Pow.{pow-pos}
 use Rattle.rounding.specs.declared.Ties.the-variants.{ToEven}
 use Rattle.rounding.specs.Format.{Format, low, limit}
 use Rattle.rounding.specs.Nearest.{dist, Rep, Near}
-use Rattle.rounding.specs.Value.{Value, nan, infinite, finite, roundFinite, round}
+use Rattle.rounding.specs.Value.{Value, finite, roundFinite, round}
 use Rattle.rounding.proofs.NearLaws.{near-exact}
 use Rattle.rounding.proofs.Representable.{rep-zero}
 use Rattle.rounding.proofs.SumError.{sum-error, difference-error}
-use Rattle.rounding.proofs.Sterbenz.{dist-ge, dist-le, add-ge, add-v, sub-le, sub-v}
-use Rattle.binary32.specs.Exact.{plusFinite, plus, finer}
+use Rattle.rounding.proofs.Sterbenz.{dist-ge, add-ge, add-v, sub-le, sub-v}
+use Rattle.binary32.specs.Exact.{plus, finer}
 use Rattle.binary32.specs.Steps.{addValue, subValue}
 use Rattle.binary32.proofs.Sums.{like?, like-eq, unlike-eq, sum-same, sum-left, sum-none}
-use Rattle.errorfree.proofs.Signed.{Rel, Is, rel-own, rel-not, is-shift}
+use Rattle.errorfree.proofs.Signed.{Is, rel-own, rel-not, is-shift}
 use Rattle.errorfree.proofs.Steps.{toEven, even-at, error-le, is-sub}
 use Rattle.errorfree.proofs.Split.{Split}
 
@@ -105,5 +104,6 @@ module _ (F : Format) (X Y : ℕ) (xr : Rep (suc (F .fraction)) 0 X) (yr : Rep (
     where
       sign : {a b : Bool} {n m : ℕ} → finite a n ≡ finite b m → a ≡ b
       sign e = cc
+
       size : {a b : Bool} {n m : ℕ} → finite a n ≡ finite b m → n ≡ m
       size e = cc

@@ -1,17 +1,17 @@
 -- Sums and products that overflow, halved: the halves are exact, and the edge test on them gives the pair. Assumes nothing.
 use mathlib.Core.Path.{_≡_, refl, sym, ap, ap₂, _∙_, subst}
 use mathlib.Core.Logic.{_⊎_, inl, inr}
-use mathlib.Core.Bool.{Bool, true, false, not, cond, _&&_}
+use mathlib.Core.Bool.{Bool, not, cond, _&&_}
 use Prim.Native.Nat.{ℕ, zero, suc, _+_, _-_, _*_, _^_, _≤_, _<_}
-use native.Mathlib.Nat.{le-trans, le-of-eq, lt-of-le-of-lt, mul-comm, mul-assoc, mul-left-comm, mul-one, one-mul, pow-succ', mul-le-mul-right, mul-le-mul-left, mul-lt-mul-of-pos-right, eq-of-mul-eq-mul-right, mul-add}
+use native.Mathlib.Nat.{le-trans, le-of-eq, mul-comm, mul-assoc, mul-left-comm, mul-one, one-mul, pow-succ', mul-le-mul-right, mul-le-mul-left, mul-lt-mul-of-pos-right}
 use native.Mathlib.Decide.{decLe}
 use native.Mathlib.Omega.{arith}
 use lib.Ieee.{unlike}
 use lib.Pow.{pow-add, pow-pos, pow-mono}
-use Rattle.rounding.specs.declared.Ties.the-variants.{ToEven, ToZero}
+use Rattle.rounding.specs.declared.Ties.the-variants.{ToEven}
 use Rattle.rounding.specs.Format.{Format, Proper, low, limit}
-use Rattle.rounding.specs.Nearest.{dist, Rep, Near}
-use Rattle.rounding.specs.Value.{Value, nan, infinite, finite, roundFinite}
+use Rattle.rounding.specs.Nearest.{Rep}
+use Rattle.rounding.specs.Value.{Value, infinite, finite, roundFinite}
 use Rattle.rounding.proofs.NearLaws.{near-ge}
 use Rattle.rounding.proofs.RoundValue.{round-below, round-above}
 use Rattle.rounding.proofs.Sterbenz.{add-le}
@@ -24,11 +24,10 @@ use Rattle.errorfree.specs.Comparisons.{same}
 use Rattle.errorfree.specs.Constants.{Roomy, half, kappa, minusTwo}
 use Rattle.errorfree.proofs.Signed.{Is}
 use Rattle.errorfree.proofs.Steps.{toEven, toZero, even-at, zero-at, round-whole, mul-positive, mul-finite}
-use Rattle.errorfree.proofs.Split.{Split}
 use Rattle.errorfree.proofs.ProductSplit.{whole, product-split}
 use Rattle.errorfree.proofs.FastTwoSum.{add-finite, split-same}
 use Rattle.errorfree.proofs.Powers.{pow-le-of}
-use Rattle.errorfree.proofs.Edge.{halfLimit, edgeRest, limit-twice, over-ge, last, last-add, last-best, edge-pair}
+use Rattle.errorfree.proofs.Edge.{halfLimit, edgeRest, limit-twice, over-ge, last-add, last-best, edge-pair}
 
 -- what the edge test makes of a and b, the halves' split: the pair of N, whose sign is s
 abbrev pub EdgePair : Format → Bool → ℕ → Value → Value → Type 0

@@ -1,9 +1,11 @@
+pub mod NoNumber
 pub mod Signed
 pub mod Steps
 pub mod Split
 pub mod ProductSplit
 pub mod Recomposed
 pub mod FastTwoSum
+pub mod AddsUp
 pub mod Powers
 pub mod Edge
 pub mod Halved
@@ -12,3 +14,4 @@ pub mod Middle
 pub mod TinyRounding
 pub mod TinyTest
 pub mod Tiny
+pub mod Theorems

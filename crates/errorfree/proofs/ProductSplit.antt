@@ -1,7 +1,7 @@
 -- A product that is not small: a whole number of u, which a product step and a fused step split without loss. Assumes nothing.
-use mathlib.Core.Path.{_≡_, refl, sym, ap, ap₂, _∙_, subst}
+use mathlib.Core.Path.{_≡_, sym, ap, ap₂, _∙_, subst}
 use mathlib.Core.Bool.{Bool, true, false, not}
-use Prim.Native.Nat.{ℕ, suc, _+_, _-_, _*_, _^_, _≤_, _<_}
+use Prim.Native.Nat.{ℕ, suc, _+_, _*_, _^_, _≤_, _<_}
 use native.Mathlib.Nat.{le-trans, le-of-eq, lt-of-le-of-lt, mul-le-mul-left, mul-lt-mul-of-pos-right, mul-mul-mul-comm, zero-add, add-mul, eq-of-mul-eq-mul-right}
 use native.Mathlib.Decide.{decLe}
 use native.Mathlib.Omega.{arith}
@@ -16,7 +16,7 @@ use Rattle.rounding.proofs.Scaled.{rep-down}
 use Rattle.rounding.proofs.Rescaled.{dist-mul, near-up}
 use Rattle.rounding.proofs.ProductError.{product-error}
 use Rattle.binary32.specs.Exact.{negate, plus, times, finer}
-use Rattle.binary32.specs.Steps.{mulValue, fmaValue}
+use Rattle.binary32.specs.Steps.{fmaValue}
 use Rattle.errorfree.proofs.Signed.{Rel, Is, rel-own, rel-not, rel-dist, is-plus, is-shift}
 use Rattle.errorfree.proofs.Steps.{toEven, even-at, error-le, round-whole}
 use Rattle.errorfree.proofs.Split.{Split}

@@ -1,7 +1,7 @@
 -- Recomposition: from RNe of a number and what is left of it to RN0 and what is left then. Assumes nothing.
 use mathlib.Core.Path.{_≡_, refl, sym, ap, _∙_, subst}
-use mathlib.Core.Bool.{Bool, true, false, not, cond}
-use Prim.Native.Nat.{ℕ, suc, _+_, _-_, _*_, _^_, _≤_, _<_}
+use mathlib.Core.Bool.{Bool, true, false, cond}
+use Prim.Native.Nat.{ℕ, suc, _+_, _-_, _*_, _^_, _<_}
 use native.Mathlib.Nat.{lt-of-le-of-lt, mul-assoc, mul-right-comm, pow-succ'}
 use native.Mathlib.Omega.{arith}
 use lib.Dec.{T}
@@ -9,7 +9,7 @@ use lib.Pow.{pow-add}
 use Rattle.rounding.specs.declared.Ties.the-variants.{ToEven}
 use Rattle.rounding.specs.Format.{Format, low, limit}
 use Rattle.rounding.specs.Nearest.{dist, Rep, Near}
-use Rattle.rounding.specs.Value.{Value, nan, infinite, finite, roundFinite}
+use Rattle.rounding.specs.Value.{Value, nan, infinite, finite}
 use Rattle.rounding.proofs.NearLaws.{near0-one}
 use Rattle.rounding.proofs.Rounded.{rounded-near}
 use Rattle.rounding.proofs.RoundValue.{round-below}
@@ -25,7 +25,7 @@ use Rattle.errorfree.proofs.Steps.{toEven, toZero, zero-at, error-le, r
 use Rattle.errorfree.proofs.Split.{Split, Split0}
 
 -- ---- the product by 1 - 2 ^ -precision
-psi-near : (F : Format) → Roomy F → (A : ℕ)
+pub psi-near : (F : Format) → Roomy F → (A : ℕ)
     → Near (suc (F .fraction)) (suc (F .fraction)) ((2 ^ suc (F .fraction) - 1) * A) (toEven F ((2 ^ suc (F .fraction) - 1) * 2 ^ (low F - suc (F .fraction)) * A) * 2 ^ suc (F .fraction))
 psi-near F room A =
     let D = suc (F .fraction) in

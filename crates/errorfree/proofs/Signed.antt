@@ -1,8 +1,8 @@
 -- Values as differences of two whole numbers, seen from one sign: so that signs of zeros do not matter and all is linear. Assumes nothing.
-use mathlib.Core.Path.{_≡_, refl, subst}
-use mathlib.Core.Bool.{Bool, true, false, not, _&&_, _||_, Bool·beq, cond}
-use Prim.Native.Nat.{ℕ, _+_, _-_, _*_, _≤_, _<_}
-use native.Mathlib.Nat.{add-zero, eq-of-mul-eq-mul-right, add-mul}
+use mathlib.Core.Path.{_≡_, subst}
+use mathlib.Core.Bool.{Bool, true, false, not, _&&_, Bool·beq, cond, _||_}
+use Prim.Native.Nat.{ℕ, _+_, _-_, _≤_, _<_}
+use native.Mathlib.Nat.{add-zero}
 use native.Mathlib.Omega.{arith}
 use lib.Dec.{T, ltb, eqb, ltb→lt, nltb→le, eqb→eq, eqb-refl}
 use Rattle.rounding.specs.Nearest.{dist}
@@ -151,6 +151,7 @@ eq-same r (finite s a) (finite u b) p n p' n' h k t =
     one false true false h k = omega arith
     one true false true h k = omega arith
     one true true false h k = omega arith
+
     two : (r s u : Bool) → Rel r s a p n → Rel r u b p' n' → T (Bool·beq s u || eqb a 0)
     two r false false h k = tt
     two r true true h k = tt

@@ -1,9 +1,9 @@
 -- An exact number and the two values that it is split into: what Fast2Sum leaves of a sum, and a fused step of a product. Assumes nothing.
-use mathlib.Core.Path.{_≡_, refl, sym, ap, ap₂, _∙_, subst}
+use mathlib.Core.Path.{_≡_, refl, sym, ap, ap₂, _∙_}
 use mathlib.Core.Logic.{_≢_}
 use mathlib.Core.Bool.{Bool, true, false, not, cond}
-use Prim.Native.Nat.{ℕ, suc, _+_, _-_, _*_, _^_, _≤_, _<_}
-use native.Mathlib.Nat.{le-of-lt, lt-of-le-of-lt, mul-le-mul-right, mul-lt-mul-of-pos-right, eq-of-mul-eq-mul-right}
+use Prim.Native.Nat.{ℕ, suc, _*_, _^_, _≤_, _<_}
+use native.Mathlib.Nat.{mul-le-mul-right, mul-lt-mul-of-pos-right}
 use native.Mathlib.Decide.{decLe}
 use native.Mathlib.Omega.{arith}
 use borrow.Author.Tests.{lt-ltb, le-ltb, ne-eqb}
@@ -21,7 +21,7 @@ use Rattle.augmented.specs.Pairs.{pairOf}
 use Rattle.augmented.proofs.Second.{head, tail, up, unlike-true, unlike-false, first-finite, pair-second}
 use Rattle.errorfree.specs.Constants.{zero}
 use Rattle.errorfree.proofs.Signed.{Rel, Is, rel-dist}
-use Rattle.errorfree.proofs.Steps.{toEven, toZero, whole-near, zero-at, zero-times}
+use Rattle.errorfree.proofs.Steps.{toZero, whole-near, zero-at, zero-times}
 
 -- n units of u with the sign s: A is nearest to n, and b is all of what is left
 pub record Split (F : Format) (s : Bool) (n A : ℕ) (b : Value) : Type 0 where
@@ -64,6 +64,7 @@ side-of s t m n f h z =
     same true true h k = refl
     same false true h k = absurd (z (omega arith))
     same true false h k = absurd (z (omega arith))
+
     other : (s t : Bool) → Rel s t m n f → n < f → t ≡ not s
     other false true h k = refl
     other true false h k = refl

@@ -1,8 +1,8 @@
 -- The steps on finite values: rounded by one rule or the other, and exact where the exact result is a number of the format. Assumes nothing.
-use mathlib.Core.Path.{_≡_, refl, sym, ap, _∙_, subst}
-use mathlib.Core.Bool.{Bool, true, false, not}
+use mathlib.Core.Path.{_≡_, refl, sym, ap, _∙_}
+use mathlib.Core.Bool.{Bool, true, false}
 use Prim.Native.Nat.{ℕ, suc, _+_, _-_, _*_, _^_, _≤_, _<_}
-use native.Mathlib.Nat.{le-trans, le-of-eq, lt-of-le-of-lt, le-of-mul-le-mul-right, zero-add, zero-mul, mul-one, eq-of-mul-eq-mul-right}
+use native.Mathlib.Nat.{le-of-eq, lt-of-le-of-lt, le-of-mul-le-mul-right, zero-add, zero-mul, mul-one}
 use native.Mathlib.Decide.{decLe}
 use native.Mathlib.Omega.{arith}
 use lib.Ieee.{unlike}
@@ -15,15 +15,15 @@ use Rattle.rounding.specs.Nearest.{dist, Rep, Near, Near0}
 use Rattle.rounding.specs.Value.{Value, nan, infinite, finite, roundFinite, round, RNe}
 use Rattle.rounding.proofs.NearLaws.{near-exact, near-ge}
 use Rattle.rounding.proofs.Representable.{rep-zero}
-use Rattle.rounding.proofs.Rounded.{rounded-near, rounded-near0, rounded-none}
-use Rattle.rounding.proofs.RoundValue.{round-below, round-above}
+use Rattle.rounding.proofs.Rounded.{rounded-near, rounded-near0}
+use Rattle.rounding.proofs.RoundValue.{round-below}
 use Rattle.rounding.proofs.Rescaled.{near-down, near0-down}
 use Rattle.rounding.proofs.Sterbenz.{rep-double}
 use Rattle.rounding.proofs.Predecessor.{upper, below-add, below-rep}
 use Rattle.rounding.proofs.TieDown.{small-exact}
-use Rattle.binary32.specs.Exact.{negate, plusFinite, plus, times, finer}
+use Rattle.binary32.specs.Exact.{negate, plus, times, finer}
 use Rattle.binary32.specs.Steps.{addValue, subValue, mulValue}
-use Rattle.errorfree.proofs.Signed.{Rel, Is, rel-dist, is-negate, is-plus}
+use Rattle.errorfree.proofs.Signed.{Is, rel-dist, is-negate, is-plus}
 
 -- N units of u * u, rounded to the nearest number of the format, in units of u
 abbrev pub toEven : Format → ℕ → ℕ

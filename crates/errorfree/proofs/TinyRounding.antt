@@ -3,7 +3,7 @@ use mathlib.Core.Path.{_≡_, refl, sym, ap, ap₂, _∙_}
 use mathlib.Core.Logic.{inl, inr}
 use mathlib.Core.Bool.{Bool, cond}
 use Prim.Native.Nat.{ℕ, suc, _+_, _-_, _*_, _^_, _≤_, _<_}
-use native.Mathlib.Nat.{le-refl, le-trans, le-of-eq, lt-of-le-of-lt, lt-of-lt-of-le, mul-comm, mul-assoc, mul-left-comm, mul-right-comm, add-mul, one-mul, pow-succ', mul-le-mul-right, mul-le-mul-left, mul-lt-mul-of-pos-right, eq-of-mul-eq-mul-right, eq-zero-or-pos, mul-pos, div-eq-of-lt, mod-eq-of-lt}
+use native.Mathlib.Nat.{le-refl, le-trans, le-of-eq, lt-of-le-of-lt, lt-of-lt-of-le, mul-comm, mul-assoc, mul-left-comm, mul-right-comm, add-mul, one-mul, pow-succ', mul-le-mul-right, mul-le-mul-left, mul-lt-mul-of-pos-right, eq-of-mul-eq-mul-right, eq-zero-or-pos, mul-pos}
 use native.Mathlib.Decide.{decLe}
 use native.Mathlib.Omega.{arith}
 use lib.Dec.{eqb}
@@ -11,18 +11,15 @@ use lib.Ieee.{unlike}
 use lib.Pow.{pow-pos, pow-mono}
 use Rattle.rounding.specs.declared.Ties.the-variants.{ToEven}
 use Rattle.rounding.specs.Format.{Format, low, limit}
-use Rattle.rounding.specs.Round.{keep, lastPlace, tied}
 use Rattle.rounding.specs.Nearest.{dist, Near0}
 use Rattle.rounding.specs.Value.{finite}
 use Rattle.rounding.proofs.Even.{half-to-even}
-use Rattle.rounding.proofs.Keep.{keep-eq}
-use Rattle.rounding.proofs.LastPlace.{place-is}
 use Rattle.rounding.proofs.Multiple.{sub-mul}
 use Rattle.rounding.proofs.NearLaws.{near0-one}
 use Rattle.rounding.proofs.Predecessor.{Upper, upper}
 use Rattle.rounding.proofs.ProductError.{near-half}
 use Rattle.rounding.proofs.Representable.{rep-zero}
-use Rattle.rounding.proofs.Rounded.{rounded-near, rounded-near0, rounded-keep}
+use Rattle.rounding.proofs.Rounded.{rounded-near, rounded-near0}
 use Rattle.rounding.proofs.TieDown.{dbl, keep-above, keep-below, go-down}
 use Rattle.augmented.specs.Pairs.{pairOf}
 use Rattle.augmented.proofs.Second.{head, tail, up, first-finite, pair-second}

@@ -1,6 +1,6 @@
 -- The factors that the transformations multiply by, in any format, and what is asked of one. Assumes nothing.
 -- 1 is 2 ^ low F units of u, and `suc (F .fraction)` is the precision: 24 in binary32.
-use Prim.Native.Nat.{ℕ, suc, _+_, _-_, _*_, _^_, _≤_}
+use Prim.Native.Nat.{suc, _+_, _-_, _*_, _^_, _≤_}
 use mathlib.Core.Bool.{true, false}
 use Rattle.rounding.specs.Format.{Format, low}
 use Rattle.rounding.specs.Value.{Value, finite}

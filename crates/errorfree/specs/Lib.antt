@@ -1,2 +1,3 @@
 pub mod Comparisons
 pub mod Constants
+pub mod Theorems

@@ -46,7 +46,7 @@ half-ge {p} {l} {X} {n} {A} r c u v h = go (r .e) (r .low) (r .is)
           let t : X ≡ 2 * H = i ∙ ap (λ (z : ℕ). r .m * z) s ∙ mul-left-comm (r .m) 2 (2 ^ (e - 1)) in
           let w = near-ge h {m = H} (record { e = e - 1; m = r .m; low = omega arith; small = r .small; is = refl }) (omega arith) in
           omega arith
-      ]
+    ]
 
 -- ---- Fast2Sum: what is subtracted first is exact. X + Y is rounded to A.
 module _ {p l X Y A : ℕ} (x : Rep (suc p) l X) (y : Rep (suc p) l Y) (le : Y ≤ X) where

@@ -1,12 +1,12 @@
 -- From a nearest number A to the one that ties go down to: A itself, or the number below it where A came from a tie. Assumes nothing.
-use mathlib.Core.Path.{_≡_, sym, ap, _∙_}
+use mathlib.Core.Path.{_≡_, ap, _∙_}
 use mathlib.Core.Logic.{_≢_}
 use Prim.Native.Nat.{ℕ, suc, _+_, _-_, _*_, _^_, _≤_, _<_}
 use native.Mathlib.Nat.{le-refl, le-trans, le-of-eq, mul-pos, pow-succ', mul-assoc}
 use native.Mathlib.Decide.{decLe}
 use native.Mathlib.Omega.{arith}
 use lib.Pow.{pow-pos}
-use Rattle.rounding.specs.Nearest.{dist, Rep, Near, Near0}
+use Rattle.rounding.specs.Nearest.{dist, Near, Near0}
 use Rattle.rounding.proofs.Multiple.{Mult}
 use Rattle.rounding.proofs.Representable.{rep-lt, rep-pow}
 use Rattle.rounding.proofs.NearLaws.{near-exact, near-ge}

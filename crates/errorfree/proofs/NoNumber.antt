@@ -1,6 +1,6 @@
 -- Steps on infinities and NaN give no finite value. Assumes nothing.
 use mathlib.Core.Path.{_≡_, refl, sym, ap, _∙_, subst}
-use mathlib.Core.Bool.{Bool, true, false, not, cond, Bool·beq, _&&_}
+use mathlib.Core.Bool.{Bool, true, false, cond, Bool·beq, _&&_}
 use mathlib.Core.Logic.{_⊎_, inl, inr}
 use Prim.Native.Nat.{ℕ}
 use lib.Dec.{T, eqb}
@@ -54,7 +54,7 @@ plus-none (finite s a) w h = not-both h
 pub sum-none : (v w : Value) → isFinite v && isFinite w ≡ false → isFinite (plus v w) ≡ false
 sum-none v w n = elim (one-of (isFinite v) (isFinite w) n) [ inl m ↦ plus-none v w m | inr m ↦ ap isFinite (plus-comm w v) ∙ plus-none w v m ]
 
-negate-none : (v : Value) → isFinite v ≡ false → isFinite (negate v) ≡ false
+pub negate-none : (v : Value) → isFinite v ≡ false → isFinite (negate v) ≡ false
 unfolding negate
 negate-none nan h = refl
 negate-none (infinite s) h = refl
@@ -88,7 +88,7 @@ round-none F nan h = refl
 round-none F (infinite s) h = refl
 round-none F (finite s a) h = not-both h
 
-finer-none : (F : Format) (v : Value) → isFinite v ≡ false → isFinite (finer F v) ≡ false
+pub finer-none : (F : Format) (v : Value) → isFinite v ≡ false → isFinite (finer F v) ≡ false
 unfolding finer
 finer-none F nan h = refl
 finer-none F (infinite s) h = refl
@@ -103,6 +103,10 @@ module _ (F : Format) (v w : Value) where
   pub add-right : isFinite w ≡ false → isFinite (addValue F v w) ≡ false
   unfolding addValue
   add-right h = round-none F (finer F (plus v w)) (finer-none F (plus v w) (ap isFinite (plus-comm w v) ∙ plus-none w v h))
+
+  pub add-none : isFinite v && isFinite w ≡ false → isFinite (addValue F v w) ≡ false
+  unfolding addValue
+  add-none n = round-none F (finer F (plus v w)) (finer-none F (plus v w) (sum-none v w n))
 
   pub mul-left : isFinite v ≡ false → isFinite (mulValue F v w) ≡ false
   unfolding mulValue

@@ -18,7 +18,7 @@ use Rattle.errorfree.proofs.Edge.{halfLimit, edgeRest}
 use Rattle.errorfree.proofs.Halved.{EdgePair}
 use Rattle.emulation.specs.Constants.{psi, two, minusTwo, kappa, plusZero, twoTo127, twoTo102}
 use Rattle.emulation.specs.Lines.{Sheet, value, minus, equal, signOf, zero}
-use Rattle.emulation.specs.Sheets.{recomposition, zeroFinish, recomposed, edgeFinish}
+use Rattle.emulation.specs.Sheets.{recomposition, zeroFinish, recomposed, atEdge, edgeFinish}
 use Rattle.emulation.proofs.Patterns.{Pattern, mul-width, minus-width, minus-value, negate-finite, sign-value, sign-width}
 use Rattle.emulation.proofs.Constants.{psi-value, two-value, minus-two-value, kappa-value, zero-value, half-limit-value, edge-rest-value}
 use Rattle.emulation.proofs.Foots.{Foots, foots}
@@ -132,21 +132,18 @@ recomposed-none a b h k =
 
 -- ---- the edge
 module _ (a a' b' : ℕ) where
-  abbrev pub atEdge : Bool
-  atEdge = equal a' (signOf a' twoTo127) && equal b' (minus (signOf a' twoTo102))
-
-  edge-first : edgeFinish a a' b' .first ≡ cond atEdge (mulStep kappa a') a
+  edge-first : edgeFinish a a' b' .first ≡ cond (atEdge a' b') (mulStep kappa a') a
   unfolding edgeFinish
-  edge-first = first-cond atEdge _ _
+  edge-first = first-cond (atEdge a' b') _ _
 
-  edge-second : edgeFinish a a' b' .second ≡ cond atEdge (mulStep minusTwo b') a
+  edge-second : edgeFinish a a' b' .second ≡ cond (atEdge a' b') (mulStep minusTwo b') a
   unfolding edgeFinish
-  edge-second = second-cond atEdge _ _
+  edge-second = second-cond (atEdge a' b') _ _
 
   -- a' is a number
   module _ (s : Bool) (A : ℕ) (ei : value a' ≡ finite s A) where
-    test-is : atEdge ≡ same (value a') (finite s (halfLimit binary32)) && same (value b') (finite (not s) (edgeRest binary32))
-    unfolding negate
+    test-is : atEdge a' b' ≡ same (value a') (finite s (halfLimit binary32)) && same (value b') (finite (not s) (edgeRest binary32))
+    unfolding negate atEdge
     test-is =
         let w : Pattern (signOf a' twoTo102) = sign-width a' twoTo102 (omega arith) in
         ap₂ (λ (v u : Value). same (value a') v && same (value b') u) (sign-value a' s A ei twoTo127 (halfLimit binary32) (omega arith) half-limit-value)
@@ -154,15 +151,16 @@ module _ (a a' b' : ℕ) where
 
     pub edge-foot : (N : ℕ) → value a ≡ infinite s → Pattern a → EdgePair binary32 s N (value a') (value b') → Foots (finite s N) (edgeFinish a a' b')
     edge-foot N ai wa p =
-        foots s N (edgeFinish a a' b') (rw edge-first (width-cond atEdge (mulStep kappa a') a (mul-width kappa a') wa)) (rw edge-second (width-cond atEdge (mulStep minusTwo b') a (mul-width minusTwo b') wa)) (
-          ap value edge-first ∙ value-cond atEdge (mulStep kappa a') a ∙ cond-eq atEdge (mul-decodes kappa a' ∙ ap (λ (v : Value). mulValue binary32 v (value a')) kappa-value) ai
+        foots s N (edgeFinish a a' b') (rw edge-first (width-cond (atEdge a' b') (mulStep kappa a') a (mul-width kappa a') wa)) (rw edge-second (width-cond (atEdge a' b') (mulStep minusTwo b') a (mul-width minusTwo b') wa)) (
+          ap value edge-first ∙ value-cond (atEdge a' b') (mulStep kappa a') a ∙ cond-eq (atEdge a' b') (mul-decodes kappa a' ∙ ap (λ (v : Value). mulValue binary32 v (value a')) kappa-value) ai
               ∙ ap (λ (c : Bool). cond c (mulValue binary32 (factor.kappa binary32) (value a')) (infinite s)) test-is ∙ p .0,
-          ap value edge-second ∙ value-cond atEdge (mulStep minusTwo b') a ∙ cond-eq atEdge (mul-decodes minusTwo b' ∙ ap (λ (v : Value). mulValue binary32 v (value b')) minus-two-value) ai
+          ap value edge-second ∙ value-cond (atEdge a' b') (mulStep minusTwo b') a ∙ cond-eq (atEdge a' b') (mul-decodes minusTwo b' ∙ ap (λ (v : Value). mulValue binary32 v (value b')) minus-two-value) ai
               ∙ ap (λ (c : Bool). cond c (mulValue binary32 (factor.minusTwo binary32) (value b')) (infinite s)) test-is ∙ p .1,
         )
 
   -- a' is none
-  no-test : isFinite (value a') ≡ false → atEdge ≡ false
+  no-test : isFinite (value a') ≡ false → atEdge a' b' ≡ false
+  unfolding atEdge
   no-test h = by (leb (signBit binary32) a')
     where
       none : (v : Value) (b : Bool) (m : ℕ) → isFinite v ≡ false → same v (finite b m) ≡ false

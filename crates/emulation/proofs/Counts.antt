@@ -13,11 +13,11 @@ use Rattle.binary32.proofs.Theorems.{add-decodes}
 use Rattle.binary32.proofs.Special.{plus-comm}
 use Rattle.emulation.specs.Constants.{half}
 use Rattle.emulation.specs.Lines.{Sheet, ends, value, less, zero, infinitely}
-use Rattle.emulation.specs.Sheets.{recomposition, zeroFinish, recomposed, edgeFinish, halvedSum, sumInOrder, sumSheet}
+use Rattle.emulation.specs.Sheets.{recomposition, zeroFinish, recomposed, atEdge, edgeFinish, halvedSum, overflows, sumInOrder, swaps, sumSheet}
 use Rattle.emulation.specs.Theorems.{SumLines}
-use Rattle.emulation.proofs.Blocks.{atEdge, recomposition-none, recomposed-none}
+use Rattle.emulation.proofs.Blocks.{recomposition-none, recomposed-none}
 use Rattle.errorfree.proofs.NoNumber.{none-zero}
-use Rattle.emulation.proofs.Sums.{b-none}
+use Rattle.emulation.proofs.Sums.{b-none, no-edge, asks-edge}
 
 length-cond : (c : Bool) (s t : Sheet) → length (cond c s t .lines) ≡ cond c (length (s .lines)) (length (t .lines))
 length-cond true s t = refl
@@ -39,9 +39,9 @@ recomposed-count a b = three (finish-count (recomposition a b .first) (recomposi
 pub recomposed-three : (a b : ℕ) → isFinite (value a) ≡ false → zero b ≡ false → length (recomposed a b .lines) ≡ 3
 recomposed-three a b h k = recomposed-count a b ∙ ap (λ (c : Bool). 3 + cond c 1 0) (ap zero (recomposition-none a b h .1) ∙ k)
 
-pub edge-count : (a a' b' : ℕ) → length (edgeFinish a a' b' .lines) ≡ cond (atEdge a a' b') 2 0
+pub edge-count : (a a' b' : ℕ) → length (edgeFinish a a' b' .lines) ≡ cond (atEdge a' b') 2 0
 unfolding edgeFinish
-edge-count a a' b' = length-cond (atEdge a a' b') _ _
+edge-count a a' b' = length-cond (atEdge a' b') _ _
 
 -- ---- sums
 halved-count : (x y a : ℕ) → (length (halvedSum x y a .lines) ≡ 5) ⊎ (length (halvedSum x y a .lines) ≡ 7)
@@ -51,7 +51,7 @@ halved-count x y a =
     let y' = mulStep half y in
     let a' = addStep x' y' in
     let b' = subStep y' (subStep a' x') in
-    by (atEdge a a' b') (edge-count a a' b')
+    by (atEdge a' b') (edge-count a a' b')
   where
     by : {n : ℕ} (c : Bool) → n ≡ cond c 2 0 → (suc (suc (suc (suc (suc n)))) ≡ 5) ⊎ (suc (suc (suc (suc (suc n)))) ≡ 7)
     by true e = inr (omega arith)
@@ -64,34 +64,28 @@ module _ (x y : ℕ) where
   abbrev b : ℕ
   b = subStep y (subStep a x)
 
-  abbrev overflows : Bool
-  overflows = not (zero (recomposed a b .second)) && infinitely a
+  abbrev edge : Bool
+  edge = overflows (recomposed a b .second) a
 
-  order-count : length (sumInOrder x y .lines) ≡ 3 + (length (recomposed a b .lines) + cond overflows (length (halvedSum x y a .lines)) 0)
+  order-count : length (sumInOrder x y .lines) ≡ 3 + (length (recomposed a b .lines) + cond edge (length (halvedSum x y a .lines)) 0)
   unfolding sumInOrder
   order-count =
-      three (length-append (recomposed a b .lines) (cond overflows (halvedSum x y a) (ends (recomposed a b .first) (recomposed a b .second)) .lines)
-      ∙ ap (λ (n : ℕ). length (recomposed a b .lines) + n) (length-cond overflows (halvedSum x y a) (ends (recomposed a b .first) (recomposed a b .second))))
+      three (length-append (recomposed a b .lines) (cond edge (halvedSum x y a) (ends (recomposed a b .first) (recomposed a b .second)) .lines)
+      ∙ ap (λ (n : ℕ). length (recomposed a b .lines) + n) (length-cond edge (halvedSum x y a) (ends (recomposed a b .first) (recomposed a b .second))))
     where
       three : {n m : ℕ} → n ≡ m → suc (suc (suc n)) ≡ 3 + m
       three e = omega arith
 
-  never : (i : Bool) → i && false ≡ false
-  never true = refl
-  never false = refl
-
   -- a is not infinite
   plain-count : infinitely a ≡ false → length (sumInOrder x y .lines) ≡ 3 + length (recomposed a b .lines)
-  plain-count h = order-count ∙ ap (λ (c : Bool). 3 + (length (recomposed a b .lines) + cond c (length (halvedSum x y a .lines)) 0)) (ap (λ (i : Bool). not (zero (recomposed a b .second)) && i) h ∙ never (not (zero (recomposed a b .second)))) ∙ omega arith
+  plain-count h = order-count ∙ ap (λ (c : Bool). 3 + (length (recomposed a b .lines) + cond c (length (halvedSum x y a .lines)) 0)) (no-edge x y h) ∙ omega arith
 
   -- a is infinite
   infinite-count : (s : Bool) → value a ≡ infinite s → length (sumInOrder x y .lines) ≡ 6 + length (halvedSum x y a .lines)
   infinite-count s h =
       let n : isFinite (value a) ≡ false = ap isFinite h in
       let z = none-zero (value b) (b-none x y n) in
-      let r = recomposed-none a b n z in
-      let c : overflows ≡ true = ap₂ (λ (i j : Bool). not i && j) (ap zero (r .1) ∙ z) (ap isInfinite h) in
-      order-count ∙ ap₂ (λ (k : ℕ) (i : Bool). 3 + (k + cond i (length (halvedSum x y a .lines)) 0)) (recomposed-three a b n z) c ∙ omega arith
+      order-count ∙ ap₂ (λ (k : ℕ) (i : Bool). 3 + (k + cond i (length (halvedSum x y a .lines)) 0)) (recomposed-three a b n z) (asks-edge x y s h) ∙ omega arith
 
   order-lines : SumLines (value a) (length (sumInOrder x y .lines))
   order-lines = by (value a) refl
@@ -111,7 +105,7 @@ swapped x y = add-decodes y x ∙ ap (λ (v : Value). RNe binary32 (finer binary
 
 pub sum-lines : (x y : ℕ) → SumLines (value (addStep x y)) (length (sumSheet x y .lines))
 unfolding sumSheet
-sum-lines x y = by (less x y)
+sum-lines x y = by (swaps x y)
   where
     by : (c : Bool) → SumLines (value (addStep x y)) (length (cond c (sumInOrder y x) (sumInOrder x y) .lines))
     by true = subst (λ (v : Value). SumLines v (length (sumInOrder y x .lines))) (swapped x y) (order-lines y x)

@@ -9,9 +9,9 @@ use Rattle.binary32.specs.Classes.{flip}
 use Rattle.augmented.specs.Direct.{sum, difference, product}
 use Rattle.emulation.specs.Lines.{add, subtract, multiply, stepOf, Line, line, fusedLine, Sheet, before, ends, value, minus, equal, less, signOf, zero, infinitely}
 use Rattle.emulation.specs.Constants.{psi, two, minusTwo, half, kappa, twoTo24, twoTo48, twoToMinus24, plusZero, smallest, twoToMinus102, twoToMinus126}
-use Rattle.emulation.specs.Sheets.{Branch, isInfinite, isZero, isTiny, isMiddle, isOther, recomposition, zeroFinish, recomposed, edgeFinish, halvedSum, sumInOrder, sumSheet, infiniteProduct, tinyProduct, scaledDown, middleProduct, otherProduct, branchOf, productBy, productSheet, sheetOf}
+use Rattle.emulation.specs.Sheets.{Branch, isInfinite, isZero, isTiny, isMiddle, isOther, recomposition, zeroFinish, recomposed, atEdge, edgeFinish, halvedSum, overflows, sumInOrder, swaps, sumSheet, infiniteProduct, lowered, lowering, tinyTie, tinyProduct, restTie, scaledDown, middleProduct, otherProduct, branchOf, productBy, productSheet, sheetOf}
+use Rattle.emulation.proofs.TinyResults as tiny
 use Rattle.emulation.specs.Theorems.{Each, EachLine}
-use Rattle.emulation.proofs.Blocks.{atEdge}
 
 -- ---- lists and choices
 each-append : (ls ms : List Line) → Each ls → Each ms → Each (ls ++ ms)
@@ -22,10 +22,6 @@ each-append (l ∷ ls) ms h k = (h .0, each-append ls ms (h .1) k)
 each-cond : (c : Bool) (s t : Sheet) → Each (s .lines) → Each (t .lines) → Each (cond c s t .lines)
 each-cond true s t h k = h
 each-cond false s t h k = k
-
-each-list : (c : Bool) (ls ms : List Line) → Each ls → Each ms → Each (cond c ls ms)
-each-list true ls ms h k = h
-each-list false ls ms h k = k
 
 none : Each []
 unfolding Each
@@ -49,6 +45,12 @@ unfolding Each stepOf
 fuses x y z ls h = ((refl, tt), h)
 
 -- ---- the parts
+-- a correction, where there is one
+correction-each : (c : Bool) (a : ℕ) → Each (cond c (lowering a ∷ []) [])
+unfolding lowering
+correction-each true a = subtracts a (signOf a smallest) _ none
+correction-each false a = none
+
 recomposition-each : (a b : ℕ) → Each (recomposition a b .lines)
 unfolding recomposition
 recomposition-each a b = multiplies psi a _ (subtracts (mulStep psi a) a _ (multiplies two b _ none))
@@ -66,7 +68,7 @@ recomposed-each a b =
 edge-each : (a a' b' : ℕ) → Each (edgeFinish a a' b' .lines)
 unfolding edgeFinish
 edge-each a a' b' =
-    each-cond (atEdge a a' b') (before (line multiply kappa a' (mulStep kappa a') ∷ line multiply minusTwo b' (mulStep minusTwo b') ∷ []) (ends (mulStep kappa a') (mulStep minusTwo b'))) (ends a a)
+    each-cond (atEdge a' b') (before (line multiply kappa a' (mulStep kappa a') ∷ line multiply minusTwo b' (mulStep minusTwo b') ∷ []) (ends (mulStep kappa a') (mulStep minusTwo b'))) (ends a a)
     (multiplies kappa a' _ (multiplies minusTwo b' _ none)) none
 
 -- ---- sums
@@ -86,13 +88,13 @@ order-each x y =
     let v = subStep a x in
     let b = subStep y v in
     let r = recomposed a b in
-    let c = not (zero (r .second)) && infinitely a in
+    let c = overflows (r .second) a in
     adds x y _ (subtracts a x _ (subtracts y v _
     (each-append (r .lines) (cond c (halvedSum x y a) (ends (r .first) (r .second)) .lines) (recomposed-each a b) (each-cond c (halvedSum x y a) (ends (r .first) (r .second)) (halved-each x y a) none))))
 
 sum-each : (x y : ℕ) → Each (sumSheet x y .lines)
 unfolding sumSheet
-sum-each x y = each-cond (less x y) (sumInOrder y x) (sumInOrder x y) (order-each y x) (order-each x y)
+sum-each x y = each-cond (swaps x y) (sumInOrder y x) (sumInOrder x y) (order-each y x) (order-each x y)
 
 -- ---- products
 infinite-each : (x y a : ℕ) → Each (infiniteProduct x y a .lines)
@@ -105,20 +107,8 @@ infinite-each x y a =
 tiny-each : (x y a : ℕ) → Each (tinyProduct x y a .lines)
 unfolding tinyProduct
 tiny-each x y a =
-    let m = mulStep twoTo24 x in
-    let n = mulStep twoTo24 y in
-    let t1 = mulStep m n in
-    let t2 = fmaStep m n (minus t1) in
-    let g = mulStep twoTo48 a in
-    let t3 = subStep t1 g in
-    let z = addStep t2 t3 in
-    let w = subStep z t3 in
-    let tie = equal z (minus (signOf a twoToMinus102)) && equal w t2 in
-    let lower = subStep a (signOf a smallest) in
-    let first = cond tie lower a in
-    let correction = cond tie (line subtract a (signOf a smallest) lower ∷ []) [] in
-    multiplies twoTo24 x _ (multiplies twoTo24 y _ (multiplies m n _ (fuses m n (minus t1) _ (multiplies twoTo48 a _ (subtracts t1 g _ (adds t2 t3 _ (subtracts z t3 _
-    (each-append correction (line multiply plusZero first (mulStep plusZero first) ∷ []) (each-list tie (line subtract a (signOf a smallest) lower ∷ []) [] (subtracts a (signOf a smallest) _ none) none) (multiplies plusZero first _ none)))))))))
+    multiplies twoTo24 x _ (multiplies twoTo24 y _ (multiplies (tiny.m x y a) (tiny.n x y a) _ (fuses (tiny.m x y a) (tiny.n x y a) (minus (tiny.t1 x y a)) _ (multiplies twoTo48 a _ (subtracts (tiny.t1 x y a) (tiny.g x y a) _ (adds (tiny.t2 x y a) (tiny.t3 x y a) _ (subtracts (tiny.z x y a) (tiny.t3 x y a) _
+    (each-append (cond (tiny.tie x y a) (lowering a ∷ []) []) (line multiply plusZero (tiny.first x y a) (mulStep plusZero (tiny.first x y a)) ∷ []) (correction-each (tiny.tie x y a) a) (multiplies plusZero (tiny.first x y a) _ none)))))))))
 
 scaled-each : (A B : ℕ) → Each (scaledDown A B .lines)
 unfolding scaledDown
@@ -127,11 +117,9 @@ scaled-each A B =
     let β = mulStep twoToMinus24 B in
     let g = mulStep twoTo24 β in
     let r = subStep g B in
-    let tie = not (zero β) && equal r (signOf β twoToMinus126) in
-    let lower = subStep β (signOf β smallest) in
-    let correction = cond tie (line subtract β (signOf β smallest) lower ∷ []) [] in
+    let tie = restTie β r in
     multiplies twoToMinus24 A _ (multiplies twoToMinus24 B _ (multiplies twoTo24 β _ (subtracts g B _
-    (each-append correction (zeroFinish first (cond tie lower β) .lines) (each-list tie (line subtract β (signOf β smallest) lower ∷ []) [] (subtracts β (signOf β smallest) _ none) none) (finish-each first (cond tie lower β))))))
+    (each-append (cond tie (lowering β ∷ []) []) (zeroFinish first (cond tie (lowered β) β) .lines) (correction-each tie β) (finish-each first (cond tie (lowered β) β))))))
 
 middle-each : (x y : ℕ) → Each (middleProduct x y .lines)
 unfolding middleProduct
@@ -160,5 +148,5 @@ product-each x y = multiplies x y _ (by (branchOf (value (mulStep x y))))
 pub each-line : EachLine
 unfolding sheetOf
 each-line sum x y = sum-each x y
-each-line difference x y = sum-each x (flip binary32 y)
+each-line difference x y = sum-each x _
 each-line product x y = product-each x y

@@ -1,5 +1,6 @@
 pub mod Patterns
 pub mod Constants
+pub mod TinyResults
 pub mod Foots
 pub mod Blocks
 pub mod Sums

@@ -52,6 +52,10 @@ pub negate-finite : (s : Bool) (a : ℕ) → negate (finite s a) ≡ finite (not
 unfolding negate
 negate-finite s a = refl
 
+pub minus-nan : (x : ℕ) → Pattern x → value x ≡ nan → value (minus x) ≡ nan
+unfolding negate
+minus-nan x w e = minus-value x w ∙ ap negate e
+
 pub minus-width : (x : ℕ) → Pattern x → Pattern (minus x)
 minus-width x h = elim (decLe (signBit binary32) x) [ yes g ↦ rw (le-leb (signBit binary32) x g) (omega arith) | no g ↦ let k : x < signBit binary32 = omega arith in rw (lt-leb (signBit binary32) x k) (omega arith) ]
 

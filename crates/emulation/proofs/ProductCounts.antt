@@ -21,13 +21,13 @@ use Rattle.binary32.proofs.Theorems.{mul-decodes, fma-decodes}
 use Rattle.errorfree.proofs.Steps.{toEven}
 use Rattle.emulation.specs.Constants.{half, twoTo24, twoTo48, plusZero, smallest, twoToMinus102}
 use Rattle.emulation.specs.Lines.{subtract, multiply, Line, line, value, minus, equal, signOf, zero}
-use Rattle.emulation.specs.Sheets.{Branch, isInfinite, isZero, isTiny, isMiddle, isOther, recomposition, zeroFinish, recomposed, infiniteProduct, tinyProduct, scaledDown, middleProduct, otherProduct, branchOf, productBy, productSheet}
+use Rattle.emulation.specs.Sheets.{Branch, isInfinite, isZero, isTiny, isMiddle, isOther, recomposition, zeroFinish, atEdge, recomposed, infiniteProduct, lowered, lowering, tinyTie, tinyProduct, scaledDown, middleProduct, otherProduct, branchOf, productBy, productSheet}
 use Rattle.emulation.specs.Theorems.{ProductLines}
-use Rattle.emulation.proofs.Blocks.{atEdge}
+use Rattle.emulation.proofs.TinyResults as tiny
 use Rattle.emulation.proofs.Counts.{finish-count, recomposed-count, recomposed-three, edge-count}
 use Rattle.emulation.proofs.Products.{first, β, tie, lower, corrected, p-value, corrected-nonzero}
-use Rattle.errorfree.proofs.NoNumber.{not-both, number-of, both-of, mul-none}
-use Rattle.emulation.proofs.Patterns.{mul-width, minus-value}
+use Rattle.errorfree.proofs.NoNumber.{not-both, number-of, both-of, mul-none, fma-nan}
+use Rattle.emulation.proofs.Patterns.{mul-width, minus-nan}
 
 -- one line or none, before others
 list-cond : (c : Bool) (l : Line) (ms : List Line) → length (cond c (l ∷ []) [] ++ ms) ≡ cond c 1 0 + length ms
@@ -40,7 +40,7 @@ infinite-count x y a =
     let h = mulStep half x in
     let a' = mulStep h y in
     let b' = fmaStep h y (minus a') in
-    by (atEdge a a' b') (edge-count a a' b')
+    by (atEdge a' b') (edge-count a a' b')
   where
     by : {n : ℕ} (c : Bool) → n ≡ cond c 2 0 → (suc (suc (suc (suc n))) ≡ 4) ⊎ (suc (suc (suc (suc n))) ≡ 6)
     by true e = inr (omega arith)
@@ -50,15 +50,7 @@ infinite-count x y a =
 tiny-count : (x y a : ℕ) → (suc (length (tinyProduct x y a .lines)) ≡ 10) ⊎ (suc (length (tinyProduct x y a .lines)) ≡ 11)
 unfolding tinyProduct
 tiny-count x y a =
-    let m = mulStep twoTo24 x in
-    let n = mulStep twoTo24 y in
-    let t1 = mulStep m n in
-    let t2 = fmaStep m n (minus t1) in
-    let t3 = subStep t1 (mulStep twoTo48 a) in
-    let z = addStep t2 t3 in
-    let tie = equal z (minus (signOf a twoToMinus102)) && equal (subStep z t3) t2 in
-    let lower = subStep a (signOf a smallest) in
-    by tie (line subtract a (signOf a smallest) lower) (line multiply plusZero (cond tie lower a) (mulStep plusZero (cond tie lower a)))
+    by (tiny.tie x y a) (lowering a) (line multiply plusZero (tiny.first x y a) (mulStep plusZero (tiny.first x y a)))
   where
     nine : {n : ℕ} (c : Bool) → n ≡ cond c 1 0 + 1 → (suc (suc (suc (suc (suc (suc (suc (suc (suc n)))))))) ≡ 10) ⊎ (suc (suc (suc (suc (suc (suc (suc (suc (suc n)))))))) ≡ 11)
     nine true e = inr (omega arith)
@@ -71,7 +63,7 @@ tiny-count x y a =
 middle-count : (x y : ℕ) → suc (length (middleProduct x y .lines)) ≡ 11 + (cond (tie x y) 1 0 + cond (zero (corrected x y)) 1 0)
 unfolding middleProduct recomposition scaledDown
 middle-count x y =
-    ten (list-cond (tie x y) (line subtract (β x y) (signOf (β x y) smallest) (lower x y)) (zeroFinish (first x y) (corrected x y) .lines)
+    ten (list-cond (tie x y) (lowering (β x y)) (zeroFinish (first x y) (corrected x y) .lines)
     ∙ ap (λ (n : ℕ). cond (tie x y) 1 0 + n) (finish-count (first x y) (corrected x y)))
   where
     ten : {n m : ℕ} → n ≡ m → suc (suc (suc (suc (suc (suc (suc (suc (suc (suc (suc n)))))))))) ≡ 11 + m
@@ -80,21 +72,6 @@ middle-count x y =
 other-count : (x y a : ℕ) → suc (length (otherProduct x y a .lines)) ≡ 2 + length (recomposed a (fmaStep x y (minus a)) .lines)
 unfolding otherProduct
 other-count x y a = omega arith
-
--- ---- NaN
-negate-nan : negate nan ≡ nan
-unfolding negate
-negate-nan = refl
-
-plus-nan : (v : Value) → plus v nan ≡ nan
-unfolding plus
-plus-nan nan = refl
-plus-nan (infinite s) = refl
-plus-nan (finite s k) = refl
-
-fma-nan : (v w : Value) → fmaValue binary32 v w nan ≡ nan
-unfolding fmaValue finer round
-fma-nan v w = ap (RNe binary32) (plus-nan (times v w))
 
 -- ---- by the branch
 -- no other branch is the middle one
@@ -177,5 +154,5 @@ module _ (x y : ℕ) where
   unfolding branchOf productBy
   nan-lines e =
       let c = fmaStep x y (minus p) in
-      let ci : value c ≡ nan = fma-decodes x y (minus p) ∙ ap (fmaValue binary32 (value x) (value y)) (minus-value p (mul-width x y) ∙ ap negate e ∙ negate-nan) ∙ fma-nan (value x) (value y) in
+      let ci : value c ≡ nan = fma-decodes x y (minus p) ∙ ap (fmaValue binary32 (value x) (value y)) (minus-nan p (mul-width x y) e) ∙ fma-nan binary32 (value x) (value y) in
       lines-is ∙ ap (λ (v : Value). suc (length (productBy (branchOf v) x y p .lines))) e ∙ other-count x y p ∙ ap (λ (n : ℕ). 2 + n) (recomposed-three p c (ap isFinite e) (ap values.isZero ci))

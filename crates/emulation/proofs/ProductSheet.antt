@@ -24,9 +24,10 @@ use Rattle.emulation.specs.Constants.{half}
 use Rattle.emulation.specs.Lines.{value, minus}
 use Rattle.emulation.specs.Sheets as branch
 use Rattle.emulation.specs.Sheets.{Branch, isTiny, isMiddle, isOther, infiniteProduct, otherProduct, branchOf, productBy, productSheet}
+use Rattle.emulation.proofs.Patterns.{mul-width, minus-nan}
 use Rattle.emulation.proofs.Foots.{Foots, foots-infinite, foots-nan}
 use Rattle.emulation.proofs.Blocks.{recomposed-none, edge-none}
-use Rattle.errorfree.proofs.NoNumber.{not-both, number-of, one-of, both-of, product-none, mul-left, mul-right}
+use Rattle.errorfree.proofs.NoNumber.{not-both, number-of, one-of, both-of, product-none, mul-left, mul-right, fma-nan, mul-kept}
 use Rattle.emulation.proofs.Products.{p-value, pi, infinite-foot, zero-foot, tiny-foot, middle-foot, other-foot}
 
 -- ---- finite operands: by the magnitude of a
@@ -62,25 +63,13 @@ module _ (x y : ℕ) (s t : Bool) (a b : ℕ) (xi : value x ≡ finite s a) (yi 
 
 -- ---- infinities and NaN
 module _ (x y : ℕ) where
-  kept-nan : times (value x) (value y) ≡ nan → mulValue binary32 (value x) (value y) ≡ nan
-  unfolding mulValue round
-  kept-nan e = rw e refl
-
-  kept-infinite : (s : Bool) → times (value x) (value y) ≡ infinite s → mulValue binary32 (value x) (value y) ≡ infinite s
-  unfolding mulValue round
-  kept-infinite s e = rw e refl
-
-  fused-nan : times (value x) (value y) ≡ nan → (w : Value) → fmaValue binary32 (value x) (value y) w ≡ nan
-  unfolding fmaValue plus round
-  fused-nan e w = rw e refl
-
   nan-foot : times (value x) (value y) ≡ nan → Foots nan (otherProduct x y (mulStep x y))
   unfolding otherProduct
   nan-foot e =
       let p = mulStep x y in
-      let k = kept-nan e in
+      let k = mul-kept binary32 (value x) (value y) nan e refl in
       let c = fmaStep x y (minus p) in
-      let f = fused-nan e (value (minus p)) in
+      let f = ap (fmaValue binary32 (value x) (value y)) (minus-nan p (mul-width x y) (mul-decodes x y ∙ k)) ∙ fma-nan binary32 (value x) (value y) in
       let ci : value c ≡ nan = fma-decodes x y (minus p) ∙ f in
       let n = recomposed-none p c (ap isFinite (mul-decodes x y ∙ k)) (ap isZero ci) in
       foots-nan (otherProduct x y p) (n .0 ∙ mul-step x y ∙ ap (encode binary32) k) (n .1 ∙ fma-step x y (minus p) ∙ ap (encode binary32) f)
@@ -96,7 +85,7 @@ module _ (x y : ℕ) where
       ∙ elim (one-of (isFinite (value x)) (isFinite (value y)) n) [ inl m ↦ mul-left binary32 (value h) (value y) (ap isFinite (mul-decodes half x) ∙ mul-right binary32 (value half) (value x) m) | inr m ↦ mul-right binary32 (value h) (value y) m ]
       in
       let q = edge-none p a' (fmaStep h y (minus a')) none in
-      let pe : p ≡ encode binary32 (infinite s) = mul-step x y ∙ ap (encode binary32) (kept-infinite s e) in
+      let pe : p ≡ encode binary32 (infinite s) = mul-step x y ∙ ap (encode binary32) (mul-kept binary32 (value x) (value y) (infinite s) e refl) in
       foots-infinite s (infiniteProduct x y p) (q .0 ∙ pe) (q .1 ∙ pe)
 
   -- ---- all patterns
@@ -105,8 +94,8 @@ module _ (x y : ℕ) where
   none-foot n = by (times (value x) (value y)) refl (product-none (value x) (value y) n)
     where
       by : (v : Value) → times (value x) (value y) ≡ v → isFinite v ≡ false → Foots v (productBy (branchOf (value (mulStep x y))) x y (mulStep x y))
-      by nan e f = rw (mul-decodes x y ∙ kept-nan e) (nan-foot e)
-      by (infinite s) e f = rw (mul-decodes x y ∙ kept-infinite s e) (infinity-foot s e n)
+      by nan e f = rw (mul-decodes x y ∙ mul-kept binary32 (value x) (value y) nan e refl) (nan-foot e)
+      by (infinite s) e f = rw (mul-decodes x y ∙ mul-kept binary32 (value x) (value y) (infinite s) e refl) (infinity-foot s e n)
       by (finite s m) e f = not-both f
 
 pub product-foot : (x y : ℕ) → Foots (times (value x) (value y)) (productSheet x y)

@@ -25,9 +25,10 @@ use Rattle.errorfree.proofs.MiddleSecond.{stepped}
 use Rattle.errorfree.proofs.Middle.{Scaled, Finished, middle-split, middle-first, middle-second}
 use Rattle.emulation.specs.Constants.{half, twoTo24, twoTo48, twoToMinus24, plusZero, smallest, twoToMinus102, twoToMinus126}
 use Rattle.emulation.specs.Lines.{ends, value, minus, equal, signOf, zero}
-use Rattle.emulation.specs.Sheets.{recomposition, recomposed, infiniteProduct, tinyProduct, scaledDown, middleProduct, otherProduct}
+use Rattle.emulation.specs.Sheets.{recomposition, recomposed, infiniteProduct, lowered, tinyTie, tinyProduct, restTie, scaledDown, middleProduct, otherProduct}
 use Rattle.emulation.proofs.Patterns.{Pattern, sub-width, mul-width, fma-width, minus-value, negate-finite, sign-value, sign-width}
 use Rattle.emulation.proofs.Constants.{half-value, up-value, up-up-value, down-value, zero-value, tie-value, lowest-value, smallest-value}
+use Rattle.emulation.proofs.TinyResults as tiny
 use Rattle.emulation.proofs.Foots.{Foots, foots}
 use Rattle.emulation.proofs.Blocks.{value-cond, width-cond, recomposition-split, finish-first, finish-second, finish-width, recomposed-foot, edge-foot, edge-none}
 
@@ -58,10 +59,10 @@ module _ (x y : ℕ) where
   d = subStep (mulStep twoTo24 β) B
 
   abbrev pub tie : Bool
-  tie = not (zero β) && equal d (signOf β twoToMinus126)
+  tie = restTie β d
 
   abbrev pub lower : ℕ
-  lower = subStep β (signOf β smallest)
+  lower = lowered β
 
   abbrev pub corrected : ℕ
   corrected = cond tie lower β
@@ -123,36 +124,27 @@ module _ (x y : ℕ) (s t : Bool) (a b : ℕ) (xi : value x ≡ finite s a) (yi 
         subst (λ (N : ℕ). Foots (finite r N) (recomposed p c)) (sym (n .1)) (recomposed-foot r (n .0) A p c pi (mul-width x y) (fma-width x y (minus p)) (rw ci (product-split binary32 a b xr yr least s t fine)))
 
     -- a less u with a's sign
-    lower-value : value (subStep p (signOf p smallest)) ≡ subValue binary32 (finite r A) (finite r 1)
+    lower-value : value (lowered p) ≡ subValue binary32 (finite r A) (finite r 1)
+    unfolding lowered
     lower-value = sub-decodes p (signOf p smallest) ∙ ap₂ (subValue binary32) pi (sign-value p r A pi smallest 1 (omega arith) smallest-value)
 
     pub tiny-foot : 0 < A → A < 2 ^ 24 → Foots (finite r (a * b)) (tinyProduct x y p)
-    unfolding tinyProduct
+    unfolding tinyProduct lowered tinyTie
     tiny-foot pos lo =
-        let m = mulStep twoTo24 x in
-        let n = mulStep twoTo24 y in
-        let t1 = mulStep m n in
-        let t2 = fmaStep m n (minus t1) in
-        let g = mulStep twoTo48 p in
-        let t3 = subStep t1 g in
-        let z = addStep t2 t3 in
-        let w = subStep z t3 in
-        let tie = equal z (minus (signOf p twoToMinus102)) && equal w t2 in
-        let lower = subStep p (signOf p smallest) in
-        let test : tie ≡ same (value z) (finite (not r) (2 ^ 47)) && same (value w) (value t2) =
-        ap (λ (v : Value). same (value z) v && same (value w) (value t2))
+        let test : (tiny.tie x y p) ≡ same (value (tiny.z x y p)) (finite (not r) (2 ^ 47)) && same (value (tiny.w x y p)) (value (tiny.t2 x y p)) =
+        ap (λ (v : Value). same (value (tiny.z x y p)) v && same (value (tiny.w x y p)) (value (tiny.t2 x y p)))
         (minus-value (signOf p twoToMinus102) (sign-width p twoToMinus102 (omega arith)) ∙ ap negate (sign-value p r A pi twoToMinus102 (2 ^ 47) (omega arith) tie-value) ∙ negate-finite r (2 ^ 47))
         in
-        let first : value (cond tie lower p) ≡ cond (same (value z) (finite (not r) (2 ^ 47)) && same (value w) (value t2)) (subValue binary32 (finite r A) (finite r 1)) (finite r A) =
-        value-cond tie lower p ∙ ap₂ (λ (v u : Value). cond tie v u) lower-value pi ∙ ap (λ (c : Bool). cond c (subValue binary32 (finite r A) (finite r 1)) (finite r A)) test
+        let leads : value (cond (tiny.tie x y p) (lowered p) p) ≡ cond (same (value (tiny.z x y p)) (finite (not r) (2 ^ 47)) && same (value (tiny.w x y p)) (value (tiny.t2 x y p))) (subValue binary32 (finite r A) (finite r 1)) (finite r A) =
+        value-cond (tiny.tie x y p) (lowered p) p ∙ ap₂ (λ (v u : Value). cond (tiny.tie x y p) v u) lower-value pi ∙ ap (λ (c : Bool). cond c (subValue binary32 (finite r A) (finite r 1)) (finite r A)) test
         in
         let pair =
-        tiny-pair binary32 (omega arith) a b xr yr pos lo s t (value m) (value n) (value t1) (value t2) (value g) (value t3) (value z) (value w)
-        (scaled twoTo24 (factor.up binary32) up-value x (finite s a) xi) (scaled twoTo24 (factor.up binary32) up-value y (finite t b) yi) (mul-decodes m n)
-        (fused-value m n t1 (value m) (value n) refl refl (mul-width m n)) (scaled twoTo48 (factor.upUp binary32) up-up-value p (finite r A) pi) (sub-decodes t1 g) (add-decodes t2 t3) (sub-decodes z t3)
+        tiny-pair binary32 (omega arith) a b xr yr pos lo s t (value (tiny.m x y p)) (value (tiny.n x y p)) (value (tiny.t1 x y p)) (value (tiny.t2 x y p)) (value (tiny.g x y p)) (value (tiny.t3 x y p)) (value (tiny.z x y p)) (value (tiny.w x y p))
+        (scaled twoTo24 (factor.up binary32) up-value x (finite s a) xi) (scaled twoTo24 (factor.up binary32) up-value y (finite t b) yi) (mul-decodes (tiny.m x y p) (tiny.n x y p))
+        (fused-value (tiny.m x y p) (tiny.n x y p) (tiny.t1 x y p) (value (tiny.m x y p)) (value (tiny.n x y p)) refl refl (mul-width (tiny.m x y p) (tiny.n x y p))) (scaled twoTo48 (factor.upUp binary32) up-up-value p (finite r A) pi) (sub-decodes (tiny.t1 x y p) (tiny.g x y p)) (add-decodes (tiny.t2 x y p) (tiny.t3 x y p)) (sub-decodes (tiny.z x y p) (tiny.t3 x y p))
         in
-        foots r (a * b) (tinyProduct x y p) (width-cond tie lower p (sub-width p (signOf p smallest)) (mul-width x y)) (mul-width plusZero (cond tie lower p))
-        (first ∙ pair .0, mul-decodes plusZero (cond tie lower p) ∙ ap₂ (mulValue binary32) zero-value first ∙ pair .1)
+        foots r (a * b) (tinyProduct x y p) (width-cond (tiny.tie x y p) (lowered p) p (sub-width p (signOf p smallest)) (mul-width x y)) (mul-width plusZero (cond (tiny.tie x y p) (lowered p) p))
+        (leads ∙ pair .0, mul-decodes plusZero (cond (tiny.tie x y p) (lowered p) p) ∙ ap₂ (mulValue binary32) zero-value leads ∙ pair .1)
 
     -- one factor scaled up, recomposed, and scaled down again
     module _ (lo : 2 ^ 24 ≤ A) (hi : A ≤ 2 ^ 47) where
@@ -170,16 +162,18 @@ module _ (x y : ℕ) (s t : Bool) (a b : ℕ) (xi : value x ≡ finite s a) (yi 
           middle-second binary32 (omega arith) a b xr yr lo hi r (split-is .n) (toZero binary32 (split-is .n * 2 ^ low binary32)) (value (C x y)) (value (B x y)) (split-is .product) halves (value (β x y)) (value (mulStep twoTo24 (β x y))) (value (d x y))
           (scaled twoToMinus24 (factor.down binary32) down-value (B x y) (value (B x y)) refl) (scaled twoTo24 (factor.up binary32) up-value (β x y) (value (β x y)) refl) (sub-decodes (mulStep twoTo24 (β x y)) (B x y))
 
-      test : (tie x y) ≡ not (isZero (value (β x y))) && same (value (d x y)) (finite (second .t) (2 ^ 23))
+      test : tie x y ≡ not (isZero (value (β x y))) && same (value (d x y)) (finite (second .t) (2 ^ 23))
+      unfolding restTie
       test = ap (λ (v : Value). not (isZero (value (β x y))) && same (value (d x y)) v) (sign-value (β x y) (second .t) (second .e) (second .is) twoToMinus126 (2 ^ 23) (omega arith) lowest-value)
 
       corrected-is : value (corrected x y) ≡ stepped binary32 (second .t) (value (β x y)) (value (d x y))
+      unfolding lowered
       corrected-is =
           let lower-is : value (lower x y) ≡ subValue binary32 (value (β x y)) (finite (second .t) 1) = sub-decodes (β x y) (signOf (β x y) smallest) ∙ ap (subValue binary32 (value (β x y))) (sign-value (β x y) (second .t) (second .e) (second .is) smallest 1 (omega arith) smallest-value) in
           value-cond (tie x y) (lower x y) (β x y) ∙ ap (λ (v : Value). cond (tie x y) v (value (β x y))) lower-is ∙ ap (λ (c : Bool). cond c (subValue binary32 (value (β x y)) (finite (second .t) 1)) (value (β x y))) test
 
       pub middle-foot : Foots (finite r (a * b)) (middleProduct x y)
-      unfolding middleProduct scaledDown
+      unfolding middleProduct scaledDown lowered
       middle-foot =
           foots r (a * b) (middleProduct x y) (rw (finish-first (first x y) (corrected x y)) (mul-width twoToMinus24 (C x y))) (finish-width (first x y) (corrected x y) (width-cond (tie x y) (lower x y) (β x y) (sub-width (β x y) (signOf (β x y) smallest)) (mul-width twoToMinus24 (B x y)))) (
             ap value (finish-first (first x y) (corrected x y)) ∙ first-is ∙ middle-first binary32 (omega arith) a b xr yr lo hi r (split-is .n) (toZero binary32 (split-is .n * 2 ^ low binary32)) (value (C x y)) (value (B x y)) (split-is .product) halves,

@@ -27,13 +27,13 @@ use Rattle.errorfree.proofs.FastTwoSum.{add-finite, fast-two-sum}
 use Rattle.errorfree.proofs.Halved.{sum-edge}
 use Rattle.emulation.specs.Constants.{half}
 use Rattle.emulation.specs.Lines.{value, less, zero, infinitely}
-use Rattle.emulation.specs.Sheets.{recomposed, halvedSum, sumInOrder, sumSheet}
+use Rattle.emulation.specs.Sheets.{recomposed, halvedSum, overflows, sumInOrder, swaps, sumSheet}
 use Rattle.emulation.proofs.Patterns.{add-width, sub-width}
 use Rattle.emulation.proofs.Constants.{half-value}
 use Rattle.emulation.proofs.Foots.{Foots, foots-infinite, foots-nan}
 use Rattle.emulation.proofs.Blocks.{first-cond, second-cond, recomposed-foot, recomposed-none, edge-foot, edge-none}
 use Rattle.errorfree.proofs.NoNumber as no-number
-use Rattle.errorfree.proofs.NoNumber.{not-both, none-zero, number-of, one-of, both-of, add-left, add-right, sub-left, sub-right, mul-right}
+use Rattle.errorfree.proofs.NoNumber.{not-both, none-zero, number-of, one-of, both-of, add-left, add-right, sub-left, sub-right, mul-right, sub-nan, nan-sub, add-kept}
 
 -- ---- which lines lead to the foot
 module _ (x y : ℕ) where
@@ -43,26 +43,31 @@ module _ (x y : ℕ) where
   abbrev b : ℕ
   b = subStep y (subStep a x)
 
-  abbrev overflows : Bool
-  overflows = not (zero (recomposed a b .second)) && infinitely a
+  abbrev edge : Bool
+  edge = overflows (recomposed a b .second) a
 
-  first-is : sumInOrder x y .first ≡ cond overflows (halvedSum x y a .first) (recomposed a b .first)
+  first-is : sumInOrder x y .first ≡ cond edge (halvedSum x y a .first) (recomposed a b .first)
   unfolding sumInOrder
-  first-is = first-cond overflows _ _
+  first-is = first-cond edge _ _
 
-  second-is : sumInOrder x y .second ≡ cond overflows (halvedSum x y a .second) (recomposed a b .second)
+  second-is : sumInOrder x y .second ≡ cond edge (halvedSum x y a .second) (recomposed a b .second)
   unfolding sumInOrder
-  second-is = second-cond overflows _ _
+  second-is = second-cond edge _ _
 
-  -- a is not infinite
-  pub plain-foot : (v : Value) → infinitely a ≡ false → Foots v (recomposed a b) → Foots v (sumInOrder x y)
-  plain-foot v h f =
-      let c : overflows ≡ false = ap (λ (i : Bool). not (zero (recomposed a b .second)) && i) h ∙ never (not (zero (recomposed a b .second))) in
-      (first-is ∙ ap (λ (i : Bool). cond i (halvedSum x y a .first) (recomposed a b .first)) c ∙ f .0, second-is ∙ ap (λ (i : Bool). cond i (halvedSum x y a .second) (recomposed a b .second)) c ∙ f .1)
+  -- only where a is infinite the edge is asked for
+  pub no-edge : infinitely a ≡ false → edge ≡ false
+  unfolding overflows
+  no-edge h = ap (λ (i : Bool). not (zero (recomposed a b .second)) && i) h ∙ never (not (zero (recomposed a b .second)))
     where
       never : (i : Bool) → i && false ≡ false
       never true = refl
       never false = refl
+
+  -- a is not infinite
+  pub plain-foot : (v : Value) → infinitely a ≡ false → Foots v (recomposed a b) → Foots v (sumInOrder x y)
+  plain-foot v h f =
+      let c = no-edge h in
+      (first-is ∙ ap (λ (i : Bool). cond i (halvedSum x y a .first) (recomposed a b .first)) c ∙ f .0, second-is ∙ ap (λ (i : Bool). cond i (halvedSum x y a .second) (recomposed a b .second)) c ∙ f .1)
 
   -- a is no number: v and b are none
   pub b-none : isFinite (value a) ≡ false → isFinite (value b) ≡ false
@@ -70,13 +75,17 @@ module _ (x y : ℕ) where
       ap isFinite (sub-decodes y (subStep a x))
       ∙ sub-right binary32 (value y) (value (subStep a x)) (ap isFinite (sub-decodes a x) ∙ sub-left binary32 (value a) (value x) h)
 
+  pub asks-edge : (s : Bool) → value a ≡ infinite s → edge ≡ true
+  unfolding overflows
+  asks-edge s h =
+      let n : isFinite (value a) ≡ false = ap isFinite h in
+      let z = none-zero (value b) (b-none n) in
+      ap₂ (λ (i j : Bool). not i && j) (ap zero (recomposed-none a b n z .1) ∙ z) (ap isInfinite h)
+
   -- a is infinite
   pub infinite-foot : (v : Value) (s : Bool) → value a ≡ infinite s → Foots v (halvedSum x y a) → Foots v (sumInOrder x y)
   infinite-foot v s h f =
-      let n : isFinite (value a) ≡ false = ap isFinite h in
-      let z = none-zero (value b) (b-none n) in
-      let r = recomposed-none a b n z in
-      let c : overflows ≡ true = ap₂ (λ (i j : Bool). not i && j) (ap zero (r .1) ∙ z) (ap isInfinite h) in
+      let c = asks-edge s h in
       (first-is ∙ ap (λ (i : Bool). cond i (halvedSum x y a .first) (recomposed a b .first)) c ∙ f .0, second-is ∙ ap (λ (i : Bool). cond i (halvedSum x y a .second) (recomposed a b .second)) c ∙ f .1)
 
 -- ---- finite operands, the first of which is not the smaller
@@ -143,33 +152,14 @@ module _ (x y : ℕ) (s t : Bool) (X Y : ℕ) (xi : value x ≡ finite s X) (yi 
       ]
 
 -- ---- infinities and NaN
-sub-nan : (w : Value) → subValue binary32 w nan ≡ nan
-unfolding subValue addValue negate plus finer round
-sub-nan nan = refl
-sub-nan (infinite s) = refl
-sub-nan (finite s k) = refl
-
-nan-sub : (w : Value) → subValue binary32 nan w ≡ nan
-unfolding subValue addValue plus finer round
-nan-sub w = refl
-
 module _ (x y : ℕ) where
-  -- what is infinite or NaN is not rounded
-  kept-nan : plus (value x) (value y) ≡ nan → addValue binary32 (value x) (value y) ≡ nan
-  unfolding addValue finer round
-  kept-nan e = rw e refl
-
-  kept-infinite : (s : Bool) → plus (value x) (value y) ≡ infinite s → addValue binary32 (value x) (value y) ≡ infinite s
-  unfolding addValue finer round
-  kept-infinite s e = rw e refl
-
   nan-foot : plus (value x) (value y) ≡ nan → Foots nan (sumInOrder x y)
   nan-foot e =
-      let k = kept-nan e in
+      let k = add-kept binary32 (value x) (value y) nan e refl in
       let v = subStep (a x y) x in
       let ai : value (a x y) ≡ nan = add-decodes x y ∙ k in
-      let vi : value v ≡ nan = sub-decodes (a x y) x ∙ ap (λ (u : Value). subValue binary32 u (value x)) ai ∙ nan-sub (value x) in
-      let bs : subValue binary32 (value y) (value v) ≡ nan = ap (subValue binary32 (value y)) vi ∙ sub-nan (value y) in
+      let vi : value v ≡ nan = sub-decodes (a x y) x ∙ ap (λ (u : Value). subValue binary32 u (value x)) ai ∙ nan-sub binary32 (value x) in
+      let bs : subValue binary32 (value y) (value v) ≡ nan = ap (subValue binary32 (value y)) vi ∙ sub-nan binary32 (value y) in
       let bi : value (b x y) ≡ nan = sub-decodes y v ∙ bs in
       let r = recomposed-none (a x y) (b x y) (ap isFinite ai) (ap isZero bi) in
       plain-foot x y nan (ap isInfinite ai) (foots-nan (recomposed (a x y) (b x y)) (r .0 ∙ add-step x y ∙ ap (encode binary32) k) (r .1 ∙ sub-step y v ∙ ap (encode binary32) bs))
@@ -186,7 +176,7 @@ module _ (x y : ℕ) where
   infinity-foot : (s : Bool) → plus (value x) (value y) ≡ infinite s → isFinite (value x) && isFinite (value y) ≡ false → Foots (infinite s) (sumInOrder x y)
   unfolding halvedSum
   infinity-foot s e n =
-      let k = kept-infinite s e in
+      let k = add-kept binary32 (value x) (value y) (infinite s) e refl in
       let ai : value (a x y) ≡ infinite s = add-decodes x y ∙ k in
       let a' = addStep (mulStep half x) (mulStep half y) in
       let b' = subStep (mulStep half y) (subStep a' (mulStep half x)) in
@@ -230,9 +220,9 @@ not-smaller (finite s m) (infinite t) h = refl
 not-smaller (finite s m) (finite t n) h = let l = ltb-true m n h in le-ltb n m (omega arith)
 
 pub sum-foot : (x y : ℕ) → Foots (finer binary32 (plus (value x) (value y))) (sumSheet x y)
-unfolding sumSheet
-sum-foot x y = by (less x y) refl
+unfolding sumSheet swaps
+sum-foot x y = by (swaps x y) refl
   where
-    by : (c : Bool) → less x y ≡ c → Foots (finer binary32 (plus (value x) (value y))) (cond c (sumInOrder y x) (sumInOrder x y))
+    by : (c : Bool) → swaps x y ≡ c → Foots (finer binary32 (plus (value x) (value y))) (cond c (sumInOrder y x) (sumInOrder x y))
     by true l = subst (λ (v : Value). Foots (finer binary32 v) (sumInOrder y x)) (plus-comm (value x) (value y)) (in-order y x (not-smaller (value x) (value y) l))
     by false l = in-order x y l

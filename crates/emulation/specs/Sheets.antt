@@ -1,7 +1,7 @@
 -- The step sheet of a question (document 01, "The step sheet"), in that section's order. Assumes nothing.
 -- Every name that stands for a result is the step of the line that it is written on; `EachLine` of Theorems says so of all lines.
 use Prim.Native.Nat.{ℕ, _^_}
-use mathlib.Core.Bool.{not, cond, _&&_}
+use mathlib.Core.Bool.{Bool, not, cond, _&&_}
 use mathlib.Core.List.{[], _∷_}
 use lib.Dec.{ltb, leb, eqb}
 use Rattle.rounding.specs.Format.{binary32}
@@ -10,7 +10,7 @@ use Rattle.binary32.specs.Classes.{flip}
 use Rattle.binary32.specs.Steps.{addStep, subStep, mulStep, fmaStep}
 use Rattle.augmented.specs.Direct.{Operation, sum, difference, product}
 use Rattle.emulation.specs.Constants.{psi, two, minusTwo, half, kappa, twoTo24, twoTo48, twoToMinus24, plusZero, smallest, twoTo127, twoTo102, twoToMinus102, twoToMinus126}
-use Rattle.emulation.specs.Lines.{add, subtract, multiply, line, fusedLine, Sheet, before, ends, value, minus, equal, less, signOf, zero, infinitely}
+use Rattle.emulation.specs.Lines.{add, subtract, multiply, Line, line, fusedLine, Sheet, before, ends, value, minus, equal, less, signOf, zero, infinitely}
 
 -- "Recomposition of (a, b), three lines: z = ψ·a; d = z - a; e = 2·b. If e = d the pair is (z, -b), otherwise (a, b)."
 unfoldable pub recomposition : ℕ → ℕ → Sheet
@@ -30,13 +30,16 @@ zeroFinish first second =
 unfoldable pub recomposed : ℕ → ℕ → Sheet
 recomposed a b = let r = recomposition a b in before (r .lines) (zeroFinish (r .first) (r .second))
 
--- "If a' = ±2^127 and b' is 2^102 with the other sign: first = κ·a', second = (-2)·b'. Otherwise both are a."
--- (Source document 002's algorithm 9 has 2^104 for 2^102.)
+-- "a' = ±2^127 and b' is 2^102 with the other sign"; "Its algorithm 9 prints the edge remainder as 2^(emax-p+1); 2^102 .. is right."
+unfoldable pub atEdge : ℕ → ℕ → Bool
+atEdge a' b' = equal a' (signOf a' twoTo127) && equal b' (minus (signOf a' twoTo102))
+
+-- "If ..: first = κ·a', second = (-2)·b'. Otherwise both are a."
 unfoldable pub edgeFinish : ℕ → ℕ → ℕ → Sheet
 edgeFinish a a' b' =
     let first = mulStep kappa a' in
     let second = mulStep minusTwo b' in
-    cond (equal a' (signOf a' twoTo127) && equal b' (minus (signOf a' twoTo102))) (before (line multiply kappa a' first ∷ line multiply minusTwo b' second ∷ []) (ends first second)) (ends a a)
+    cond (atEdge a' b') (before (line multiply kappa a' first ∷ line multiply minusTwo b' second ∷ []) (ends first second)) (ends a a)
 
 -- ---- "Sum"
 -- "x' = ½·x; y' = ½·y; a' = x' + y'; v' = a' - x'; b' = y' - v'", and the edge
@@ -49,6 +52,10 @@ halvedSum x y a =
     let b' = subStep y' v' in
     before (line multiply half x x' ∷ line multiply half y y' ∷ line add x' y' a' ∷ line subtract a' x' v' ∷ line subtract y' v' b' ∷ []) (edgeFinish a a' b')
 
+-- "second is not zero and a is infinite"
+unfoldable pub overflows : ℕ → ℕ → Bool
+overflows second a = not (zero second) && infinitely a
+
 -- "Lines a = x + y; v = a - x; b = y - v; recompose; zero finish. If second is not zero and a is infinite: .."
 unfoldable pub sumInOrder : ℕ → ℕ → Sheet
 sumInOrder x y =
@@ -56,11 +63,14 @@ sumInOrder x y =
     let v = subStep a x in
     let b = subStep y v in
     let r = recomposed a b in
-    before (line add x y a ∷ line subtract a x v ∷ line subtract y v b ∷ r .lines) (cond (not (zero (r .second)) && infinitely a) (halvedSum x y a) (ends (r .first) (r .second)))
+    before (line add x y a ∷ line subtract a x v ∷ line subtract y v b ∷ r .lines) (cond (overflows (r .second) a) (halvedSum x y a) (ends (r .first) (r .second)))
 
 -- "Swap if |y| > |x|."
+unfoldable pub swaps : ℕ → ℕ → Bool
+swaps x y = less x y
+
 unfoldable pub sumSheet : ℕ → ℕ → Sheet
-sumSheet x y = cond (less x y) (sumInOrder y x) (sumInOrder x y)
+sumSheet x y = cond (swaps x y) (sumInOrder y x) (sumInOrder x y)
 
 -- ---- "Product": "Line a = x·y, then by a"
 -- "infinite: h = ½·x; a' = h·y; b' = fused(h, y, -a'); the same edge test on a' and b', the same two lines, or both are a"
@@ -71,8 +81,20 @@ infiniteProduct x y a =
     let b' = fmaStep h y (minus a') in
     before (line multiply half x h ∷ line multiply h y a' ∷ fusedLine h y (minus a') b' ∷ []) (edgeFinish a a' b')
 
--- "m = 2^24·x; n = 2^24·y; t1 = m·n; t2 = fused(m, n, -t1); g = 2^48·a; t3 = t1 - g; z = t2 + t3; w = z - t3. If z is 2^-102 with the
--- sign opposite to a, and w = t2: first = a minus u with a's sign, one line. Otherwise first = a. Then second = (+0)·first"
+-- "a minus u with a's sign, one line"
+unfoldable pub lowered : ℕ → ℕ
+lowered a = subStep a (signOf a smallest)
+
+unfoldable pub lowering : ℕ → Line
+unfolding lowered
+lowering a = line subtract a (signOf a smallest) (lowered a)
+
+-- "z is 2^-102 with the sign opposite to a, and w = t2"
+unfoldable pub tinyTie : ℕ → ℕ → ℕ → ℕ → Bool
+tinyTie a z w t2 = equal z (minus (signOf a twoToMinus102)) && equal w t2
+
+-- "m = 2^24·x; n = 2^24·y; t1 = m·n; t2 = fused(m, n, -t1); g = 2^48·a; t3 = t1 - g; z = t2 + t3; w = z - t3. If ..:
+-- first = a minus u with a's sign, one line. Otherwise first = a. Then second = (+0)·first"
 unfoldable pub tinyProduct : ℕ → ℕ → ℕ → Sheet
 tinyProduct x y a =
     let m = mulStep twoTo24 x in
@@ -83,26 +105,27 @@ tinyProduct x y a =
     let t3 = subStep t1 g in
     let z = addStep t2 t3 in
     let w = subStep z t3 in
-    let tie = equal z (minus (signOf a twoToMinus102)) && equal w t2 in
-    let lower = subStep a (signOf a smallest) in
-    let first = cond tie lower a in
+    let tie = tinyTie a z w t2 in
+    let first = cond tie (lowered a) a in
     let second = mulStep plusZero first in
     before
     (line multiply twoTo24 x m ∷ line multiply twoTo24 y n ∷ line multiply m n t1 ∷ fusedLine m n (minus t1) t2 ∷ line multiply twoTo48 a g ∷ line subtract t1 g t3 ∷ line add t2 t3 z ∷ line subtract z t3 w ∷ [])
-    (before (cond tie (line subtract a (signOf a smallest) lower ∷ []) []) (before (line multiply plusZero first second ∷ []) (ends first second)))
+    (before (cond tie (lowering a ∷ []) []) (before (line multiply plusZero first second ∷ []) (ends first second)))
 
--- "first = 2^-24·A; β = 2^-24·B; g = 2^24·β; r = g - B. If β is not zero and r is 2^-126 with β's sign: β becomes β minus u with β's
--- sign, one line. Second is β; zero finish"
+-- "β is not zero and r is 2^-126 with β's sign"
+unfoldable pub restTie : ℕ → ℕ → Bool
+restTie β r = not (zero β) && equal r (signOf β twoToMinus126)
+
+-- "first = 2^-24·A; β = 2^-24·B; g = 2^24·β; r = g - B. If ..: β becomes β minus u with β's sign, one line. Second is β; zero finish"
 unfoldable pub scaledDown : ℕ → ℕ → Sheet
 scaledDown A B =
     let first = mulStep twoToMinus24 A in
     let β = mulStep twoToMinus24 B in
     let g = mulStep twoTo24 β in
     let r = subStep g B in
-    let tie = not (zero β) && equal r (signOf β twoToMinus126) in
-    let lower = subStep β (signOf β smallest) in
+    let tie = restTie β r in
     before (line multiply twoToMinus24 A first ∷ line multiply twoToMinus24 B β ∷ line multiply twoTo24 β g ∷ line subtract g B r ∷ [])
-    (before (cond tie (line subtract β (signOf β smallest) lower ∷ []) []) (zeroFinish first (cond tie lower β)))
+    (before (cond tie (lowering β ∷ []) []) (zeroFinish first (cond tie (lowered β) β)))
 
 -- "m = 2^24·x; a' = m·y; b' = fused(m, y, -a'); recompose into (A, B)", and so on
 unfoldable pub middleProduct : ℕ → ℕ → Sheet

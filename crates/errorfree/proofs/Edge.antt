@@ -5,7 +5,7 @@ use Prim.Native.Nat.{ℕ, suc, _+_, _-_, _*_, _^_, _≤_, _<_}
 use native.Mathlib.Nat.{le-refl, le-trans, le-of-eq, le-antisymm, mul-assoc, mul-left-comm, mul-right-comm, mul-le-mul-right, mul-lt-mul-of-pos-right, le-of-mul-le-mul-right, one-mul, pow-succ', suc-add, add-mul}
 use native.Mathlib.Decide.{decLe}
 use native.Mathlib.Omega.{arith}
-use borrow.Author.Tests.{lt-ltb, ne-eqb}
+use borrow.Author.Tests.{ne-eqb}
 use lib.Dec.{T, eqb}
 use lib.Ieee.{unlike}
 use lib.Pow.{pow-add, pow-pos, pow-mono}
@@ -21,12 +21,12 @@ use Rattle.rounding.proofs.RoundValue.{under-edge, over-edge, zero-at-edge}
 use Rattle.rounding.proofs.Halfway.{even-up}
 use Rattle.binary32.specs.Steps.{mulValue}
 use Rattle.augmented.specs.Pairs.{pairOf}
-use Rattle.augmented.proofs.Second.{unlike-true, first-infinite, second-infinite}
+use Rattle.augmented.proofs.Second.{first-infinite, second-infinite}
 use Rattle.errorfree.specs.Comparisons.{same}
 use Rattle.errorfree.specs.Constants.{Roomy, kappa, minusTwo}
-use Rattle.errorfree.proofs.Signed.{Rel, Is, rel-own, rel-not, rel-dist, same-eq, eq-same, and-both, and-make}
+use Rattle.errorfree.proofs.Signed.{Rel, Is, rel-own, rel-dist, same-eq, eq-same, and-both, and-make, rel-other, other-side}
 use Rattle.errorfree.proofs.Steps.{toEven, toZero, even-at, zero-at, round-whole, mul-positive, mul-finite}
-use Rattle.errorfree.proofs.Split.{Split0, side-of, finished-first, finished-second}
+use Rattle.errorfree.proofs.Split.{Split0, finished-first, finished-second}
 
 -- ---- the numbers at the edge, in units of u: 2 ^ 127 and 2 ^ 102 in binary32
 unfoldable pub halfLimit : Format → ℕ
@@ -181,14 +181,14 @@ module _ (F : Format) (room : Roomy F) where
     test-true t =
         let c = and-both (same (finite s A) (finite s (halfLimit F))) (same b (finite (not s) (edgeRest F))) t in
         let x : A + 0 ≡ halfLimit F + 0 = same-eq s (finite s A) (finite s (halfLimit F)) A 0 (halfLimit F) 0 (rel-own s A) (rel-own s (halfLimit F)) (c .0) in
-        let y : n + edgeRest F ≡ 0 + A = same-eq s b (finite (not s) (edgeRest F)) n A 0 (edgeRest F) i (rel-not s s (edgeRest F) (edgeRest F) 0 (rel-own s (edgeRest F))) (c .1) in
+        let y : n + edgeRest F ≡ 0 + A = same-eq s b (finite (not s) (edgeRest F)) n A 0 (edgeRest F) i (rel-other s (edgeRest F)) (c .1) in
         (omega arith, omega arith)
 
     test-make : A ≡ halfLimit F → n + edgeRest F ≡ halfLimit F → T atEdge
     test-make x y =
         and-make (same (finite s A) (finite s (halfLimit F))) (same b (finite (not s) (edgeRest F)))
         (eq-same s (finite s A) (finite s (halfLimit F)) A 0 (halfLimit F) 0 (rel-own s A) (rel-own s (halfLimit F)) (omega arith))
-        (eq-same s b (finite (not s) (edgeRest F)) n A 0 (edgeRest F) i (rel-not s s (edgeRest F) (edgeRest F) 0 (rel-own s (edgeRest F))) (omega arith))
+        (eq-same s b (finite (not s) (edgeRest F)) n A 0 (edgeRest F) i (rel-other s (edgeRest F)) (omega arith))
 
   -- a number below what is taken from it leaves a value of the other sign
   below-is : (s : Bool) (b : Value) (n A : ℕ) → Is s b n A → n < A → b ≡ finite (not s) (A - n)
@@ -196,7 +196,7 @@ module _ (F : Format) (room : Roomy F) where
   below-is s (infinite t) n A i h = absurd i
   below-is s (finite t m) n A i h =
       let d = rel-dist s t m n A i in
-      ap₂ (λ (r : Bool) (k : ℕ). finite r k) (side-of s t m n A i (λ (z : m ≡ 0). omega arith) ∙ ap (unlike s) (lt-ltb n A h) ∙ unlike-true s) (omega arith)
+      ap₂ (λ (r : Bool) (k : ℕ). finite r k) (other-side s t m n A i h) (omega arith)
 
   module _ (ok : Proper F) (s : Bool) (n : ℕ) (b : Value) (over : limit F ≤ toEven F (2 * n * 2 ^ low F)) (i : Is s b n (toEven F (n * 2 ^ low F))) where
     abbrev A : ℕ

@@ -17,7 +17,7 @@ use Rattle.rounding.proofs.Sterbenz.{dist-ge, add-ge, add-v, sub-le, sub-v}
 use Rattle.binary32.specs.Exact.{plus, finer}
 use Rattle.binary32.specs.Steps.{addValue, subValue}
 use Rattle.binary32.proofs.Sums.{like?, like-eq, unlike-eq, sum-same, sum-left, sum-none}
-use Rattle.errorfree.proofs.Signed.{Is, rel-own, rel-not, is-shift}
+use Rattle.errorfree.proofs.Signed.{Is, rel-own, is-shift, dist-shift, rel-other}
 use Rattle.errorfree.proofs.Steps.{toEven, even-at, error-le, is-sub}
 use Rattle.errorfree.proofs.Split.{Split}
 
@@ -25,9 +25,6 @@ use Rattle.errorfree.proofs.Split.{Split}
 pub add-finite : (F : Format) (x y : Value) (r : Bool) (n : ℕ) → plus x y ≡ finite r n → addValue F x y ≡ roundFinite ToEven F r (n * 2 ^ low F)
 unfolding addValue finer round
 add-finite F x y r n e = rw e refl
-
-dist-shift : (p n p' n' : ℕ) → p + n' ≡ p' + n → dist p n ≡ dist p' n'
-dist-shift p n p' n' e = omega arith
 
 dist-comm : (a b : ℕ) → dist a b ≡ dist b a
 dist-comm a b = omega arith
@@ -66,7 +63,7 @@ module _ (F : Format) (X Y : ℕ) (xr : Rep (suc (F .fraction)) 0 X) (yr : Rep (
       let ge = sub-le xr yr le h in
       let d : dist (A + 0) X ≡ X - A = omega arith in
       let g : dist X Y ≡ n = dist-ge le in
-      split-by F s n A h (lt-of-le-of-lt ge xb) (rw (dist-comm n A, ← g) (difference-error xr yr (rw g h))) (finite s X) (finite (not s) Y) X 0 0 Y (rel-own s X) (rel-not s s Y Y 0 (rel-own s Y)) (omega arith)
+      split-by F s n A h (lt-of-le-of-lt ge xb) (rw (dist-comm n A, ← g) (difference-error xr yr (rw g h))) (finite s X) (finite (not s) Y) X 0 0 Y (rel-own s X) (rel-other s Y) (omega arith)
       (rw d (sub-v xr yr le h)) (rw d (omega arith))
 
   -- nothing is left of opposite numbers

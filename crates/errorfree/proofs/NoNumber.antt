@@ -8,7 +8,7 @@ use lib.Ieee.{unlike}
 use Rattle.rounding.specs.Format.{Format}
 use Rattle.rounding.specs.Value.{Value, nan, infinite, finite, isFinite, isZero, round, RNe}
 use Rattle.binary32.specs.Exact.{negate, plus, times, finer}
-use Rattle.binary32.specs.Steps.{addValue, subValue, mulValue}
+use Rattle.binary32.specs.Steps.{addValue, subValue, mulValue, fmaValue}
 use Rattle.binary32.proofs.Special.{plus-comm}
 
 -- "is finite" does not hold of a value that is not
@@ -128,3 +128,36 @@ module _ (F : Format) (v w : Value) where
   pub sub-right : isFinite w ≡ false → isFinite (subValue F v w) ≡ false
   unfolding subValue
   sub-right h = add-right F v (negate w) (negate-none w h)
+
+-- ---- NaN, and infinities that stay as they are
+plus-nan : (v : Value) → plus v nan ≡ nan
+unfolding plus
+plus-nan nan = refl
+plus-nan (infinite s) = refl
+plus-nan (finite s k) = refl
+
+module _ (F : Format) where
+  pub sub-nan : (v : Value) → subValue F v nan ≡ nan
+  unfolding subValue addValue negate finer round
+  sub-nan v = ap (λ (w : Value). RNe F (finer F w)) (plus-nan v)
+
+  pub nan-sub : (v : Value) → subValue F nan v ≡ nan
+  unfolding subValue addValue plus finer round
+  nan-sub v = refl
+
+  pub fma-nan : (v w : Value) → fmaValue F v w nan ≡ nan
+  unfolding fmaValue finer round
+  fma-nan v w = ap (RNe F) (plus-nan (times v w))
+
+  -- an exact result that is no number is not rounded
+  pub add-kept : (v w u : Value) → plus v w ≡ u → isFinite u ≡ false → addValue F v w ≡ u
+  unfolding addValue finer round
+  add-kept v w nan e h = rw e refl
+  add-kept v w (infinite s) e h = rw e refl
+  add-kept v w (finite s a) e h = not-both h
+
+  pub mul-kept : (v w u : Value) → times v w ≡ u → isFinite u ≡ false → mulValue F v w ≡ u
+  unfolding mulValue round
+  mul-kept v w nan e h = rw e refl
+  mul-kept v w (infinite s) e h = rw e refl
+  mul-kept v w (finite s a) e h = not-both h

@@ -17,7 +17,7 @@ use Rattle.rounding.proofs.Rescaled.{dist-mul, near-up}
 use Rattle.rounding.proofs.ProductError.{product-error}
 use Rattle.binary32.specs.Exact.{negate, plus, times, finer}
 use Rattle.binary32.specs.Steps.{fmaValue}
-use Rattle.errorfree.proofs.Signed.{Rel, Is, rel-own, rel-not, rel-dist, is-plus, is-shift}
+use Rattle.errorfree.proofs.Signed.{Rel, Is, rel-own, rel-dist, is-plus, is-shift, rel-other}
 use Rattle.errorfree.proofs.Steps.{toEven, even-at, error-le, round-whole}
 use Rattle.errorfree.proofs.Split.{Split}
 
@@ -45,7 +45,7 @@ fused-rest F s a t b n A e rep lt =
     let U = 2 ^ low F in
     let v = plus (finite r (a * b)) (finite (not r) (A * U)) in
     let x : Rel r r (a * b) (n * U) 0 = subst (λ (z : ℕ). Rel r r (a * b) z 0) e (rel-own r (a * b)) in
-    let sum = is-plus r (finite r (a * b)) (finite (not r) (A * U)) (n * U) 0 0 (A * U) x (rel-not r r (A * U) (A * U) 0 (rel-own r (A * U))) in
+    let sum = is-plus r (finite r (a * b)) (finite (not r) (A * U)) (n * U) 0 0 (A * U) x (rel-other r (A * U)) in
     is-exact F r v n A (is-shift r v (n * U + 0) (0 + A * U) (n * U) (A * U) sum (omega arith)) rep lt
 
 -- ---- two numbers of the format and their product

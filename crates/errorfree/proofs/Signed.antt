@@ -1,13 +1,16 @@
 -- Values as differences of two whole numbers, seen from one sign: so that signs of zeros do not matter and all is linear. Assumes nothing.
-use mathlib.Core.Path.{_≡_, subst}
-use mathlib.Core.Bool.{Bool, true, false, not, _&&_, Bool·beq, cond, _||_}
+use mathlib.Core.Path.{_≡_, refl, sym, subst}
+use mathlib.Core.Bool.{Bool, true, false, not, _&&_, Bool·beq, _||_}
 use Prim.Native.Nat.{ℕ, _+_, _-_, _≤_, _<_}
-use native.Mathlib.Nat.{add-zero}
+use native.Mathlib.Nat.{add-zero, add-comm, le-of-lt}
+use mathlib.Core.Logic.{inl, inr}
 use native.Mathlib.Omega.{arith}
-use lib.Dec.{T, ltb, eqb, ltb→lt, nltb→le, eqb→eq, eqb-refl}
+use lib.Dec.{T, eqb, eqb→eq, eqb-refl}
 use Rattle.rounding.specs.Nearest.{dist}
 use Rattle.rounding.specs.Value.{Value, nan, infinite, finite}
+use Rattle.rounding.proofs.Compare.{tri}
 use Rattle.binary32.specs.Exact.{negate, plusFinite, plus}
+use Rattle.binary32.proofs.Sums.{like?, like-eq, unlike-eq, sum-same, sum-left, sum-right, sum-none}
 use Rattle.errorfree.specs.Comparisons.{same}
 
 -- ---- s * m is the number p - n, where the sign r counts as plus
@@ -34,6 +37,19 @@ rel-not false true m p n h = h
 rel-not true false m p n h = h
 rel-not true true m p n h = h
 
+pub rel-other : (s : Bool) (m : ℕ) → Rel s (not s) m 0 m
+rel-other s m = rel-not s s m m 0 (rel-own s m)
+
+pub dist-shift : (p n p' n' : ℕ) → p + n' ≡ p' + n → dist p n ≡ dist p' n'
+dist-shift p n p' n' e = omega arith
+
+-- a rest below zero has the other sign
+pub other-side : (s t : Bool) (m n f : ℕ) → Rel s t m n f → n < f → t ≡ not s
+other-side false true m n f h k = refl
+other-side true false m n f h k = refl
+other-side false false m n f h k = absurd (omega arith)
+other-side true true m n f h k = absurd (omega arith)
+
 pub rel-shift : (r s : Bool) (m p n p' n' : ℕ) → Rel r s m p n → p + n' ≡ p' + n → Rel r s m p' n'
 rel-shift false false m p n p' n' h e = omega arith
 rel-shift false true m p n p' n' h e = omega arith
@@ -52,44 +68,51 @@ is-negate r nan p n h = h
 is-negate r (infinite s) p n h = h
 is-negate r (finite s m) p n h = rel-not r s m p n h
 
--- where the exact sum is a value, the step is exact
-
 pub is-shift : (r : Bool) (x : Value) (p n p' n' : ℕ) → Is r x p n → p + n' ≡ p' + n → Is r x p' n'
 is-shift r nan p n p' n' h e = h
 is-shift r (infinite s) p n p' n' h e = h
 is-shift r (finite s m) p n p' n' h e = rel-shift r s m p n p' n' h e
 
 -- ---- exact sums
+rel-add : (r s : Bool) (a p n b p' n' : ℕ) → Rel r s a p n → Rel r s b p' n' → Rel r s (a + b) (p + p') (n + n')
+rel-add false false a p n b p' n' x y = omega arith
+rel-add false true a p n b p' n' x y = omega arith
+rel-add true false a p n b p' n' x y = omega arith
+rel-add true true a p n b p' n' x y = omega arith
+
+rel-take : (r s : Bool) (a p n b p' n' : ℕ) → b ≤ a → Rel r s a p n → Rel r (not s) b p' n' → Rel r s (a - b) (p + p') (n + n')
+rel-take false false a p n b p' n' h x y = omega arith
+rel-take false true a p n b p' n' h x y = omega arith
+rel-take true false a p n b p' n' h x y = omega arith
+rel-take true true a p n b p' n' h x y = omega arith
+
+-- nothing has every sign
+rel-none : (r s : Bool) (m p n : ℕ) → m ≡ 0 → Rel r s m p n → Rel r false 0 p n
+rel-none false false m p n z h = omega arith
+rel-none false true m p n z h = omega arith
+rel-none true false m p n z h = omega arith
+rel-none true true m p n z h = omega arith
+
 is-sum : (r s : Bool) (a p n : ℕ) (t : Bool) (b p' n' : ℕ) → Rel r s a p n → Rel r t b p' n' → Is r (plusFinite s a t b) (p + p') (n + n')
-unfolding plusFinite
-is-sum false false a p n false b p' n' x y = omega arith
-is-sum false true a p n true b p' n' x y = omega arith
-is-sum true false a p n false b p' n' x y = omega arith
-is-sum true true a p n true b p' n' x y = omega arith
-is-sum false false a p n true b p' n' x y = go (ltb b a) (ltb→lt b a) (nltb→le b a) (ltb a b) (ltb→lt a b) (nltb→le a b)
+is-sum r s a p n t b p' n' x y =
+    elim (like? s t) [
+      | inl e ↦ rw (sum-same s a t b e) (rel-add r s a p n b p' n' x (subst (λ (u : Bool). Rel r u b p' n') (sym (like-eq s t e)) y))
+      | inr e ↦
+          let y' : Rel r (not s) b p' n' = subst (λ (u : Bool). Rel r u b p' n') (unlike-eq s t e) y in
+          elim (tri a b) [
+            | inl h ↦
+                let x' : Rel r (not (not s)) a p n = subst (λ (u : Bool). Rel r u a p n) (sym (not-not s)) x in
+                rw (sum-right s a t b e h, unlike-eq s t e, add-comm p p', add-comm n n') (rel-take r (not s) b p' n' a p n (le-of-lt h) y' x')
+            | inr o ↦ elim o [
+              | inl h ↦ rw (sum-none s a t b e h) (rel-none r s (a - b) (p + p') (n + n') (omega arith) (rel-take r s a p n b p' n' (omega arith) x y'))
+              | inr h ↦ rw (sum-left s a t b e h) (rel-take r s a p n b p' n' (le-of-lt h) x y')
+            ]
+          ]
+    ]
   where
-    go : (c : Bool) → (T c → b < a) → (T (not c) → a ≤ b) → (d : Bool) → (T d → a < b) → (T (not d) → b ≤ a) → Is false (cond c (finite false (a - b)) (cond d (finite true (b - a)) (finite false 0))) (p + p') (n + n')
-    go true h k d u v = omega (arith, h tt)
-    go false h k true u v = omega (arith, u tt)
-    go false h k false u v = omega (arith, k tt, v tt)
-is-sum false true a p n false b p' n' x y = go (ltb b a) (ltb→lt b a) (nltb→le b a) (ltb a b) (ltb→lt a b) (nltb→le a b)
-  where
-    go : (c : Bool) → (T c → b < a) → (T (not c) → a ≤ b) → (d : Bool) → (T d → a < b) → (T (not d) → b ≤ a) → Is false (cond c (finite true (a - b)) (cond d (finite false (b - a)) (finite false 0))) (p + p') (n + n')
-    go true h k d u v = omega (arith, h tt)
-    go false h k true u v = omega (arith, u tt)
-    go false h k false u v = omega (arith, k tt, v tt)
-is-sum true false a p n true b p' n' x y = go (ltb b a) (ltb→lt b a) (nltb→le b a) (ltb a b) (ltb→lt a b) (nltb→le a b)
-  where
-    go : (c : Bool) → (T c → b < a) → (T (not c) → a ≤ b) → (d : Bool) → (T d → a < b) → (T (not d) → b ≤ a) → Is true (cond c (finite false (a - b)) (cond d (finite true (b - a)) (finite false 0))) (p + p') (n + n')
-    go true h k d u v = omega (arith, h tt)
-    go false h k true u v = omega (arith, u tt)
-    go false h k false u v = omega (arith, k tt, v tt)
-is-sum true true a p n false b p' n' x y = go (ltb b a) (ltb→lt b a) (nltb→le b a) (ltb a b) (ltb→lt a b) (nltb→le a b)
-  where
-    go : (c : Bool) → (T c → b < a) → (T (not c) → a ≤ b) → (d : Bool) → (T d → a < b) → (T (not d) → b ≤ a) → Is true (cond c (finite true (a - b)) (cond d (finite false (b - a)) (finite false 0))) (p + p') (n + n')
-    go true h k d u v = omega (arith, h tt)
-    go false h k true u v = omega (arith, u tt)
-    go false h k false u v = omega (arith, k tt, v tt)
+    not-not : (s : Bool) → not (not s) ≡ s
+    not-not false = refl
+    not-not true = refl
 
 pub is-plus : (r : Bool) (x y : Value) (p n p' n' : ℕ) → Is r x p n → Is r y p' n' → Is r (plus x y) (p + p') (n + n')
 unfolding plus

@@ -20,7 +20,7 @@ use Rattle.binary32.specs.Steps.{mulValue}
 use Rattle.augmented.specs.Pairs.{pairOf}
 use Rattle.augmented.proofs.Second.{head, tail, up, unlike-true, unlike-false, first-finite, pair-second}
 use Rattle.errorfree.specs.Constants.{zero}
-use Rattle.errorfree.proofs.Signed.{Rel, Is, rel-dist}
+use Rattle.errorfree.proofs.Signed.{Rel, Is, rel-dist, other-side}
 use Rattle.errorfree.proofs.Steps.{toZero, whole-near, zero-at, zero-times}
 
 -- n units of u with the sign s: A is nearest to n, and b is all of what is left
@@ -56,7 +56,7 @@ pub side-of : (s t : Bool) (m n f : ℕ) → Rel s t m n f → m ≢ 0 → t ≡
 side-of s t m n f h z =
     elim (decLe f n) [
       | yes g ↦ same s t h g ∙ sym (unlike-false s) ∙ sym (ap (unlike s) (le-ltb n f g))
-      | no g ↦ let k : n < f = omega arith in other s t h k ∙ sym (unlike-true s) ∙ sym (ap (unlike s) (lt-ltb n f k))
+      | no g ↦ let k : n < f = omega arith in other-side s t m n f h k ∙ sym (unlike-true s) ∙ sym (ap (unlike s) (lt-ltb n f k))
     ]
   where
     same : (s t : Bool) → Rel s t m n f → f ≤ n → t ≡ s
@@ -64,12 +64,6 @@ side-of s t m n f h z =
     same true true h k = refl
     same false true h k = absurd (z (omega arith))
     same true false h k = absurd (z (omega arith))
-
-    other : (s t : Bool) → Rel s t m n f → n < f → t ≡ not s
-    other false true h k = refl
-    other true false h k = refl
-    other false false h k = absurd (omega arith)
-    other true true h k = absurd (omega arith)
 
 pub ltb-scale : (n f U : ℕ) → 0 < U → ltb (n * U) (f * U) ≡ ltb n f
 ltb-scale n f U pos =

@@ -19,11 +19,8 @@ use Rattle.rounding.proofs.Sterbenz.{dist-le}
 use Rattle.binary32.specs.Exact.{plus, finer}
 use Rattle.binary32.specs.Steps.{addValue, subValue}
 use Rattle.errorfree.specs.Comparisons.{same}
-use Rattle.errorfree.proofs.Signed.{and-both, and-make, Rel, Is, rel-own, rel-not, rel-dist, is-plus, is-shift, same-eq, eq-same}
+use Rattle.errorfree.proofs.Signed.{and-both, and-make, Rel, Is, rel-own, rel-not, rel-dist, is-plus, is-shift, same-eq, eq-same, dist-shift, rel-other, other-side}
 use Rattle.errorfree.proofs.Steps.{toEven, even-at, is-sub}
-
-dist-shift : (p n p' n' : ℕ) → p + n' ≡ p' + n → dist p n ≡ dist p' n'
-dist-shift p n p' n' e = omega arith
 
 -- ---- a sum that may be rounded
 rounded-is : (F : Format) (r : Bool) (v : Value) (p n : ℕ) → Is r v p n → toEven F (dist p n * 2 ^ low F) < limit F
@@ -41,21 +38,12 @@ unfolding addValue
 add-rounded F r x y p n p' n' h k b = rounded-is F r (plus x y) (p + p') (n + n') (is-plus r x y p n p' n' h k) b
 
 -- ---- signs
-rel-other : (s : Bool) (m : ℕ) → Rel s (not s) m 0 m
-rel-other s m = rel-not s s m m 0 (rel-own s m)
-
 -- a difference that is not negative does not round to -H
 not-minus : (s u : Bool) (d Q G Z H : ℕ) → Rel s u d Q G → G ≤ Q → (d ≡ 0 → Z ≡ 0) → 0 < H → T (same (finite u Z) (finite (not s) H)) → ⊥
 not-minus false false d Q G Z H r le z h t = omega (arith, same-eq false (finite false Z) (finite true H) Z 0 0 H (rel-own false Z) (rel-other false H) t)
 not-minus false true d Q G Z H r le z h t = omega (arith, same-eq false (finite true Z) (finite true H) 0 Z 0 H (rel-other false Z) (rel-other false H) t, z (omega arith))
 not-minus true false d Q G Z H r le z h t = omega (arith, same-eq true (finite false Z) (finite false H) 0 Z 0 H (rel-other true Z) (rel-other true H) t, z (omega arith))
 not-minus true true d Q G Z H r le z h t = omega (arith, same-eq true (finite true Z) (finite false H) Z 0 0 H (rel-own true Z) (rel-other true H) t)
-
-minus-sign : (s u : Bool) (d Q G : ℕ) → Rel s u d Q G → Q < G → u ≡ not s
-minus-sign false true d Q G h k = refl
-minus-sign true false d Q G h k = refl
-minus-sign false false d Q G h k = absurd (omega arith)
-minus-sign true true d Q G h k = absurd (omega arith)
 
 -- ---- the test: T1 is nearest to Q and t2 is what is left, t3 is T1 - G, z is t2 + t3 rounded, and w is z - t3
 pub record Scaled (F : Format) (r : Bool) (T1 Q G H k : ℕ) (t2 : Value) : Type 0 where
@@ -129,7 +117,7 @@ module _ (F : Format) (r : Bool) (T1 Q G H k : ℕ) (t2 : Value) (h : Scaled F r
         is-sub F r (finite (not r) Z) t3 0 Z T1 G (rel-other r Z) t3-is (rw e (w-rep k (h .near) (h .G-rep) (h .G-grid) (h .top) (h .close) (h .error) less Z-below)) (rw e (w-bound Z G T1 H (limit F) T1-le Z-le (h .H-fine) (h .G-fine)))
 
     z-below : addValue F t2 t3 ≡ finite (not r) Z
-    z-below = z-is .1 ∙ ap (λ (s : Bool). finite s Z) (minus-sign r (z-is .0) (dist Q G) Q G (z-is .2) less)
+    z-below = z-is .1 ∙ ap (λ (s : Bool). finite s Z) (other-side r (z-is .0) (dist Q G) Q G (z-is .2) less)
 
     below-true : T tieUp → Q + H ≡ G
     below-true t =

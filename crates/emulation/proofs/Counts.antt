@@ -1,7 +1,7 @@
 -- How many lines a sheet has, by its branch. Assumes nothing.
 use mathlib.Core.Path.{_≡_, refl, sym, ap, ap₂, _∙_, subst}
 use mathlib.Core.Logic.{_⊎_, inl, inr}
-use mathlib.Core.Bool.{Bool, true, false, not, cond, _&&_}
+use mathlib.Core.Bool.{Bool, true, false, cond}
 use Prim.Native.Nat.{ℕ, suc, _+_}
 use native.Mathlib.Omega.{arith}
 use lib.ListN.{length, length-append}
@@ -12,10 +12,10 @@ use Rattle.binary32.specs.Steps.{addValue, addStep, subStep, mulStep}
 use Rattle.binary32.proofs.Theorems.{add-decodes}
 use Rattle.binary32.proofs.Special.{plus-comm}
 use Rattle.emulation.specs.Constants.{half}
-use Rattle.emulation.specs.Lines.{Sheet, ends, value, less, zero, infinitely}
+use Rattle.emulation.specs.Lines.{Sheet, ends, value, zero, infinitely}
 use Rattle.emulation.specs.Sheets.{recomposition, zeroFinish, recomposed, atEdge, edgeFinish, halvedSum, overflows, sumInOrder, swaps, sumSheet}
 use Rattle.emulation.specs.Theorems.{SumLines}
-use Rattle.emulation.proofs.Blocks.{recomposition-none, recomposed-none}
+use Rattle.emulation.proofs.Blocks.{recomposition-none}
 use Rattle.errorfree.proofs.NoNumber.{none-zero}
 use Rattle.emulation.proofs.Sums.{b-none, no-edge, asks-edge}
 

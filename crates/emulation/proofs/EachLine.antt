@@ -1,15 +1,13 @@
 -- Each line of a sheet has the step of its own operands for a result. Assumes nothing.
 use mathlib.Core.Path.{refl}
-use mathlib.Core.Bool.{Bool, true, false, not, cond, _&&_}
+use mathlib.Core.Bool.{Bool, true, false, cond}
 use mathlib.Core.List.{List, [], _∷_, _++_}
 use Prim.Native.Nat.{ℕ}
-use Rattle.rounding.specs.Format.{binary32}
 use Rattle.binary32.specs.Steps.{addStep, subStep, mulStep, fmaStep}
-use Rattle.binary32.specs.Classes.{flip}
 use Rattle.augmented.specs.Direct.{sum, difference, product}
-use Rattle.emulation.specs.Lines.{add, subtract, multiply, stepOf, Line, line, fusedLine, Sheet, before, ends, value, minus, equal, less, signOf, zero, infinitely}
-use Rattle.emulation.specs.Constants.{psi, two, minusTwo, half, kappa, twoTo24, twoTo48, twoToMinus24, plusZero, smallest, twoToMinus102, twoToMinus126}
-use Rattle.emulation.specs.Sheets.{Branch, isInfinite, isZero, isTiny, isMiddle, isOther, recomposition, zeroFinish, recomposed, atEdge, edgeFinish, halvedSum, overflows, sumInOrder, swaps, sumSheet, infiniteProduct, lowered, lowering, tinyTie, tinyProduct, restTie, scaledDown, middleProduct, otherProduct, branchOf, productBy, productSheet, sheetOf}
+use Rattle.emulation.specs.Lines.{add, subtract, multiply, stepOf, Line, line, fusedLine, Sheet, before, ends, value, minus, signOf, zero}
+use Rattle.emulation.specs.Constants.{psi, two, minusTwo, half, kappa, twoTo24, twoTo48, twoToMinus24, plusZero, smallest}
+use Rattle.emulation.specs.Sheets.{Branch, isInfinite, isZero, isTiny, isMiddle, isOther, recomposition, zeroFinish, recomposed, atEdge, edgeFinish, halvedSum, overflows, sumInOrder, swaps, sumSheet, infiniteProduct, lowered, lowering, tinyProduct, restTie, scaledDown, middleProduct, otherProduct, branchOf, productBy, productSheet, sheetOf}
 use Rattle.emulation.proofs.TinyResults as tiny
 use Rattle.emulation.specs.Theorems.{Each, EachLine}
 

@@ -7,6 +7,8 @@ pub mod Sums
 pub mod Products
 pub mod ProductSheet
 pub mod EachLine
+pub mod Derivation
+pub mod Derived
 pub mod Counts
 pub mod ProductCounts
 pub mod Theorems

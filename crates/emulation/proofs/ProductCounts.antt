@@ -10,22 +10,21 @@ use lib.Dec.{ltb, leb, eqb}
 use lib.Ieee.{unlike}
 use lib.ListN.{length}
 use Rattle.rounding.specs.Format.{binary32}
-use Rattle.rounding.specs.Value.{Value, nan, infinite, finite, Fits, isFinite, round, RNe}
+use Rattle.rounding.specs.Value.{Value, nan, infinite, finite, Fits, isFinite}
 use Rattle.rounding.specs.Value as values
 use Rattle.rounding.specs.declared.Ties.the-variants.{ToEven}
 use Rattle.rounding.proofs.RoundValue.{round-finite}
 use Rattle.rounding.proofs.Codec.{decode-fits}
-use Rattle.binary32.specs.Exact.{negate, plus, times, finer}
-use Rattle.binary32.specs.Steps.{fmaValue, addStep, subStep, mulStep, fmaStep}
+use Rattle.binary32.specs.Steps.{fmaValue, mulStep, fmaStep}
 use Rattle.binary32.proofs.Theorems.{mul-decodes, fma-decodes}
 use Rattle.errorfree.proofs.Steps.{toEven}
-use Rattle.emulation.specs.Constants.{half, twoTo24, twoTo48, plusZero, smallest, twoToMinus102}
-use Rattle.emulation.specs.Lines.{subtract, multiply, Line, line, value, minus, equal, signOf, zero}
-use Rattle.emulation.specs.Sheets.{Branch, isInfinite, isZero, isTiny, isMiddle, isOther, recomposition, zeroFinish, atEdge, recomposed, infiniteProduct, lowered, lowering, tinyTie, tinyProduct, scaledDown, middleProduct, otherProduct, branchOf, productBy, productSheet}
+use Rattle.emulation.specs.Constants.{half, plusZero}
+use Rattle.emulation.specs.Lines.{multiply, Line, line, value, minus, zero}
+use Rattle.emulation.specs.Sheets.{Branch, isInfinite, isZero, isTiny, isMiddle, isOther, recomposition, zeroFinish, atEdge, recomposed, infiniteProduct, lowering, tinyProduct, scaledDown, middleProduct, otherProduct, branchOf, productBy, productSheet}
 use Rattle.emulation.specs.Theorems.{ProductLines}
 use Rattle.emulation.proofs.TinyResults as tiny
 use Rattle.emulation.proofs.Counts.{finish-count, recomposed-count, recomposed-three, edge-count}
-use Rattle.emulation.proofs.Products.{first, β, tie, lower, corrected, p-value, corrected-nonzero}
+use Rattle.emulation.proofs.Products.{first, β, tie, corrected, p-value, corrected-nonzero}
 use Rattle.errorfree.proofs.NoNumber.{not-both, number-of, both-of, mul-none, fma-nan}
 use Rattle.emulation.proofs.Patterns.{mul-width, minus-nan}
 

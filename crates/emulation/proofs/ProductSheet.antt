@@ -12,11 +12,11 @@ use lib.Ieee.{unlike}
 use Rattle.rounding.specs.declared.Ties.the-variants.{ToEven}
 use Rattle.rounding.specs.Format.{binary32, limit}
 use Rattle.rounding.specs.Nearest.{Rep}
-use Rattle.rounding.specs.Value.{Value, nan, infinite, finite, Fits, encode, isFinite, isZero, round}
+use Rattle.rounding.specs.Value.{Value, nan, infinite, finite, Fits, encode, isFinite, isZero}
 use Rattle.rounding.proofs.RoundValue.{round-above}
 use Rattle.rounding.proofs.Codec.{decode-fits}
-use Rattle.binary32.specs.Exact.{plus, times}
-use Rattle.binary32.specs.Steps.{mulValue, fmaValue, mulStep, fmaStep}
+use Rattle.binary32.specs.Exact.{times}
+use Rattle.binary32.specs.Steps.{fmaValue, mulStep, fmaStep}
 use Rattle.binary32.proofs.Theorems.{mul-decodes, fma-decodes}
 use Rattle.binary32.proofs.Result.{mul-step, fma-step}
 use Rattle.errorfree.proofs.Steps.{toEven}

@@ -11,7 +11,7 @@ use Rattle.rounding.specs.Nearest.{Rep}
 use Rattle.rounding.specs.Value.{Value, infinite, finite, isFinite, isZero, roundFinite}
 use Rattle.rounding.proofs.RoundValue.{round-below, round-above}
 use Rattle.binary32.specs.Exact.{negate}
-use Rattle.binary32.specs.Steps.{mulValue, fmaValue, subValue, addStep, subStep, mulStep, fmaStep}
+use Rattle.binary32.specs.Steps.{mulValue, fmaValue, subValue, subStep, mulStep, fmaStep}
 use Rattle.binary32.proofs.Theorems.{add-decodes, sub-decodes, mul-decodes, fma-decodes}
 use Rattle.errorfree.specs.Comparisons.{same}
 use Rattle.errorfree.specs.Constants as factor
@@ -24,7 +24,7 @@ use Rattle.errorfree.proofs.Tiny.{zero-pair, tiny-pair}
 use Rattle.errorfree.proofs.MiddleSecond.{stepped}
 use Rattle.errorfree.proofs.Middle.{Scaled, Finished, middle-split, middle-first, middle-second}
 use Rattle.emulation.specs.Constants.{half, twoTo24, twoTo48, twoToMinus24, plusZero, smallest, twoToMinus102, twoToMinus126}
-use Rattle.emulation.specs.Lines.{ends, value, minus, equal, signOf, zero}
+use Rattle.emulation.specs.Lines.{ends, value, minus, signOf, zero}
 use Rattle.emulation.specs.Sheets.{recomposition, recomposed, infiniteProduct, lowered, tinyTie, tinyProduct, restTie, scaledDown, middleProduct, otherProduct}
 use Rattle.emulation.proofs.Patterns.{Pattern, sub-width, mul-width, fma-width, minus-value, negate-finite, sign-value, sign-width}
 use Rattle.emulation.proofs.Constants.{half-value, up-value, up-up-value, down-value, zero-value, tie-value, lowest-value, smallest-value}

@@ -14,7 +14,7 @@ use Rattle.rounding.specs.Value.{Value, nan, infinite, finite, Fits, encode, is
 use Rattle.rounding.proofs.NearLaws.{near-le}
 use Rattle.rounding.proofs.RoundValue.{round-below, round-above}
 use Rattle.rounding.proofs.Codec.{decode-fits}
-use Rattle.binary32.specs.Exact.{negate, plus, finer}
+use Rattle.binary32.specs.Exact.{plus, finer}
 use Rattle.binary32.specs.Steps.{addValue, subValue, mulValue, addStep, subStep, mulStep}
 use Rattle.binary32.proofs.Theorems.{add-decodes, sub-decodes, mul-decodes}
 use Rattle.binary32.proofs.Result.{add-step, sub-step}

@@ -12,10 +12,11 @@ use Rattle.augmented.specs.Direct.{sum, difference, product}
 use Rattle.augmented.proofs.Read.{first-pattern, second-pattern}
 use Rattle.emulation.specs.Lines.{value}
 use Rattle.emulation.specs.Sheets.{Branch, isInfinite, isZero, isTiny, isMiddle, isOther, branchOf, sheetOf}
-use Rattle.emulation.specs.Theorems.{ConstantValues, EachLine, AtMost13, SumLines, ProductLines, LineCounts, FootIsPair, All}
+use Rattle.emulation.specs.Theorems.{ConstantValues, EachLine, Derived, AtMost13, SumLines, ProductLines, LineCounts, FootIsPair, All}
 use Rattle.emulation.proofs.Sums.{sum-foot}
 use Rattle.emulation.proofs.ProductSheet.{product-foot}
 use Rattle.emulation.proofs.EachLine as lines
+use Rattle.emulation.proofs.Derived as derivation
 use Rattle.emulation.proofs.Counts.{sum-lines}
 use Rattle.emulation.proofs.ProductCounts.{product-lines, nan-lines}
 
@@ -26,6 +27,9 @@ constant-values = (refl, refl, refl, refl, refl, refl, refl, refl, refl, refl, r
 -- ---- the lines
 pub each-line : EachLine
 each-line = lines.each-line
+
+pub derived : Derived
+derived = derivation.derived
 
 pub line-counts : LineCounts
 unfolding sheetOf
@@ -56,4 +60,4 @@ foot-is-pair difference x y = (sum-foot x (flip binary32 y) .0 ∙ sym (first-pa
 foot-is-pair product x y = (product-foot x y .0 ∙ sym (first-pattern product binary32 x y), product-foot x y .1 ∙ sym (second-pattern product binary32 x y))
 
 pub all : All
-all = (constant-values, each-line, at-most-13, line-counts, foot-is-pair)
+all = (constant-values, each-line, derived, at-most-13, line-counts, foot-is-pair)

@@ -11,7 +11,7 @@ use Rattle.binary32.specs.Classes.{flip}
 use Rattle.binary32.specs.Steps.{addStep, mulStep}
 use Rattle.augmented.specs.Direct.{Operation, sum, difference, product, directPair}
 use Rattle.emulation.specs.Constants.{psi, two, minusTwo, half, kappa, twoTo24, twoTo48, twoToMinus24, plusZero, smallest, twoTo127, twoTo102, twoToMinus102, twoToMinus126}
-use Rattle.emulation.specs.Lines.{Step, add, subtract, multiply, fused, stepOf, Line, value}
+use Rattle.emulation.specs.Lines.{Step, add, subtract, multiply, fused, stepOf, Line, value, minus}
 use Rattle.emulation.specs.Sheets.{Branch, isInfinite, isZero, isTiny, isMiddle, isOther, branchOf, sheetOf}
 
 -- ---- what the constants stand for: magnitudes count u = 2^-149, so 1 is 2 ^ 149
@@ -40,6 +40,30 @@ Each (l ∷ ls) = IsStep l × Each ls
 
 abbrev pub EachLine : Type 0
 EachLine = (o : Operation) (x y : ℕ) → Each (sheetOf o x y .lines)
+
+-- ---- where the lines come from and lead to
+-- p is one of ks, or one of them with its sign flipped
+unfoldable pub Among : ℕ → List ℕ → Type 0
+Among p [] = ⊥
+Among p (k ∷ ks) = (p ≡ k) ⊎ (p ≡ minus k) ⊎ Among p ks
+
+-- each line's operands are among what is known before it, and its result is known after it
+unfoldable pub Known : List ℕ → List Line → Type 0
+Known ks [] = Unit {0}
+Known ks (l ∷ ls) = Among (l .first) ks × Among (l .second) ks × Among (l .third) ks × Known (l .result ∷ ks) ls
+
+abbrev pub results : List Line → List ℕ
+results [] = []
+results (l ∷ ls) = l .result ∷ results ls
+
+abbrev pub constants : List ℕ
+constants = psi ∷ two ∷ minusTwo ∷ half ∷ kappa ∷ twoTo24 ∷ twoTo48 ∷ twoToMinus24 ∷ plusZero ∷ smallest ∷ []
+
+-- known at first are the question's patterns and the constants (an unused third operand is +0's pattern); the foot is among the results
+abbrev pub Derived : Type 0
+Derived =
+    (o : Operation) (x y : ℕ) → let s = sheetOf o x y in
+    Known (x ∷ y ∷ constants) (s .lines) × Among (s .first) (results (s .lines)) × Among (s .second) (results (s .lines))
 
 -- ---- their count: "at most 13 lines"
 abbrev pub AtMost13 : Type 0
@@ -72,4 +96,4 @@ FootIsPair = (o : Operation) (x y : ℕ) → (sheetOf o x y .first ≡ directPai
 
 -- ---- all of them: `proofs/Theorems.antt` proves this
 abbrev pub All : Type 0
-All = ConstantValues × EachLine × AtMost13 × LineCounts × FootIsPair
+All = ConstantValues × EachLine × Derived × AtMost13 × LineCounts × FootIsPair

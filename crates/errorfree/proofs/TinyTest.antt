@@ -1,5 +1,5 @@
 -- The test for a tie that went up, on the scaled product Q and the scaled rounded product G: true exactly where Q is H below G. Assumes nothing.
-use mathlib.Core.Path.{_≡_, refl, ap, _∙_, subst}
+use mathlib.Core.Path.{_≡_, ap, _∙_, subst}
 use mathlib.Core.Bool.{Bool, true, false, not, _&&_}
 use Prim.Native.Nat.{ℕ, suc, _+_, _-_, _*_, _^_, _≤_, _<_}
 use native.Mathlib.Nat.{le-of-eq}
@@ -19,7 +19,7 @@ use Rattle.rounding.proofs.Sterbenz.{dist-le}
 use Rattle.binary32.specs.Exact.{plus, finer}
 use Rattle.binary32.specs.Steps.{addValue, subValue}
 use Rattle.errorfree.specs.Comparisons.{same}
-use Rattle.errorfree.proofs.Signed.{and-both, and-make, Rel, Is, rel-own, rel-not, rel-dist, is-plus, is-shift, same-eq, eq-same, dist-shift, rel-other, other-side}
+use Rattle.errorfree.proofs.Signed.{and-both, and-make, Rel, Is, rel-own, rel-dist, is-plus, is-shift, same-eq, eq-same, dist-shift, rel-other, other-side}
 use Rattle.errorfree.proofs.Steps.{toEven, even-at, is-sub}
 
 -- ---- a sum that may be rounded

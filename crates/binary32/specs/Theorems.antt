@@ -22,7 +22,7 @@ ClassDecodes = (x : ℕ) → valueOf (classOf x) ≡ decode binary32 x
 abbrev pub ClassBounded : Type 0
 ClassBounded = (x : ℕ) → Bounded Operand (classOf x)
 
--- "Swap if |y| > |x|": both operands, the larger magnitude first; where both are equal, x
+-- both operands, the larger of the bits below the sign first, a NaN's among them; where both are equal, x
 abbrev pub LargerFirst : Type 0
 LargerFirst =
     (x y : ℕ) → (((larger x y ≡ x) × (smaller x y ≡ y)) ⊎ ((larger x y ≡ y) × (smaller x y ≡ x))) × (smaller x y % 2 ^ 31 ≤ larger x y % 2 ^ 31)

@@ -11,14 +11,15 @@ use Rattle.binary32.specs.Steps.{addValue, subValue, mulValue, subStep, mulStep
 use Rattle.binary32.proofs.Theorems.{sub-decodes, mul-decodes}
 use Rattle.errorfree.specs.Comparisons.{same}
 use Rattle.errorfree.specs.Constants as factor
+use Rattle.errorfree.proofs.Factors as factors
 use Rattle.errorfree.proofs.Steps.{toZero}
 use Rattle.errorfree.proofs.Split.{Split, Split0, finished-first, finished-second}
 use Rattle.errorfree.proofs.Recomposed as split
 use Rattle.errorfree.proofs.Edge.{halfLimit, edgeRest}
 use Rattle.errorfree.proofs.Halved.{EdgePair}
 use Rattle.emulation.specs.Constants.{psi, two, minusTwo, kappa, plusZero, twoTo127, twoTo102}
-use Rattle.emulation.specs.Lines.{Sheet, value, minus, equal, signOf, zero}
-use Rattle.emulation.specs.Sheets.{recomposition, zeroFinish, recomposed, atEdge, edgeFinish}
+use Rattle.emulation.specs.Lines.{Sheet, value, minus, equal, copySign, zero}
+use Rattle.emulation.specs.Sheets.{recomposition, zeroFinish, recomposedFinished, atEdge, edgeFinish}
 use Rattle.emulation.proofs.Patterns.{Pattern, mul-width, minus-width, minus-value, negate-finite, sign-value, sign-width}
 use Rattle.emulation.proofs.Constants.{psi-value, two-value, minus-two-value, kappa-value, zero-value, half-limit-value, edge-rest-value}
 use Rattle.emulation.proofs.Foots.{Foots, foots}
@@ -74,11 +75,11 @@ module _ (first second : ℕ) where
   unfolding zeroFinish
   finish-first = first-cond (zero second) _ _ ∙ either (zero second) first
 
-  finish-pattern : zeroFinish first second .second ≡ cond (zero second) (mulStep plusZero first) second
+  pub finish-pattern : zeroFinish first second .second ≡ cond (zero second) (mulStep plusZero first) second
   unfolding zeroFinish
   finish-pattern = second-cond (zero second) _ _
 
-  pub finish-second : value (zeroFinish first second .second) ≡ cond (isZero (value second)) (mulValue binary32 factor.zero (value first)) (value second)
+  pub finish-second : value (zeroFinish first second .second) ≡ cond (isZero (value second)) (mulValue binary32 factors.zero (value first)) (value second)
   finish-second =
       ap value finish-pattern ∙ value-cond (zero second) (mulStep plusZero first) second
       ∙ cond-eq (zero second) (mul-decodes plusZero first ∙ ap (λ (v : Value). mulValue binary32 v (value first)) zero-value) refl
@@ -87,15 +88,15 @@ module _ (first second : ℕ) where
   finish-width w = rw finish-pattern (width-cond (zero second) (mulStep plusZero first) second (mul-width plusZero first) w)
 
 -- ---- recomposition and zero finish: the pair of n units with the sign s
-pub recomposed-foot : (s : Bool) (n A a b : ℕ) → value a ≡ finite s A → Pattern a → Pattern b → Split binary32 s n A (value b) → Foots (finite s (n * 2 ^ low binary32)) (recomposed a b)
-unfolding recomposed
+pub recomposed-foot : (s : Bool) (n A a b : ℕ) → value a ≡ finite s A → Pattern a → Pattern b → Split binary32 s n A (value b) → Foots (finite s (n * 2 ^ low binary32)) (recomposedFinished a b)
+unfolding recomposedFinished
 recomposed-foot s n A a b ai wa wb h =
     let first = recomposition a b .first in
     let second = recomposition a b .second in
     let f = toZero binary32 (n * 2 ^ low binary32) in
     let k = recomposition-split s n A a b ai wb h in
     let w = recomposition-widths a b wa wb in
-    foots s (n * 2 ^ low binary32) (recomposed a b) (rw (finish-first first second) (w .0)) (finish-width first second (w .1))
+    foots s (n * 2 ^ low binary32) (recomposedFinished a b) (rw (finish-first first second) (w .0)) (finish-width first second (w .1))
     (ap value (finish-first first second) ∙ finished-first binary32 s n f (value first) (value second) k, finish-second first second ∙ finished-second binary32 s n f (value first) (value second) k)
 
 -- ---- where a is no number, nothing is chosen and nothing finished
@@ -122,8 +123,8 @@ recomposition-none a b h =
     let c : equal (mulStep two b) d ≡ false = ap (same (value (mulStep two b))) di ∙ same-nan (value (mulStep two b)) in
     rw c (refl, refl)
 
-pub recomposed-none : (a b : ℕ) → isFinite (value a) ≡ false → zero b ≡ false → (recomposed a b .first ≡ a) × (recomposed a b .second ≡ b)
-unfolding recomposed
+pub recomposed-none : (a b : ℕ) → isFinite (value a) ≡ false → zero b ≡ false → (recomposedFinished a b .first ≡ a) × (recomposedFinished a b .second ≡ b)
+unfolding recomposedFinished
 recomposed-none a b h k =
     let r = recomposition-none a b h in (
       finish-first (recomposition a b .first) (recomposition a b .second) ∙ r .0,
@@ -132,7 +133,7 @@ recomposed-none a b h k =
 
 -- ---- the edge
 module _ (a a' b' : ℕ) where
-  edge-first : edgeFinish a a' b' .first ≡ cond (atEdge a' b') (mulStep kappa a') a
+  pub edge-first : edgeFinish a a' b' .first ≡ cond (atEdge a' b') (mulStep kappa a') a
   unfolding edgeFinish
   edge-first = first-cond (atEdge a' b') _ _
 
@@ -145,17 +146,17 @@ module _ (a a' b' : ℕ) where
     test-is : atEdge a' b' ≡ same (value a') (finite s (halfLimit binary32)) && same (value b') (finite (not s) (edgeRest binary32))
     unfolding negate atEdge
     test-is =
-        let w : Pattern (signOf a' twoTo102) = sign-width a' twoTo102 (omega arith) in
+        let w : Pattern (copySign twoTo102 a') = sign-width a' twoTo102 (omega arith) in
         ap₂ (λ (v u : Value). same (value a') v && same (value b') u) (sign-value a' s A ei twoTo127 (halfLimit binary32) (omega arith) half-limit-value)
-        (minus-value (signOf a' twoTo102) w ∙ ap negate (sign-value a' s A ei twoTo102 (edgeRest binary32) (omega arith) edge-rest-value))
+        (minus-value (copySign twoTo102 a') w ∙ ap negate (sign-value a' s A ei twoTo102 (edgeRest binary32) (omega arith) edge-rest-value))
 
     pub edge-foot : (N : ℕ) → value a ≡ infinite s → Pattern a → EdgePair binary32 s N (value a') (value b') → Foots (finite s N) (edgeFinish a a' b')
     edge-foot N ai wa p =
         foots s N (edgeFinish a a' b') (rw edge-first (width-cond (atEdge a' b') (mulStep kappa a') a (mul-width kappa a') wa)) (rw edge-second (width-cond (atEdge a' b') (mulStep minusTwo b') a (mul-width minusTwo b') wa)) (
           ap value edge-first ∙ value-cond (atEdge a' b') (mulStep kappa a') a ∙ cond-eq (atEdge a' b') (mul-decodes kappa a' ∙ ap (λ (v : Value). mulValue binary32 v (value a')) kappa-value) ai
-              ∙ ap (λ (c : Bool). cond c (mulValue binary32 (factor.kappa binary32) (value a')) (infinite s)) test-is ∙ p .0,
+              ∙ ap (λ (c : Bool). cond c (mulValue binary32 (factors.kappa binary32) (value a')) (infinite s)) test-is ∙ p .0,
           ap value edge-second ∙ value-cond (atEdge a' b') (mulStep minusTwo b') a ∙ cond-eq (atEdge a' b') (mul-decodes minusTwo b' ∙ ap (λ (v : Value). mulValue binary32 v (value b')) minus-two-value) ai
-              ∙ ap (λ (c : Bool). cond c (mulValue binary32 (factor.minusTwo binary32) (value b')) (infinite s)) test-is ∙ p .1,
+              ∙ ap (λ (c : Bool). cond c (mulValue binary32 (factors.minusTwo binary32) (value b')) (infinite s)) test-is ∙ p .1,
         )
 
   -- a' is none
@@ -168,9 +169,9 @@ module _ (a a' b' : ℕ) where
       none (infinite s) b m h = unfold same in refl
       none (finite s m) b k h = absurd (subst (λ (b : Bool). T b) h tt)
 
-      by : (b : Bool) → same (value a') (value (cond b (minus twoTo127) twoTo127)) && equal b' (minus (signOf a' twoTo102)) ≡ false
-      by true = ap (λ (c : Bool). c && equal b' (minus (signOf a' twoTo102))) (ap (same (value a')) (minus-value twoTo127 (omega arith) ∙ ap negate half-limit-value ∙ negate-finite false (halfLimit binary32)) ∙ none (value a') true (halfLimit binary32) h)
-      by false = ap (λ (c : Bool). c && equal b' (minus (signOf a' twoTo102))) (ap (same (value a')) half-limit-value ∙ none (value a') false (halfLimit binary32) h)
+      by : (b : Bool) → same (value a') (value (cond b (minus twoTo127) twoTo127)) && equal b' (minus (copySign twoTo102 a')) ≡ false
+      by true = ap (λ (c : Bool). c && equal b' (minus (copySign twoTo102 a'))) (ap (same (value a')) (minus-value twoTo127 (omega arith) ∙ ap negate half-limit-value ∙ negate-finite false (halfLimit binary32)) ∙ none (value a') true (halfLimit binary32) h)
+      by false = ap (λ (c : Bool). c && equal b' (minus (copySign twoTo102 a'))) (ap (same (value a')) half-limit-value ∙ none (value a') false (halfLimit binary32) h)
 
   pub edge-none : isFinite (value a') ≡ false → (edgeFinish a a' b' .first ≡ a) × (edgeFinish a a' b' .second ≡ a)
   edge-none h = (edge-first ∙ ap (λ (c : Bool). cond c (mulStep kappa a') a) (no-test h), edge-second ∙ ap (λ (c : Bool). cond c (mulStep minusTwo b') a) (no-test h))

@@ -5,6 +5,7 @@ use Prim.Native.Nat.{_^_}
 use Rattle.rounding.specs.Format.{binary32}
 use Rattle.rounding.specs.Value.{finite, decode}
 use Rattle.errorfree.specs.Constants as factor
+use Rattle.errorfree.proofs.Factors as factors
 use Rattle.errorfree.proofs.Edge.{halfLimit, edgeRest}
 use Rattle.emulation.specs.Constants.{psi, two, minusTwo, half, kappa, twoTo24, twoTo48, twoToMinus24, plusZero, smallest, twoTo127, twoTo102, twoToMinus102, twoToMinus126}
 use Rattle.emulation.specs.Lines.{value}
@@ -18,31 +19,31 @@ pub two-value : value two ≡ factor.two binary32
 unfolding decode
 two-value = refl
 
-pub minus-two-value : value minusTwo ≡ factor.minusTwo binary32
+pub minus-two-value : value minusTwo ≡ factors.minusTwo binary32
 unfolding decode
 minus-two-value = refl
 
-pub half-value : value half ≡ factor.half binary32
+pub half-value : value half ≡ factors.half binary32
 unfolding decode
 half-value = refl
 
-pub kappa-value : value kappa ≡ factor.kappa binary32
+pub kappa-value : value kappa ≡ factors.kappa binary32
 unfolding decode
 kappa-value = refl
 
-pub up-value : value twoTo24 ≡ factor.up binary32
+pub up-value : value twoTo24 ≡ factors.scale binary32
 unfolding decode
 up-value = refl
 
-pub up-up-value : value twoTo48 ≡ factor.upUp binary32
+pub up-up-value : value twoTo48 ≡ factors.scaleTwice binary32
 unfolding decode
 up-up-value = refl
 
-pub down-value : value twoToMinus24 ≡ factor.down binary32
+pub down-value : value twoToMinus24 ≡ factors.unscale binary32
 unfolding decode
 down-value = refl
 
-pub zero-value : value plusZero ≡ factor.zero
+pub zero-value : value plusZero ≡ factors.zero
 unfolding decode
 zero-value = refl
 

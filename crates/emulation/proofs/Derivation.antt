@@ -6,9 +6,9 @@ use mathlib.Core.List.{List, [], _∷_, _++_}
 use Prim.Native.Nat.{ℕ}
 use Rattle.binary32.specs.Steps.{subStep, mulStep}
 use Rattle.emulation.specs.Constants.{psi, two, minusTwo, half, kappa, twoTo24, twoTo48, twoToMinus24, plusZero, smallest}
-use Rattle.emulation.specs.Lines.{Step, subtract, multiply, Line, line, fusedLine, Sheet, before, ends, minus, equal, zero}
-use Rattle.emulation.specs.Sheets.{recomposition, zeroFinish, recomposed, atEdge, edgeFinish}
-use Rattle.emulation.specs.Theorems.{Among, Known, results, constants}
+use Rattle.emulation.specs.Lines.{add, subtract, multiply, Line, line, fusedLine, Sheet, before, ends, minus, equal, zero}
+use Rattle.emulation.specs.Sheets.{recomposition, zeroFinish, recomposedFinished, atEdge, edgeFinish}
+use Rattle.emulation.specs.Theorems.{Among, Member, factors, Known, results}
 
 -- ---- members
 pub here : (p : ℕ) (ks : List ℕ) → Among p (p ∷ ks)
@@ -67,67 +67,75 @@ pub own : (p : ℕ) (ls : List Line) → Among p (after [] ls) → Among p (resu
 unfolding Among
 own p ls h = elim (from-after p [] ls h) [ inl g ↦ absurd g | inr g ↦ g ]
 
--- ---- the constants
-pub psi-in : Among psi constants
-unfolding Among
+-- ---- the factors
+pub psi-in : Member psi factors
+unfolding Member
 psi-in = inl refl
 
-pub two-in : Among two constants
-unfolding Among
-two-in = inr (inr (inl refl))
+pub two-in : Member two factors
+unfolding Member
+two-in = inr (inl refl)
 
-minus-two-in : Among minusTwo constants
-unfolding Among
-minus-two-in = inr (inr (inr (inr (inl refl))))
+pub minus-two-in : Member minusTwo factors
+unfolding Member
+minus-two-in = inr (inr (inl refl))
 
-pub half-in : Among half constants
-unfolding Among
-half-in = inr (inr (inr (inr (inr (inr (inl refl))))))
+pub half-in : Member half factors
+unfolding Member
+half-in = inr (inr (inr (inl refl)))
 
-kappa-in : Among kappa constants
-unfolding Among
-kappa-in = inr (inr (inr (inr (inr (inr (inr (inr (inl refl))))))))
+pub kappa-in : Member kappa factors
+unfolding Member
+kappa-in = inr (inr (inr (inr (inl refl))))
 
-pub up-in : Among twoTo24 constants
-unfolding Among
-up-in = inr (inr (inr (inr (inr (inr (inr (inr (inr (inr (inl refl))))))))))
+pub up-in : Member twoTo24 factors
+unfolding Member
+up-in = inr (inr (inr (inr (inr (inl refl)))))
 
-pub up-up-in : Among twoTo48 constants
-unfolding Among
-up-up-in = inr (inr (inr (inr (inr (inr (inr (inr (inr (inr (inr (inr (inl refl))))))))))))
+pub up-up-in : Member twoTo48 factors
+unfolding Member
+up-up-in = inr (inr (inr (inr (inr (inr (inl refl))))))
 
-pub down-in : Among twoToMinus24 constants
-unfolding Among
-down-in = inr (inr (inr (inr (inr (inr (inr (inr (inr (inr (inr (inr (inr (inr (inl refl))))))))))))))
+pub down-in : Member twoToMinus24 factors
+unfolding Member
+down-in = inr (inr (inr (inr (inr (inr (inr (inl refl)))))))
 
-pub zero-in : Among plusZero constants
-unfolding Among
-zero-in = inr (inr (inr (inr (inr (inr (inr (inr (inr (inr (inr (inr (inr (inr (inr (inr (inl refl))))))))))))))))
+pub zero-in : Member plusZero factors
+unfolding Member
+zero-in = inr (inr (inr (inr (inr (inr (inr (inr (inl refl))))))))
 
-pub small-in : Among smallest constants
-unfolding Among
-small-in = inr (inr (inr (inr (inr (inr (inr (inr (inr (inr (inr (inr (inr (inr (inr (inr (inr (inr (inl refl))))))))))))))))))
-
-pub minus-small-in : Among (minus smallest) constants
-unfolding Among
-minus-small-in = inr (inr (inr (inr (inr (inr (inr (inr (inr (inr (inr (inr (inr (inr (inr (inr (inr (inr (inr (inl refl)))))))))))))))))))
-
--- ---- what is given: the question's patterns and the constants
-module _ (B : List ℕ) (C : (c : ℕ) → Among c constants → Among c B) where
+-- ---- what is given: the question's patterns
+module _ (B : List ℕ) where
   abbrev pub Leads : List ℕ → Sheet → Type 0
   Leads rs s = Known (rs ++ B) (s .lines) × Among (s .first) (after rs (s .lines)) × Among (s .second) (after rs (s .lines))
 
-  pub constant : (c : ℕ) (rs : List ℕ) → Among c constants → Among c (rs ++ B)
-  constant c rs h = right c rs B (C c h)
-
   -- ---- one line more
-  pub step : (o : Step) (p q r : ℕ) (rs : List ℕ) (s : Sheet) → Among p (rs ++ B) → Among q (rs ++ B) → Leads (r ∷ rs) s → Leads rs (before (line o p q r ∷ []) s)
-  unfolding Known after
-  step o p q r rs s h k l = ((h, k, constant 0 rs zero-in, l .0), l .1, l .2)
+  module _ (p q r : ℕ) (rs : List ℕ) (s : Sheet) where
+    pub adds : Among p (rs ++ B) → Among q (rs ++ B) → Leads (r ∷ rs) s → Leads rs (before (line add p q r ∷ []) s)
+    unfolding Known after
+    adds h k l = (((h, k), l .0), l .1, l .2)
 
-  pub fusedStep : (p q z r : ℕ) (rs : List ℕ) (s : Sheet) → Among p (rs ++ B) → Among q (rs ++ B) → Among z (rs ++ B) → Leads (r ∷ rs) s → Leads rs (before (fusedLine p q z r ∷ []) s)
+    pub subtracts : Among p (rs ++ B) → Among q (rs ++ B) → Leads (r ∷ rs) s → Leads rs (before (line subtract p q r ∷ []) s)
+    unfolding Known after
+    subtracts h k l = (((h, inl k), l .0), l .1, l .2)
+
+    -- u with a sign
+    pub lowers : Among p (rs ++ B) → Among q (smallest ∷ []) → Leads (r ∷ rs) s → Leads rs (before (line subtract p q r ∷ []) s)
+    unfolding Known after
+    lowers h k l = (((h, inr k), l .0), l .1, l .2)
+
+    pub multiplies : Among p (rs ++ B) → Among q (rs ++ B) → Leads (r ∷ rs) s → Leads rs (before (line multiply p q r ∷ []) s)
+    unfolding Known after
+    multiplies h k l = (((inl h, k), l .0), l .1, l .2)
+
+    -- by a constant
+    pub scales : Member p factors → Among q (rs ++ B) → Leads (r ∷ rs) s → Leads rs (before (line multiply p q r ∷ []) s)
+    unfolding Known after
+    scales h k l = (((inr h, k), l .0), l .1, l .2)
+
+  pub fuses : (p q z r : ℕ) (rs : List ℕ) (s : Sheet) → Among p (rs ++ B) → Among q (rs ++ B) → Among z (rs ++ B) → Leads (r ∷ rs) s → Leads rs (before (fusedLine p q z r ∷ []) s)
   unfolding Known after
-  fusedStep p q z r rs s h k m l = ((h, k, m, l .0), l .1, l .2)
+  fuses p q z r rs s h k m l = (((h, k, m), l .0), l .1, l .2)
 
   pub stop : (p q : ℕ) (rs : List ℕ) → Among p rs → Among q rs → Leads rs (ends p q)
   unfolding Known after
@@ -141,7 +149,7 @@ module _ (B : List ℕ) (C : (c : ℕ) → Among c constants → Among c B) wher
   known-append : (rs : List ℕ) (ls ms : List Line) → Known (rs ++ B) ls → Known (after rs ls ++ B) ms → Known (rs ++ B) (ls ++ ms)
   unfolding Known after
   known-append rs [] ms h k = k
-  known-append rs (l ∷ ls) ms h k = (h .0, h .1, h .2, known-append (l .result ∷ rs) ls ms (h .3) k)
+  known-append rs (l ∷ ls) ms h k = (h .0, known-append (l .result ∷ rs) ls ms (h .1) k)
 
   pub lines : (rs : List ℕ) (ls : List Line) (s : Sheet) → Known (rs ++ B) ls → Leads (after rs ls) s → Leads rs (before ls s)
   lines rs ls s h l = (known-append rs ls (s .lines) h (l .0), rw (after-append rs ls (s .lines)) (l .1), rw (after-append rs ls (s .lines)) (l .2))
@@ -156,9 +164,9 @@ module _ (B : List ℕ) (C : (c : ℕ) → Among c constants → Among c B) wher
         let d = subStep z a in
         let e = mulStep two b in
         let known = e ∷ d ∷ z ∷ rs in
-        step multiply psi a z rs _ (constant psi rs psi-in) (left a rs B ha)
-        (step subtract z a d (z ∷ rs) _ (here z (rs ++ B)) (left a (z ∷ rs) B (there z a rs ha))
-        (step multiply two b e (d ∷ z ∷ rs) _ (constant two (d ∷ z ∷ rs) two-in) (left b (d ∷ z ∷ rs) B (there d b (z ∷ rs) (there z b rs hb)))
+        scales psi a z rs _ psi-in (left a rs B ha)
+        (subtracts z a d (z ∷ rs) _ (here z (rs ++ B)) (left a (z ∷ rs) B (there z a rs ha))
+        (scales two b e (d ∷ z ∷ rs) _ two-in (left b (d ∷ z ∷ rs) B (there d b (z ∷ rs) (there z b rs hb)))
         (stop (cond (equal e d) z a) (cond (equal e d) (minus b) b) known
         (among-cond (equal e d) z a known (there e z (d ∷ z ∷ rs) (there d z (z ∷ rs) (here z rs))) (grow3 z d e a ha))
         (among-cond (equal e d) (minus b) b known (grow3 z d e (minus b) hm) (grow3 z d e b hb)))))
@@ -171,10 +179,10 @@ module _ (B : List ℕ) (C : (c : ℕ) → Among c constants → Among c B) wher
   finish-leads rs x y hx hy =
       let n = mulStep plusZero x in
       leads-cond (zero y) rs (before (line multiply plusZero x n ∷ []) (ends x n)) (ends x y)
-      (step multiply plusZero x n rs (ends x n) (constant plusZero rs zero-in) (left x rs B hx) (stop x n (n ∷ rs) (there n x rs hx) (here n rs))) (stop x y rs hx hy)
+      (scales plusZero x n rs (ends x n) zero-in (left x rs B hx) (stop x n (n ∷ rs) (there n x rs hx) (here n rs))) (stop x y rs hx hy)
 
-  pub recomposed-leads : (rs : List ℕ) (a b : ℕ) → Among a rs → Among b rs → Among (minus b) rs → Leads rs (recomposed a b)
-  unfolding recomposed
+  pub recomposed-leads : (rs : List ℕ) (a b : ℕ) → Among a rs → Among b rs → Among (minus b) rs → Leads rs (recomposedFinished a b)
+  unfolding recomposedFinished
   recomposed-leads rs a b ha hb hm =
       let r = recomposition a b in
       let l = recomposition-leads rs a b ha hb hm in
@@ -186,7 +194,7 @@ module _ (B : List ℕ) (C : (c : ℕ) → Among c constants → Among c B) wher
       let f = mulStep kappa a' in
       let s = mulStep minusTwo b' in
       leads-cond (atEdge a' b') rs (before (line multiply kappa a' f ∷ line multiply minusTwo b' s ∷ []) (ends f s)) (ends a a)
-      (step multiply kappa a' f rs _ (constant kappa rs kappa-in) (left a' rs B hf)
-      (step multiply minusTwo b' s (f ∷ rs) (ends f s) (constant minusTwo (f ∷ rs) minus-two-in) (left b' (f ∷ rs) B (there f b' rs hs))
+      (scales kappa a' f rs _ kappa-in (left a' rs B hf)
+      (scales minusTwo b' s (f ∷ rs) (ends f s) minus-two-in (left b' (f ∷ rs) B (there f b' rs hs))
       (stop f s (s ∷ f ∷ rs) (there s f (f ∷ rs) (here f rs)) (here s (f ∷ rs)))))
       (stop a a rs ha ha)

@@ -5,9 +5,9 @@ use mathlib.Core.List.{List, [], _∷_, _++_}
 use Prim.Native.Nat.{ℕ}
 use Rattle.binary32.specs.Steps.{addStep, subStep, mulStep, fmaStep}
 use Rattle.augmented.specs.Direct.{sum, difference, product}
-use Rattle.emulation.specs.Lines.{add, subtract, multiply, stepOf, Line, line, fusedLine, Sheet, before, ends, value, minus, signOf, zero}
+use Rattle.emulation.specs.Lines.{add, subtract, multiply, Line, line, fusedLine, Sheet, before, ends, value, minus, copySign, zero}
 use Rattle.emulation.specs.Constants.{psi, two, minusTwo, half, kappa, twoTo24, twoTo48, twoToMinus24, plusZero, smallest}
-use Rattle.emulation.specs.Sheets.{Branch, isInfinite, isZero, isTiny, isMiddle, isOther, recomposition, zeroFinish, recomposed, atEdge, edgeFinish, halvedSum, overflows, sumInOrder, swaps, sumSheet, infiniteProduct, lowered, lowering, tinyProduct, restTie, scaledDown, middleProduct, otherProduct, branchOf, productBy, productSheet, sheetOf}
+use Rattle.emulation.specs.Sheets.{Branch, whenInfinite, whenZero, whenTiny, whenMiddle, otherwise, recomposition, zeroFinish, recomposedFinished, atEdge, edgeFinish, halvedSum, overflows, sumInOrder, swaps, sumSheet, infiniteProduct, lowered, lowering, tinyProduct, restTie, scaledDown, middleProduct, otherProduct, branchOf, productBy, productSheet, sheetOf}
 use Rattle.emulation.proofs.TinyResults as tiny
 use Rattle.emulation.specs.Theorems.{Each, EachLine}
 
@@ -27,26 +27,26 @@ none = tt
 
 -- ---- a line of each operation, before others
 adds : (x y : ℕ) (ls : List Line) → Each ls → Each (line add x y (addStep x y) ∷ ls)
-unfolding Each stepOf
+unfolding Each
 adds x y ls h = ((refl, refl), h)
 
 subtracts : (x y : ℕ) (ls : List Line) → Each ls → Each (line subtract x y (subStep x y) ∷ ls)
-unfolding Each stepOf
+unfolding Each
 subtracts x y ls h = ((refl, refl), h)
 
 multiplies : (x y : ℕ) (ls : List Line) → Each ls → Each (line multiply x y (mulStep x y) ∷ ls)
-unfolding Each stepOf
+unfolding Each
 multiplies x y ls h = ((refl, refl), h)
 
 fuses : (x y z : ℕ) (ls : List Line) → Each ls → Each (fusedLine x y z (fmaStep x y z) ∷ ls)
-unfolding Each stepOf
-fuses x y z ls h = ((refl, tt), h)
+unfolding Each
+fuses x y z ls h = (refl, h)
 
 -- ---- the parts
 -- a correction, where there is one
 correction-each : (c : Bool) (a : ℕ) → Each (cond c (lowering a ∷ []) [])
 unfolding lowering
-correction-each true a = subtracts a (signOf a smallest) _ none
+correction-each true a = subtracts a (copySign smallest a) _ none
 correction-each false a = none
 
 recomposition-each : (a b : ℕ) → Each (recomposition a b .lines)
@@ -57,8 +57,8 @@ finish-each : (x y : ℕ) → Each (zeroFinish x y .lines)
 unfolding zeroFinish
 finish-each x y = each-cond (zero y) (before (line multiply plusZero x (mulStep plusZero x) ∷ []) (ends x (mulStep plusZero x))) (ends x y) (multiplies plusZero x _ none) none
 
-recomposed-each : (a b : ℕ) → Each (recomposed a b .lines)
-unfolding recomposed
+recomposed-each : (a b : ℕ) → Each (recomposedFinished a b .lines)
+unfolding recomposedFinished
 recomposed-each a b =
     let r = recomposition a b in
     each-append (r .lines) (zeroFinish (r .first) (r .second) .lines) (recomposition-each a b) (finish-each (r .first) (r .second))
@@ -85,7 +85,7 @@ order-each x y =
     let a = addStep x y in
     let v = subStep a x in
     let b = subStep y v in
-    let r = recomposed a b in
+    let r = recomposedFinished a b in
     let c = overflows (r .second) a in
     adds x y _ (subtracts a x _ (subtracts y v _
     (each-append (r .lines) (cond c (halvedSum x y a) (ends (r .first) (r .second)) .lines) (recomposed-each a b) (each-cond c (halvedSum x y a) (ends (r .first) (r .second)) (halved-each x y a) none))))
@@ -137,11 +137,11 @@ unfolding productSheet productBy
 product-each x y = multiplies x y _ (by (branchOf (value (mulStep x y))))
   where
     by : (k : Branch) → Each (productBy k x y (mulStep x y) .lines)
-    by isInfinite = infinite-each x y (mulStep x y)
-    by isZero = none
-    by isTiny = tiny-each x y (mulStep x y)
-    by isMiddle = middle-each x y
-    by isOther = other-each x y (mulStep x y)
+    by whenInfinite = infinite-each x y (mulStep x y)
+    by whenZero = none
+    by whenTiny = tiny-each x y (mulStep x y)
+    by whenMiddle = middle-each x y
+    by otherwise = other-each x y (mulStep x y)
 
 pub each-line : EachLine
 unfolding sheetOf

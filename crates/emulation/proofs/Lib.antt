@@ -9,6 +9,6 @@ pub mod ProductSheet
 pub mod EachLine
 pub mod Derivation
 pub mod Derived
-pub mod Counts
-pub mod ProductCounts
+pub mod Operations
+pub mod ProductOperations
 pub mod Theorems

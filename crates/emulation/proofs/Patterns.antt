@@ -19,7 +19,7 @@ use Rattle.binary32.specs.Steps.{addValue, subValue, mulValue, fmaValue, addSte
 use Rattle.binary32.proofs.Classified.{decode-flip}
 use Rattle.binary32.proofs.Result.{add-step, sub-step, mul-step, fma-step}
 use Rattle.augmented.proofs.Width.{encode-width}
-use Rattle.emulation.specs.Lines.{value, minus, signOf}
+use Rattle.emulation.specs.Lines.{value, minus, copySign}
 
 -- ---- a pattern of 32 bits
 abbrev pub Pattern : ℕ → Type 0
@@ -71,7 +71,7 @@ unsigned-sign b s c A e =
       | inr o ↦ elim o [ inl h ↦ let z = unsigned-infinite binary32 b c h in cc | inr h ↦ let z = unsigned-nan binary32 b c h in cc ]
     ]
 
-pub sign-value : (a : ℕ) (s : Bool) (A : ℕ) → value a ≡ finite s A → (c m : ℕ) → Pattern c → value c ≡ finite false m → value (signOf a c) ≡ finite s m
+pub sign-value : (a : ℕ) (s : Bool) (A : ℕ) → value a ≡ finite s A → (c m : ℕ) → Pattern c → value c ≡ finite false m → value (copySign c a) ≡ finite s m
 sign-value a s A e c m w d = rw (sign e) (by s)
   where
     sign : value a ≡ finite s A → leb (signBit binary32) a ≡ s
@@ -81,7 +81,7 @@ sign-value a s A e c m w d = rw (sign e) (by s)
     by true = minus-value c w ∙ ap negate d ∙ negate-finite false m
     by false = d
 
-pub sign-width : (a c : ℕ) → Pattern c → Pattern (signOf a c)
+pub sign-width : (a c : ℕ) → Pattern c → Pattern (copySign c a)
 sign-width a c w = by (leb (signBit binary32) a)
   where
     by : (b : Bool) → Pattern (cond b (minus c) c)

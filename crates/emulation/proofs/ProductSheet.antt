@@ -22,8 +22,7 @@ use Rattle.binary32.proofs.Result.{mul-step, fma-step}
 use Rattle.errorfree.proofs.Steps.{toEven}
 use Rattle.emulation.specs.Constants.{half}
 use Rattle.emulation.specs.Lines.{value, minus}
-use Rattle.emulation.specs.Sheets as branch
-use Rattle.emulation.specs.Sheets.{Branch, isTiny, isMiddle, isOther, infiniteProduct, otherProduct, branchOf, productBy, productSheet}
+use Rattle.emulation.specs.Sheets.{whenZero, Branch, whenTiny, whenMiddle, otherwise, infiniteProduct, otherProduct, branchOf, productBy, productSheet}
 use Rattle.emulation.proofs.Patterns.{mul-width, minus-nan}
 use Rattle.emulation.proofs.Foots.{Foots, foots-infinite, foots-nan}
 use Rattle.emulation.proofs.Blocks.{recomposed-none, edge-none}
@@ -48,7 +47,7 @@ module _ (x y : ℕ) (s t : Bool) (a b : ℕ) (xi : value x ≡ finite s a) (yi 
   unfolding branchOf productBy
   fine-foot fine = by (eqb A 0) refl (ltb A (2 ^ 24)) refl (leb A (2 ^ 47)) refl
     where
-      by : (i : Bool) → eqb A 0 ≡ i → (j : Bool) → ltb A (2 ^ 24) ≡ j → (k : Bool) → leb A (2 ^ 47) ≡ k → Foots (finite r (a * b)) (productBy (cond i branch.isZero (cond j isTiny (cond k isMiddle isOther))) x y p)
+      by : (i : Bool) → eqb A 0 ≡ i → (j : Bool) → ltb A (2 ^ 24) ≡ j → (k : Bool) → leb A (2 ^ 47) ≡ k → Foots (finite r (a * b)) (productBy (cond i whenZero (cond j whenTiny (cond k whenMiddle otherwise))) x y p)
       by true e j f k g = zero-foot x y s t a b xi yi xr yr xb yb fine (eqb-true A 0 e)
       by false e true f k g = tiny-foot x y s t a b xi yi xr yr xb yb fine (elim (eq-zero-or-pos A) [ inl z ↦ absurd (eqb-false A 0 e z) | inr h ↦ h ]) (ltb-true A (2 ^ 24) f)
       by false e false f true g = middle-foot x y s t a b xi yi xr yr xb yb fine (ltb-false A (2 ^ 24) f) (leb-true A (2 ^ 47) g)

@@ -20,14 +20,14 @@ use Rattle.binary32.proofs.Theorems.{add-decodes, sub-decodes, mul-decodes}
 use Rattle.binary32.proofs.Result.{add-step, sub-step}
 use Rattle.binary32.proofs.Special.{plus-comm}
 use Rattle.binary32.proofs.Sums.{like?, like-eq, like-own, sum-same, sum-left, sum-none}
-use Rattle.errorfree.specs.Comparisons.{smaller}
-use Rattle.errorfree.specs.Constants as factor
+use Rattle.errorfree.specs.Comparisons.{lessMagnitude}
+use Rattle.errorfree.proofs.Factors as factors
 use Rattle.errorfree.proofs.Steps.{toEven, even-at}
 use Rattle.errorfree.proofs.FastTwoSum.{add-finite, fast-two-sum}
 use Rattle.errorfree.proofs.Halved.{sum-edge}
 use Rattle.emulation.specs.Constants.{half}
-use Rattle.emulation.specs.Lines.{value, less, zero, infinitely}
-use Rattle.emulation.specs.Sheets.{recomposed, halvedSum, overflows, sumInOrder, swaps, sumSheet}
+use Rattle.emulation.specs.Lines.{value, zero}
+use Rattle.emulation.specs.Sheets.{recomposedFinished, halvedSum, overflows, sumInOrder, swaps, sumSheet}
 use Rattle.emulation.proofs.Patterns.{add-width, sub-width}
 use Rattle.emulation.proofs.Constants.{half-value}
 use Rattle.emulation.proofs.Foots.{Foots, foots-infinite, foots-nan}
@@ -44,30 +44,30 @@ module _ (x y : ℕ) where
   b = subStep y (subStep a x)
 
   abbrev edge : Bool
-  edge = overflows (recomposed a b .second) a
+  edge = overflows (recomposedFinished a b .second) a
 
-  first-is : sumInOrder x y .first ≡ cond edge (halvedSum x y a .first) (recomposed a b .first)
+  pub first-is : sumInOrder x y .first ≡ cond edge (halvedSum x y a .first) (recomposedFinished a b .first)
   unfolding sumInOrder
   first-is = first-cond edge _ _
 
-  second-is : sumInOrder x y .second ≡ cond edge (halvedSum x y a .second) (recomposed a b .second)
+  pub second-is : sumInOrder x y .second ≡ cond edge (halvedSum x y a .second) (recomposedFinished a b .second)
   unfolding sumInOrder
   second-is = second-cond edge _ _
 
   -- only where a is infinite the edge is asked for
-  pub no-edge : infinitely a ≡ false → edge ≡ false
+  pub no-edge : isInfinite (value a) ≡ false → edge ≡ false
   unfolding overflows
-  no-edge h = ap (λ (i : Bool). not (zero (recomposed a b .second)) && i) h ∙ never (not (zero (recomposed a b .second)))
+  no-edge h = ap (λ (i : Bool). not (zero (recomposedFinished a b .second)) && i) h ∙ never (not (zero (recomposedFinished a b .second)))
     where
       never : (i : Bool) → i && false ≡ false
       never true = refl
       never false = refl
 
   -- a is not infinite
-  pub plain-foot : (v : Value) → infinitely a ≡ false → Foots v (recomposed a b) → Foots v (sumInOrder x y)
+  pub plain-foot : (v : Value) → isInfinite (value a) ≡ false → Foots v (recomposedFinished a b) → Foots v (sumInOrder x y)
   plain-foot v h f =
       let c = no-edge h in
-      (first-is ∙ ap (λ (i : Bool). cond i (halvedSum x y a .first) (recomposed a b .first)) c ∙ f .0, second-is ∙ ap (λ (i : Bool). cond i (halvedSum x y a .second) (recomposed a b .second)) c ∙ f .1)
+      (first-is ∙ ap (λ (i : Bool). cond i (halvedSum x y a .first) (recomposedFinished a b .first)) c ∙ f .0, second-is ∙ ap (λ (i : Bool). cond i (halvedSum x y a .second) (recomposedFinished a b .second)) c ∙ f .1)
 
   -- a is no number: v and b are none
   pub b-none : isFinite (value a) ≡ false → isFinite (value b) ≡ false
@@ -86,9 +86,9 @@ module _ (x y : ℕ) where
   pub infinite-foot : (v : Value) (s : Bool) → value a ≡ infinite s → Foots v (halvedSum x y a) → Foots v (sumInOrder x y)
   infinite-foot v s h f =
       let c = asks-edge s h in
-      (first-is ∙ ap (λ (i : Bool). cond i (halvedSum x y a .first) (recomposed a b .first)) c ∙ f .0, second-is ∙ ap (λ (i : Bool). cond i (halvedSum x y a .second) (recomposed a b .second)) c ∙ f .1)
+      (first-is ∙ ap (λ (i : Bool). cond i (halvedSum x y a .first) (recomposedFinished a b .first)) c ∙ f .0, second-is ∙ ap (λ (i : Bool). cond i (halvedSum x y a .second) (recomposedFinished a b .second)) c ∙ f .1)
 
--- ---- finite operands, the first of which is not the smaller
+-- ---- finite operands, the first of which is not the lessMagnitude
 module _ (x y : ℕ) (s t : Bool) (X Y : ℕ) (xi : value x ≡ finite s X) (yi : value y ≡ finite t Y) (xr : Rep 24 0 X) (yr : Rep 24 0 Y) (xb : X < limit binary32) (le : Y ≤ X) where
   abbrev A : ℕ → ℕ
   A n = toEven binary32 (n * 2 ^ low binary32)
@@ -118,7 +118,7 @@ module _ (x y : ℕ) (s t : Bool) (X Y : ℕ) (xi : value x ≡ finite s X) (yi 
       let a' = addStep x' y' in
       let v' = subStep a' x' in
       let b' = subStep y' v' in
-      let halves : (w : ℕ) (v : Value) → value w ≡ v → value (mulStep half w) ≡ mulValue binary32 (factor.half binary32) v = λ w v e. mul-decodes half w ∙ ap₂ (mulValue binary32) half-value e in
+      let halves : (w : ℕ) (v : Value) → value w ≡ v → value (mulStep half w) ≡ mulValue binary32 (factors.half binary32) v = λ w v e. mul-decodes half w ∙ ap₂ (mulValue binary32) half-value e in
       let edge =
       sum-edge binary32 (omega arith) (omega arith) s X Y xr yr xb le over (value x') (value y') (value a') (value v') (value b')
       (halves x (finite s X) xi) (halves y (finite s Y) (yi ∙ ap (λ (r : Bool). finite r Y) q)) (add-decodes x' y') (sub-decodes a' x') (sub-decodes y' v')
@@ -162,7 +162,7 @@ module _ (x y : ℕ) where
       let bs : subValue binary32 (value y) (value v) ≡ nan = ap (subValue binary32 (value y)) vi ∙ sub-nan binary32 (value y) in
       let bi : value (b x y) ≡ nan = sub-decodes y v ∙ bs in
       let r = recomposed-none (a x y) (b x y) (ap isFinite ai) (ap isZero bi) in
-      plain-foot x y nan (ap isInfinite ai) (foots-nan (recomposed (a x y) (b x y)) (r .0 ∙ add-step x y ∙ ap (encode binary32) k) (r .1 ∙ sub-step y v ∙ ap (encode binary32) bs))
+      plain-foot x y nan (ap isInfinite ai) (foots-nan (recomposedFinished (a x y) (b x y)) (r .0 ∙ add-step x y ∙ ap (encode binary32) k) (r .1 ∙ sub-step y v ∙ ap (encode binary32) bs))
 
   -- an infinite operand's half is infinite, so that no edge is found
   half-sum-none : isFinite (value x) && isFinite (value y) ≡ false → isFinite (value (addStep (mulStep half x) (mulStep half y))) ≡ false
@@ -184,7 +184,7 @@ module _ (x y : ℕ) where
       let p : a x y ≡ encode binary32 (infinite s) = add-step x y ∙ ap (encode binary32) k in
       infinite-foot x y (infinite s) s ai (foots-infinite s (halvedSum x y (a x y)) (r .0 ∙ p) (r .1 ∙ p))
 
--- ---- all patterns: where the first is not the smaller, and then in any order
+-- ---- all patterns: where the first is not the lessMagnitude, and then in any order
 module _ (x y : ℕ) where
   -- an operand is no number
   none-foot : isFinite (value x) && isFinite (value y) ≡ false → Foots (finer binary32 (plus (value x) (value y))) (sumInOrder x y)
@@ -196,8 +196,8 @@ module _ (x y : ℕ) where
       by (infinite s) e f = infinity-foot x y s e n
       by (finite s m) e f = not-both f
 
-  in-order : less x y ≡ false → Foots (finer binary32 (plus (value x) (value y))) (sumInOrder x y)
-  unfolding Fits smaller
+  in-order : lessMagnitude (value x) (value y) ≡ false → Foots (finer binary32 (plus (value x) (value y))) (sumInOrder x y)
+  unfolding Fits lessMagnitude
   in-order l = by (isFinite (value x) && isFinite (value y)) refl
     where
       by : (c : Bool) → isFinite (value x) && isFinite (value y) ≡ c → Foots (finer binary32 (plus (value x) (value y))) (sumInOrder x y)
@@ -208,11 +208,11 @@ module _ (x y : ℕ) where
           let q = number-of (value y) (h .1) in
           let f = subst (Fits binary32) (p .2) (decode-fits binary32 (omega arith) x) in
           let g = subst (Fits binary32) (q .2) (decode-fits binary32 (omega arith) y) in
-          finite-foot x y (p .0) (q .0) (p .1) (q .1) (p .2) (q .2) (f .0) (g .0) (f .1) (ltb-false (p .1) (q .1) (sym (ap₂ smaller (p .2) (q .2)) ∙ l))
+          finite-foot x y (p .0) (q .0) (p .1) (q .1) (p .2) (q .2) (f .0) (g .0) (f .1) (ltb-false (p .1) (q .1) (sym (ap₂ lessMagnitude (p .2) (q .2)) ∙ l))
 
--- one of two is not the smaller
-not-smaller : (v w : Value) → smaller v w ≡ true → smaller w v ≡ false
-unfolding smaller
+-- one of two is not the lessMagnitude
+not-smaller : (v w : Value) → lessMagnitude v w ≡ true → lessMagnitude w v ≡ false
+unfolding lessMagnitude
 not-smaller nan w h = not-both (sym h)
 not-smaller (infinite s) w h = not-both (sym h)
 not-smaller (finite s m) nan h = refl

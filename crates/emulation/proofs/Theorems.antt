@@ -1,28 +1,54 @@
 -- The theorems of `specs/Theorems.antt`. Assumes nothing.
-use mathlib.Core.Path.{refl, sym, _∙_}
-use mathlib.Core.Logic.{inl, inr}
-use Prim.Native.Nat.{ℕ, _≤_}
+use mathlib.Core.Path.{_≡_, refl, sym, ap, _∙_, subst}
+use mathlib.Core.Logic.{_⊎_, inl, inr}
+use mathlib.Core.Bool.{Bool, true, false, not, cond}
+use mathlib.Core.List.{List, [], _∷_}
+use Prim.Native.Nat.{ℕ, suc, _-_, _*_, _^_, _≤_}
+use native.Mathlib.Nat.{eq-zero-or-pos}
+use native.Mathlib.Decide.{decLe}
 use native.Mathlib.Omega.{arith}
-use lib.ListN.{length}
+use lib.Dec.{T}
+use lib.ListN.{length, take}
 use Rattle.rounding.specs.Format.{binary32}
-use Rattle.rounding.specs.Value.{Value, nan, infinite, finite, decode}
-use Rattle.binary32.specs.Classes.{flip}
+use Rattle.rounding.specs.Value.{Value, nan, infinite, finite, isNaN, isFinite, decode}
 use Rattle.binary32.specs.Steps.{addStep, mulStep}
 use Rattle.augmented.specs.Direct.{sum, difference, product}
 use Rattle.augmented.proofs.Read.{first-pattern, second-pattern}
-use Rattle.emulation.specs.Lines.{value}
-use Rattle.emulation.specs.Sheets.{Branch, isInfinite, isZero, isTiny, isMiddle, isOther, branchOf, sheetOf}
-use Rattle.emulation.specs.Theorems.{ConstantValues, EachLine, Derived, AtMost13, SumLines, ProductLines, LineCounts, FootIsPair, All}
+use Rattle.emulation.specs.Constants.{psi, two, half, kappa, twoTo24, twoTo48, twoToMinus24, plusZero, smallest, twoTo127, twoTo102, twoToMinus102, twoToMinus126}
+use Rattle.emulation.specs.Lines.{Line, line, add, value, minus, equal, zero}
+use Rattle.emulation.specs.Sheets.{sumInOrder, swaps, sumSheet, productSheet, sheetOf}
+use Rattle.emulation.specs.Theorems.{patternOf, ConstantPatterns, EachLine, Derived, FirstLine, operations, sumOperations, ProductOperations, InOrder, AtMost13, FootIsPair, All}
+use Rattle.emulation.proofs.Patterns.{Pattern, pattern-of}
 use Rattle.emulation.proofs.Sums.{sum-foot}
 use Rattle.emulation.proofs.ProductSheet.{product-foot}
 use Rattle.emulation.proofs.EachLine as lines
 use Rattle.emulation.proofs.Derived as derivation
-use Rattle.emulation.proofs.Counts.{sum-lines}
-use Rattle.emulation.proofs.ProductCounts.{product-lines, nan-lines}
+use Rattle.emulation.proofs.Operations.{sum-operations}
+use Rattle.emulation.proofs.ProductOperations.{product-operations}
 
-pub constant-values : ConstantValues
+-- ---- the constants
+constant : (x m : ℕ) → Pattern x → value x ≡ finite false m → x ≡ patternOf m
+constant x m w e = pattern-of x (finite false m) w e (λ (z : finite false m ≡ nan). subst (λ (v : Value). T (not (isNaN v))) z tt)
+
+pub constant-patterns : ConstantPatterns
 unfolding decode
-constant-values = (refl, refl, refl, refl, refl, refl, refl, refl, refl, refl, refl, refl, refl, refl)
+constant-patterns = (
+  constant psi (2 ^ 149 - 2 ^ 125) (omega arith) refl,
+  constant two (2 ^ 150) (omega arith) refl,
+  refl,
+  constant half (2 ^ 148) (omega arith) refl,
+  constant kappa (2 ^ 150 - 2 ^ 126) (omega arith) refl,
+  constant twoTo24 (2 ^ 24 * 2 ^ 149) (omega arith) refl,
+  constant twoTo48 (2 ^ 48 * 2 ^ 149) (omega arith) refl,
+  constant twoToMinus24 (2 ^ 125) (omega arith) refl,
+  constant plusZero 0 (omega arith) refl,
+  constant smallest 1 (omega arith) refl,
+  refl,
+  constant twoTo127 (2 ^ 127 * 2 ^ 149) (omega arith) refl,
+  constant twoTo102 (2 ^ 102 * 2 ^ 149) (omega arith) refl,
+  constant twoToMinus102 (2 ^ 47) (omega arith) refl,
+  constant twoToMinus126 (2 ^ 23) (omega arith) refl,
+)
 
 -- ---- the lines
 pub each-line : EachLine
@@ -31,33 +57,87 @@ each-line = lines.each-line
 pub derived : Derived
 derived = derivation.derived
 
-pub line-counts : LineCounts
+starts : (x y : ℕ) → take 1 (sumInOrder x y .lines) ≡ line add x y (addStep x y) ∷ []
+unfolding sumInOrder
+starts x y = refl
+
+pub first-line : FirstLine
+unfolding sheetOf sumSheet swaps productSheet
+first-line =
+    (λ x y h. rw h (starts y x), λ x y h. rw h (starts x y), λ x y. refl, λ x y. refl)
+
+pub in-order : InOrder
 unfolding sheetOf
-line-counts = (sum-lines, λ x y. sum-lines x (flip binary32 y), product-lines, nan-lines)
+in-order = (sum-operations, product-operations)
 
-sum-range : (v : Value) (n : ℕ) → SumLines v n → (1 ≤ n) × (n ≤ 13)
-sum-range nan n e = omega arith
-sum-range (infinite s) n e = elim e [ inl h ↦ omega arith | inr h ↦ omega arith ]
-sum-range (finite s a) n e = elim e [ inl h ↦ omega arith | inr h ↦ omega arith ]
+-- ---- how many there are
+counted : (ls : List Line) → length ls ≡ length (operations ls)
+counted [] = refl
+counted (l ∷ ls) = ap suc (counted ls)
 
-product-range : (k : Branch) (n : ℕ) → ProductLines k n → (1 ≤ n) × (n ≤ 13)
-product-range isInfinite n e = elim e [ inl h ↦ omega arith | inr h ↦ omega arith ]
-product-range isZero n e = omega arith
-product-range isTiny n e = elim e [ inl h ↦ omega arith | inr h ↦ omega arith ]
-product-range isMiddle n e = elim e [ inl h ↦ omega arith | inr h ↦ omega arith ]
-product-range isOther n e = elim e [ inl h ↦ omega arith | inr h ↦ omega arith ]
+abbrev Range : ℕ → Type 0
+Range n = (1 ≤ n) × (n ≤ 13)
+
+ranged : (os ps : List ℕ) → os ≡ ps → Range (length ps) → Range (length os)
+ranged os ps e h = rw e h
+
+sum-range : (v : Value) (first second : ℕ) (os : List ℕ) → os ≡ sumOperations v first second → Range (length os)
+sum-range nan first second os h = ranged os _ h (omega arith)
+sum-range (finite s m) first second os h = by (zero second) h
+  where
+    by : (c : Bool) → os ≡ 1 ∷ 2 ∷ 2 ∷ 3 ∷ 2 ∷ 3 ∷ cond c (3 ∷ []) [] → Range (length os)
+    by true e = ranged os _ e (omega arith)
+    by false e = ranged os _ e (omega arith)
+sum-range (infinite s) first second os h = by (isFinite (value first)) h
+  where
+    by : (c : Bool) → os ≡ 1 ∷ 2 ∷ 2 ∷ 3 ∷ 2 ∷ 3 ∷ 3 ∷ 3 ∷ 1 ∷ 2 ∷ 2 ∷ cond c (3 ∷ 3 ∷ []) [] → Range (length os)
+    by true e = ranged os _ e (omega arith)
+    by false e = ranged os _ e (omega arith)
+
+product-range : (a : ℕ) (v : Value) (first second : ℕ) (os : List ℕ) → ProductOperations a v first second os → Range (length os)
+product-range a nan first second os h = ranged os _ h (omega arith)
+product-range a (infinite s) first second os h = by (isFinite (value first)) h
+  where
+    by : (c : Bool) → os ≡ 3 ∷ 3 ∷ 3 ∷ 4 ∷ cond c (3 ∷ 3 ∷ []) [] → Range (length os)
+    by true e = ranged os _ e (omega arith)
+    by false e = ranged os _ e (omega arith)
+product-range a (finite s m) first second os h =
+    elim (eq-zero-or-pos m) [
+      | inl z ↦ ranged os _ (h .0 z) (omega arith)
+      | inr pos ↦ elim (decLe (2 ^ 24) m) [
+        | no lo ↦ tiny (equal first a) (h .1 pos (omega arith))
+        | yes lo ↦ elim (decLe m (2 ^ 47)) [ yes hi ↦ middle (zero second) refl (h .2 lo hi) | no hi ↦ other (zero second) (h .3 (omega arith)) ]
+      ]
+    ]
+  where
+    tiny : (c : Bool) → os ≡ 3 ∷ 3 ∷ 3 ∷ 3 ∷ 4 ∷ 3 ∷ 2 ∷ 1 ∷ 2 ∷ cond c (3 ∷ []) (2 ∷ 3 ∷ []) → Range (length os)
+    tiny true e = ranged os _ e (omega arith)
+    tiny false e = ranged os _ e (omega arith)
+
+    middle : (c : Bool) → zero second ≡ c → (zero second ≡ true → os ≡ 3 ∷ 3 ∷ 3 ∷ 4 ∷ 3 ∷ 2 ∷ 3 ∷ 3 ∷ 3 ∷ 3 ∷ 2 ∷ 3 ∷ []) × (zero second ≡ false → (os ≡ 3 ∷ 3 ∷ 3 ∷ 4 ∷ 3 ∷ 2 ∷ 3 ∷ 3 ∷ 3 ∷ 3 ∷ 2 ∷ []) ⊎ (os ≡ 3 ∷ 3 ∷ 3 ∷ 4 ∷ 3 ∷ 2 ∷ 3 ∷ 3 ∷ 3 ∷ 3 ∷ 2 ∷ 2 ∷ [])) → Range (length os)
+    middle true e k = ranged os _ (k .0 e) (omega arith)
+    middle false e k = elim (k .1 e) [ inl o ↦ ranged os _ o (omega arith) | inr o ↦ ranged os _ o (omega arith) ]
+
+    other : (c : Bool) → os ≡ 3 ∷ 4 ∷ 3 ∷ 2 ∷ 3 ∷ cond c (3 ∷ []) [] → Range (length os)
+    other true e = ranged os _ e (omega arith)
+    other false e = ranged os _ e (omega arith)
+
+sum-at-most : (x y : ℕ) → Range (length (sumSheet x y .lines))
+sum-at-most x y = rw (counted (sumSheet x y .lines)) (sum-range (value (addStep x y)) (sumSheet x y .first) (sumSheet x y .second) (operations (sumSheet x y .lines)) (sum-operations x y))
 
 pub at-most-13 : AtMost13
-at-most-13 sum x y = sum-range (value (addStep x y)) (length (sheetOf sum x y .lines)) (line-counts .0 x y)
-at-most-13 difference x y = sum-range (value (addStep x (flip binary32 y))) (length (sheetOf difference x y .lines)) (line-counts .1 x y)
-at-most-13 product x y = product-range (branchOf (value (mulStep x y))) (length (sheetOf product x y .lines)) (line-counts .2 x y)
+unfolding sheetOf
+at-most-13 sum x y = sum-at-most x y
+at-most-13 difference x y = sum-at-most x (minus y)
+at-most-13 product x y =
+    rw (counted (productSheet x y .lines)) (product-range (mulStep x y) (value (mulStep x y)) (productSheet x y .first) (productSheet x y .second) (operations (productSheet x y .lines)) (product-operations x y))
 
 -- ---- the foot
 pub foot-is-pair : FootIsPair
 unfolding sheetOf
 foot-is-pair sum x y = (sum-foot x y .0 ∙ sym (first-pattern sum binary32 x y), sum-foot x y .1 ∙ sym (second-pattern sum binary32 x y))
-foot-is-pair difference x y = (sum-foot x (flip binary32 y) .0 ∙ sym (first-pattern difference binary32 x y), sum-foot x (flip binary32 y) .1 ∙ sym (second-pattern difference binary32 x y))
+foot-is-pair difference x y = (sum-foot x (minus y) .0 ∙ sym (first-pattern difference binary32 x y), sum-foot x (minus y) .1 ∙ sym (second-pattern difference binary32 x y))
 foot-is-pair product x y = (product-foot x y .0 ∙ sym (first-pattern product binary32 x y), product-foot x y .1 ∙ sym (second-pattern product binary32 x y))
 
 pub all : All
-all = (constant-values, each-line, derived, at-most-13, line-counts, foot-is-pair)
+all = (constant-patterns, each-line, derived, first-line, in-order, at-most-13, foot-is-pair)

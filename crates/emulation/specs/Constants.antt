@@ -1,5 +1,5 @@
 -- Document 01, "The step sheet": "Constants: ψ 3F7FFFFF (1 - 2^-24), 2 40000000, -2 C0000000, 1/2 3F000000, κ 3FFFFFFF (2 - 2^-23),
--- 2^24 4B800000, 2^48 57800000, 2^-24 33800000, +0, u 00000001 and -u 80000001." `Constants` of Theorems says what they stand for. Assumes nothing.
+-- 2^24 4B800000, 2^48 57800000, 2^-24 33800000, +0, u 00000001 and -u 80000001." `ConstantPatterns` of Theorems says what they are. Assumes nothing.
 use Prim.Native.Nat.{ℕ}
 
 -- ---- factors: "A constant stands as the first operand of a multiplication."
@@ -30,7 +30,7 @@ twoToMinus24 = 0x3380_0000
 abbrev pub plusZero : ℕ
 plusZero = 0x0000_0000
 
--- ---- u, which stands with a sign as the second operand of a subtraction
+-- ---- u, which stands with a sign as the second operand of a subtraction: -u is its flip
 abbrev pub smallest : ℕ
 smallest = 0x0000_0001
 

@@ -1,42 +1,39 @@
--- What is proved of step sheets. Each name is a statement; `proofs/Theorems.antt` has its proof. Assumes nothing.
+-- What is proved of step sheets. `All`, at the end, lists the statements, and `proofs/Theorems.antt` proves them. Assumes nothing.
 use mathlib.Core.Path.{_≡_}
 use mathlib.Core.Logic.{_⊎_}
-use mathlib.Core.Bool.{true, false}
-use mathlib.Core.List.{List, [], _∷_}
-use Prim.Native.Nat.{ℕ, _-_, _*_, _^_, _≤_}
-use lib.ListN.{length}
+use mathlib.Core.Bool.{true, false, cond}
+use mathlib.Core.List.{List, [], _∷_, _++_}
+use Prim.Native.Nat.{ℕ, _-_, _*_, _^_, _≤_, _<_}
+use lib.ListN.{length, take}
 use Rattle.rounding.specs.Format.{binary32}
-use Rattle.rounding.specs.Value.{Value, nan, infinite, finite}
-use Rattle.binary32.specs.Classes.{flip}
-use Rattle.binary32.specs.Steps.{addStep, mulStep}
+use Rattle.rounding.specs.Value.{Value, nan, infinite, finite, isFinite, encode}
+use Rattle.binary32.specs.Steps.{addStep, subStep, mulStep, fmaStep}
 use Rattle.augmented.specs.Direct.{Operation, sum, difference, product, directPair}
+use Rattle.errorfree.specs.Comparisons.{lessMagnitude}
 use Rattle.emulation.specs.Constants.{psi, two, minusTwo, half, kappa, twoTo24, twoTo48, twoToMinus24, plusZero, smallest, twoTo127, twoTo102, twoToMinus102, twoToMinus126}
-use Rattle.emulation.specs.Lines.{Step, add, subtract, multiply, fused, stepOf, Line, value, minus}
-use Rattle.emulation.specs.Sheets.{Branch, isInfinite, isZero, isTiny, isMiddle, isOther, branchOf, sheetOf}
+use Rattle.emulation.specs.Lines.{Step, add, subtract, multiply, fused, number, Line, line, value, minus, equal, zero}
+use Rattle.emulation.specs.Sheets.{sheetOf}
 
--- ---- what the constants stand for: magnitudes count u = 2^-149, so 1 is 2 ^ 149
-abbrev pub ConstantValues : Type 0
-ConstantValues =
-    (value psi ≡ finite false (2 ^ 149 - 2 ^ 125)) × (value two ≡ finite false (2 ^ 150)) × (value minusTwo ≡ finite true (2 ^ 150)) × (value half ≡ finite false (2 ^ 148))
-    × (value kappa ≡ finite false (2 ^ 150 - 2 ^ 126)) × (value twoTo24 ≡ finite false (2 ^ 24 * 2 ^ 149)) × (value twoTo48 ≡ finite false (2 ^ 48 * 2 ^ 149)) × (value twoToMinus24 ≡ finite false (2 ^ 125))
-    × (value plusZero ≡ finite false 0) × (value smallest ≡ finite false 1) × (value twoTo127 ≡ finite false (2 ^ 127 * 2 ^ 149)) × (value twoTo102 ≡ finite false (2 ^ 102 * 2 ^ 149))
-    × (value twoToMinus102 ≡ finite false (2 ^ 47)) × (value twoToMinus126 ≡ finite false (2 ^ 23))
+-- ---- the constants: each is the pattern of its number. Magnitudes count u = 2^-149, so 1 is 2 ^ 149 of them.
+abbrev pub patternOf : ℕ → ℕ
+patternOf m = encode binary32 (finite false m)
 
--- ---- the lines
--- "third 0 if unused"
-abbrev pub Third : Step → ℕ → Type 0
-Third add z = z ≡ 0
-Third subtract z = z ≡ 0
-Third multiply z = z ≡ 0
-Third fused z = Unit {0}
+abbrev pub ConstantPatterns : Type 0
+ConstantPatterns =
+    (psi ≡ patternOf (2 ^ 149 - 2 ^ 125)) × (two ≡ patternOf (2 ^ 150)) × (minusTwo ≡ minus two) × (half ≡ patternOf (2 ^ 148)) × (kappa ≡ patternOf (2 ^ 150 - 2 ^ 126))
+    × (twoTo24 ≡ patternOf (2 ^ 24 * 2 ^ 149)) × (twoTo48 ≡ patternOf (2 ^ 48 * 2 ^ 149)) × (twoToMinus24 ≡ patternOf (2 ^ 125)) × (plusZero ≡ patternOf 0) × (smallest ≡ patternOf 1)
+    × (minus smallest ≡ 0x8000_0001) × (twoTo127 ≡ patternOf (2 ^ 127 * 2 ^ 149)) × (twoTo102 ≡ patternOf (2 ^ 102 * 2 ^ 149)) × (twoToMinus102 ≡ patternOf (2 ^ 47)) × (twoToMinus126 ≡ patternOf (2 ^ 23))
 
--- "each result being what Steps gives for the operation and operands on its line"
-abbrev pub IsStep : Line → Type 0
-IsStep l = (l .result ≡ stepOf (l .operation) (l .first) (l .second) (l .third)) × Third (l .operation) (l .third)
+-- ---- each line by itself: "each result being what Steps gives for the operation and operands on its line", "third 0 if unused"
+abbrev pub Gives : Step → ℕ → ℕ → ℕ → ℕ → Type 0
+Gives add x y z r = (r ≡ addStep x y) × (z ≡ 0)
+Gives subtract x y z r = (r ≡ subStep x y) × (z ≡ 0)
+Gives multiply x y z r = (r ≡ mulStep x y) × (z ≡ 0)
+Gives fused x y z r = r ≡ fmaStep x y z
 
 unfoldable pub Each : List Line → Type 0
 Each [] = Unit {0}
-Each (l ∷ ls) = IsStep l × Each ls
+Each (l ∷ ls) = Gives (l .operation) (l .x) (l .y) (l .z) (l .result) × Each ls
 
 abbrev pub EachLine : Type 0
 EachLine = (o : Operation) (x y : ℕ) → Each (sheetOf o x y .lines)
@@ -47,53 +44,80 @@ unfoldable pub Among : ℕ → List ℕ → Type 0
 Among p [] = ⊥
 Among p (k ∷ ks) = (p ≡ k) ⊎ (p ≡ minus k) ⊎ Among p ks
 
--- each line's operands are among what is known before it, and its result is known after it
+unfoldable pub Member : ℕ → List ℕ → Type 0
+Member p [] = ⊥
+Member p (k ∷ ks) = (p ≡ k) ⊎ Member p ks
+
+abbrev pub factors : List ℕ
+factors = psi ∷ two ∷ minusTwo ∷ half ∷ kappa ∷ twoTo24 ∷ twoTo48 ∷ twoToMinus24 ∷ plusZero ∷ []
+
+-- Operands are among what is known, ks, but for "A constant stands as the first operand of a multiplication", and u with a sign as the second of
+-- a subtraction.
+abbrev pub Drawn : List ℕ → Step → ℕ → ℕ → ℕ → Type 0
+Drawn ks add x y z = Among x ks × Among y ks
+Drawn ks subtract x y z = Among x ks × (Among y ks ⊎ Among y (smallest ∷ []))
+Drawn ks multiply x y z = (Among x ks ⊎ Member x factors) × Among y ks
+Drawn ks fused x y z = Among x ks × Among y ks × Among z ks
+
+-- a line's result is known after it
 unfoldable pub Known : List ℕ → List Line → Type 0
 Known ks [] = Unit {0}
-Known ks (l ∷ ls) = Among (l .first) ks × Among (l .second) ks × Among (l .third) ks × Known (l .result ∷ ks) ls
+Known ks (l ∷ ls) = Drawn ks (l .operation) (l .x) (l .y) (l .z) × Known (l .result ∷ ks) ls
 
 abbrev pub results : List Line → List ℕ
 results [] = []
 results (l ∷ ls) = l .result ∷ results ls
 
-abbrev pub constants : List ℕ
-constants = psi ∷ two ∷ minusTwo ∷ half ∷ kappa ∷ twoTo24 ∷ twoTo48 ∷ twoToMinus24 ∷ plusZero ∷ smallest ∷ []
-
--- known at first are the question's patterns and the constants (an unused third operand is +0's pattern); the foot is among the results
+-- known at first are the question's two patterns; both halves of the foot are among the results
 abbrev pub Derived : Type 0
 Derived =
     (o : Operation) (x y : ℕ) → let s = sheetOf o x y in
-    Known (x ∷ y ∷ constants) (s .lines) × Among (s .first) (results (s .lines)) × Among (s .second) (results (s .lines))
+    Known (x ∷ y ∷ []) (s .lines) × Among (s .first) (results (s .lines)) × Among (s .second) (results (s .lines))
 
--- ---- their count: "at most 13 lines"
+-- the first line: "Swap if |y| > |x|" and a = x + y, "for a difference, after y's flip"; a = x·y
+abbrev pub FirstLine : Type 0
+FirstLine =
+    ((x y : ℕ) → lessMagnitude (value x) (value y) ≡ true → take 1 (sheetOf sum x y .lines) ≡ line add y x (addStep y x) ∷ [])
+    × ((x y : ℕ) → lessMagnitude (value x) (value y) ≡ false → take 1 (sheetOf sum x y .lines) ≡ line add x y (addStep x y) ∷ [])
+    × ((x y : ℕ) → sheetOf difference x y ≡ sheetOf sum x (minus y))
+    × ((x y : ℕ) → take 1 (sheetOf product x y .lines) ≡ line multiply x y (mulStep x y) ∷ [])
+
+-- ---- the operations of all lines, in order, by their numbers: which lines there are, and how many
+abbrev pub operations : List Line → List ℕ
+operations [] = []
+operations (l ∷ ls) = number (l .operation) ∷ operations ls
+
+-- of a sum, by the value of a and the foot's halves: 6 or 7 lines, 6 where a is NaN, 11 or 13 where it is infinite
+abbrev pub sumOperations : Value → ℕ → ℕ → List ℕ
+sumOperations nan first second = 1 ∷ 2 ∷ 2 ∷ 3 ∷ 2 ∷ 3 ∷ []
+sumOperations (finite s m) first second = 1 ∷ 2 ∷ 2 ∷ 3 ∷ 2 ∷ 3 ∷ cond (zero second) (3 ∷ []) []
+sumOperations (infinite s) first second = 1 ∷ 2 ∷ 2 ∷ 3 ∷ 2 ∷ 3 ∷ 3 ∷ 3 ∷ 1 ∷ 2 ∷ 2 ∷ cond (isFinite (value first)) (3 ∷ 3 ∷ []) []
+
+-- Of a product: 4 or 6 lines where a is infinite; else by its magnitude, which counts u, 1, 10 or 11, 11 or 12, 5 or 6. 2^-125 is 2 ^ 24 u, and
+-- 2^-102 is 2 ^ 47 u. In the third branch a zero second has the line of zero finish, and any other may have that of a correction.
+abbrev pub ProductOperations : ℕ → Value → ℕ → ℕ → List ℕ → Type 0
+ProductOperations a nan first second ops = ops ≡ 3 ∷ 4 ∷ 3 ∷ 2 ∷ 3 ∷ []
+ProductOperations a (infinite s) first second ops = ops ≡ 3 ∷ 3 ∷ 3 ∷ 4 ∷ cond (isFinite (value first)) (3 ∷ 3 ∷ []) []
+ProductOperations a (finite s m) first second ops =
+    (m ≡ 0 → ops ≡ 3 ∷ [])
+    × (0 < m → m < 2 ^ 24 → ops ≡ 3 ∷ 3 ∷ 3 ∷ 3 ∷ 4 ∷ 3 ∷ 2 ∷ 1 ∷ 2 ∷ cond (equal first a) (3 ∷ []) (2 ∷ 3 ∷ []))
+    × (2 ^ 24 ≤ m → m ≤ 2 ^ 47 → let lines : List ℕ = 3 ∷ 3 ∷ 3 ∷ 4 ∷ 3 ∷ 2 ∷ 3 ∷ 3 ∷ 3 ∷ 3 ∷ 2 ∷ [] in
+    (zero second ≡ true → ops ≡ lines ++ 3 ∷ []) × (zero second ≡ false → (ops ≡ lines) ⊎ (ops ≡ lines ++ 2 ∷ [])))
+    × (2 ^ 47 < m → ops ≡ 3 ∷ 4 ∷ 3 ∷ 2 ∷ 3 ∷ cond (zero second) (3 ∷ []) [])
+
+abbrev pub InOrder : Type 0
+InOrder =
+    ((x y : ℕ) → let s = sheetOf sum x y in operations (s .lines) ≡ sumOperations (value (addStep x y)) (s .first) (s .second))
+    × ((x y : ℕ) → let s = sheetOf product x y in ProductOperations (mulStep x y) (value (mulStep x y)) (s .first) (s .second) (operations (s .lines)))
+
+-- "at most 13 lines", and at least one
 abbrev pub AtMost13 : Type 0
 AtMost13 = (o : Operation) (x y : ℕ) → (1 ≤ length (sheetOf o x y .lines)) × (length (sheetOf o x y .lines) ≤ 13)
 
--- of a sum, by the value of a: NaN, infinite, finite
-abbrev pub SumLines : Value → ℕ → Type 0
-SumLines nan n = n ≡ 6
-SumLines (infinite s) n = (n ≡ 11) ⊎ (n ≡ 13)
-SumLines (finite s a) n = (n ≡ 6) ⊎ (n ≡ 7)
-
--- of a product, by its branch
-abbrev pub ProductLines : Branch → ℕ → Type 0
-ProductLines isInfinite n = (n ≡ 4) ⊎ (n ≡ 6)
-ProductLines isZero n = n ≡ 1
-ProductLines isTiny n = (n ≡ 10) ⊎ (n ≡ 11)
-ProductLines isMiddle n = (n ≡ 11) ⊎ (n ≡ 12)
-ProductLines isOther n = (n ≡ 5) ⊎ (n ≡ 6)
-
-abbrev pub LineCounts : Type 0
-LineCounts =
-    ((x y : ℕ) → SumLines (value (addStep x y)) (length (sheetOf sum x y .lines)))
-    × ((x y : ℕ) → SumLines (value (addStep x (flip binary32 y))) (length (sheetOf difference x y .lines)))
-    × ((x y : ℕ) → ProductLines (branchOf (value (mulStep x y))) (length (sheetOf product x y .lines)))
-    × ((x y : ℕ) → value (mulStep x y) ≡ nan → length (sheetOf product x y .lines) ≡ 5)
-
--- ---- "The foot equals the direct pair in every bit"
+-- ---- "The foot equals the direct pair in every bit". (The flags that come back with a sheet are the direct pair's: said where a sheet is filled.)
 abbrev pub FootIsPair : Type 0
 FootIsPair = (o : Operation) (x y : ℕ) → (sheetOf o x y .first ≡ directPair o binary32 x y .first) × (sheetOf o x y .second ≡ directPair o binary32 x y .second)
 
--- ---- all of them: `proofs/Theorems.antt` proves this
+-- ---- all of them
 abbrev pub All : Type 0
-All = ConstantValues × EachLine × Derived × AtMost13 × LineCounts × FootIsPair
+All = ConstantPatterns × EachLine × Derived × FirstLine × InOrder × AtMost13 × FootIsPair

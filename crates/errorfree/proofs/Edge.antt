@@ -23,7 +23,8 @@ use Rattle.binary32.specs.Steps.{mulValue}
 use Rattle.augmented.specs.Pairs.{pairOf}
 use Rattle.augmented.proofs.Second.{first-infinite, second-infinite}
 use Rattle.errorfree.specs.Comparisons.{same}
-use Rattle.errorfree.specs.Constants.{Roomy, kappa, minusTwo}
+use Rattle.errorfree.specs.Constants.{Roomy}
+use Rattle.errorfree.proofs.Factors.{kappa, minusTwo}
 use Rattle.errorfree.proofs.Signed.{Rel, Is, rel-own, rel-dist, same-eq, eq-same, and-both, and-make, rel-other, other-side}
 use Rattle.errorfree.proofs.Steps.{toEven, toZero, even-at, zero-at, round-whole, mul-positive, mul-finite}
 use Rattle.errorfree.proofs.Split.{Split0, finished-first, finished-second}
@@ -149,7 +150,7 @@ module _ (F : Format) (room : Roomy F) where
       half-rep p l = rw half-is (rep-pow (F .fraction) 0 (suc j) (omega arith))
 
   -- ---- the two factors
-  kappa-is : (s : Bool) → mulValue F (kappa F) (finite s (halfLimit F)) ≡ finite s last
+  pub kappa-is : (s : Bool) → mulValue F (kappa F) (finite s (halfLimit F)) ≡ finite s last
   unfolding halfLimit last j
   kappa-is s =
       let D = 2 ^ suc (F .fraction) in

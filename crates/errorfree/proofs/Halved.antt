@@ -21,7 +21,8 @@ use Rattle.binary32.proofs.Sums.{like-own, sum-same}
 use Rattle.augmented.specs.Pairs.{pairOf}
 use Rattle.augmented.proofs.Second.{first-infinite, second-infinite}
 use Rattle.errorfree.specs.Comparisons.{same}
-use Rattle.errorfree.specs.Constants.{Roomy, half, kappa, minusTwo}
+use Rattle.errorfree.specs.Constants.{Roomy}
+use Rattle.errorfree.proofs.Factors.{half, kappa, minusTwo}
 use Rattle.errorfree.proofs.Signed.{Is}
 use Rattle.errorfree.proofs.Steps.{toEven, toZero, even-at, zero-at, round-whole, mul-positive, mul-finite}
 use Rattle.errorfree.proofs.ProductSplit.{whole, product-split}

@@ -1,3 +1,4 @@
+pub mod Factors
 pub mod NoNumber
 pub mod Signed
 pub mod Steps

@@ -25,7 +25,8 @@ use Rattle.binary32.specs.Steps.{subValue, mulValue, fmaValue}
 use Rattle.augmented.specs.Pairs.{pairOf}
 use Rattle.augmented.proofs.Second.{tail, first-finite}
 use Rattle.errorfree.specs.Comparisons.{same}
-use Rattle.errorfree.specs.Constants.{Roomy, up, down, zero}
+use Rattle.errorfree.specs.Constants.{Roomy}
+use Rattle.errorfree.proofs.Factors.{scale, unscale, zero}
 use Rattle.errorfree.proofs.Signed.{Rel, Is, rel-dist}
 use Rattle.errorfree.proofs.Steps.{toEven, toZero, error-le, mul-finite}
 use Rattle.errorfree.proofs.Split.{Split, Split0, zero-finish, side-of, ltb-scale}
@@ -46,7 +47,7 @@ pub record Finished (F : Format) (s : Bool) (N : ℕ) (first c r : Value) : Type
   pub t : Bool
   pub e : ℕ
   pub is : c ≡ finite t e
-  pub finished : cond (isZero (stepped F t c r)) (mulValue F zero (mulValue F (down F) first)) (stepped F t c r) ≡ pairOf F (finite s N) .second
+  pub finished : cond (isZero (stepped F t c r)) (mulValue F zero (mulValue F (unscale F) first)) (stepped F t c r) ≡ pairOf F (finite s N) .second
   -- what was stepped down is no zero
   pub nonzero : not (isZero c) && same r (finite t (2 ^ F .fraction)) ≡ true → isZero (stepped F t c r) ≡ false
 
@@ -109,7 +110,7 @@ module _ (F : Format) (room : Roomy F) (a b : ℕ) (ar : Rep (suc (F .fraction))
   fine = lt-of-le-of-lt (le-trans (pow-le-of F (a * 2 ^ K * b) (K + K + K) (le-trans (le-of-eq moved) scaled-high)) (le-mul-of-pos-right (2 ^ (K + K + K)) (pow-pos (low F)))) top-fine
 
   -- one factor scaled up, and the scaled product split
-  pub middle-split : (s t : Bool) (m a' b' : Value) → m ≡ mulValue F (up F) (finite s a) → a' ≡ mulValue F m (finite t b) → b' ≡ fmaValue F m (finite t b) (negate a') → Scaled F a b (unlike s t) a' b'
+  pub middle-split : (s t : Bool) (m a' b' : Value) → m ≡ mulValue F (scale F) (finite s a) → a' ≡ mulValue F m (finite t b) → b' ≡ fmaValue F m (finite t b) (negate a') → Scaled F a b (unlike s t) a' b'
   middle-split s t m a' b' m-eq a-eq b-eq =
       let A = toEven F (a * 2 ^ K * b) in
       let w = whole F (a * 2 ^ K) b factor-rep br big in
@@ -146,10 +147,10 @@ module _ (F : Format) (room : Roomy F) (a b : ℕ) (ar : Rep (suc (F .fraction))
     head-fine : head < limit F
     head-fine = lt-of-le-of-lt (le-mul-of-pos-right head (pow-pos K)) (lt-of-le-of-lt (le-of-eq (sym scaled-head)) (h .fine))
 
-    first-is : mulValue F (down F) first ≡ finite s head
-    first-is = ap (mulValue F (down F)) (h .is ∙ ap (finite s) scaled-head) ∙ down-step F wide s head head-rep head-fine
+    first-is : mulValue F (unscale F) first ≡ finite s head
+    first-is = ap (mulValue F (unscale F)) (h .is ∙ ap (finite s) scaled-head) ∙ down-step F wide s head head-rep head-fine
 
-    pub middle-first : mulValue F (down F) first ≡ pairOf F (finite s (a * b)) .first
+    pub middle-first : mulValue F (unscale F) first ≡ pairOf F (finite s (a * b)) .first
     middle-first = first-is ∙ sym (first-finite F s (a * b) head-fine)
 
     scaled : head * U * 2 ^ K ≡ f * U
@@ -183,10 +184,10 @@ module _ (F : Format) (room : Roomy F) (a b : ℕ) (ar : Rep (suc (F .fraction))
         nothing e = omega (arith, le-mul-of-pos-right q (pow-pos K))
 
     -- c is second scaled down, g is c scaled up again, and r what that is off by
-    pub middle-second : (c g r : Value) → c ≡ mulValue F (down F) second → g ≡ mulValue F (up F) c → r ≡ subValue F g second → Finished F s (a * b) first c r
+    pub middle-second : (c g r : Value) → c ≡ mulValue F (unscale F) second → g ≡ mulValue F (scale F) c → r ≡ subValue F g second → Finished F s (a * b) first c r
     middle-second c g r = go second (h .rest)
       where
-        go : (v : Value) → Is s v n f → c ≡ mulValue F (down F) v → g ≡ mulValue F (up F) c → r ≡ subValue F g v → Finished F s (a * b) first c r
+        go : (v : Value) → Is s v n f → c ≡ mulValue F (unscale F) v → g ≡ mulValue F (scale F) c → r ≡ subValue F g v → Finished F s (a * b) first c r
         go nan rel c-is g-is r-is = absurd rel
         go (infinite t) rel c-is g-is r-is = absurd rel
         go (finite t d) rel c-is g-is r-is =

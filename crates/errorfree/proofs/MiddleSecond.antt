@@ -24,7 +24,7 @@ use Rattle.rounding.proofs.SmallProducts.{rest-down, rest-keep}
 use Rattle.rounding.proofs.TieDown.{dbl}
 use Rattle.binary32.specs.Steps.{subValue, mulValue}
 use Rattle.errorfree.specs.Comparisons.{same}
-use Rattle.errorfree.specs.Constants.{up, down}
+use Rattle.errorfree.proofs.Factors.{scale, unscale}
 use Rattle.errorfree.proofs.Signed.{and-both, Is, rel-own, rel-dist, is-shift, same-eq, eq-same}
 use Rattle.errorfree.proofs.Steps.{toEven, is-sub, mul-positive}
 use Rattle.errorfree.proofs.Powers.{up-step, down-rounds}
@@ -51,10 +51,10 @@ module _ (F : Format) (wide : suc (F .fraction) ≤ low F) (t : Bool) (d : ℕ) 
   small-large : small ≤ large
   small-large = le-mul-of-pos-right small (pow-pos (suc (F .fraction)))
 
-  small-is : mulValue F (down F) (finite t d) ≡ finite t small
+  small-is : mulValue F (unscale F) (finite t d) ≡ finite t small
   small-is = mul-positive F (2 ^ (low F - suc (F .fraction))) t d ∙ round-below ToEven F t (2 ^ (low F - suc (F .fraction)) * d) (omega (arith, small-large, large-top))
 
-  large-is : mulValue F (up F) (finite t small) ≡ finite t large
+  large-is : mulValue F (scale F) (finite t small) ≡ finite t large
   large-is = up-step F t small (suc (F .fraction)) (rep-lower (let z : 0 ≤ suc (F .fraction) = omega arith in z) (near .rep)) (omega (arith, large-top))
 
   off : 2 * dist large d ≤ 2 ^ suc (F .fraction)
@@ -141,19 +141,19 @@ module _ (F : Format) (wide : suc (F .fraction) ≤ low F) (t : Bool) (d : ℕ) 
       go false e false x y = keep (λ k. y (omega (arith, pow-succ' 2 (F .fraction))))
       go false e true x y = (small - 1, lower-is (x tt), lower-near (x tt))
 
-  module _ (c g r : Value) (c-is : c ≡ mulValue F (down F) (finite t d)) (g-is : g ≡ mulValue F (up F) c) (r-is : r ≡ subValue F g (finite t d)) where
+  module _ (c g r : Value) (c-is : c ≡ mulValue F (unscale F) (finite t d)) (g-is : g ≡ mulValue F (scale F) c) (r-is : r ≡ subValue F g (finite t d)) where
     pub scaled-down : c ≡ finite t small
     scaled-down = c-is ∙ small-is
 
     pub stepped-is : Result (stepped F t c r)
     stepped-is =
-        let e : r ≡ gap = r-is ∙ ap (λ (v : Value). subValue F v (finite t d)) (g-is ∙ ap (mulValue F (up F)) scaled-down ∙ large-is) in
+        let e : r ≡ gap = r-is ∙ ap (λ (v : Value). subValue F v (finite t d)) (g-is ∙ ap (mulValue F (scale F)) scaled-down ∙ large-is) in
         rw (e, scaled-down) result
 
     -- a correction leaves no zero
     pub stepped-nonzero : not (isZero c) && same r (finite t (2 ^ F .fraction)) ≡ true → isZero (stepped F t c r) ≡ false
     stepped-nonzero h =
-        let e : r ≡ gap = r-is ∙ ap (λ (v : Value). subValue F v (finite t d)) (g-is ∙ ap (mulValue F (up F)) scaled-down ∙ large-is) in
+        let e : r ≡ gap = r-is ∙ ap (λ (v : Value). subValue F v (finite t d)) (g-is ∙ ap (mulValue F (scale F)) scaled-down ∙ large-is) in
         let k : not (eqb small 0) && same gap halfPlace ≡ true = sym (ap₂ (λ (v w : Value). not (isZero v) && same w halfPlace) scaled-down e) ∙ h in
         let tie = same-eq t gap halfPlace large d (2 ^ F .fraction) 0 gap-is (rel-own t (2 ^ F .fraction)) (and-both (not (eqb small 0)) (same gap halfPlace) (subst (λ (b : Bool). T b) (sym k) tt) .1) in
         rw (h, scaled-down) (lower-nonzero tie)

@@ -17,7 +17,7 @@ use Rattle.rounding.proofs.Rounded.{rounded-near}
 use Rattle.rounding.proofs.Scaled.{rep-up}
 use Rattle.rounding.proofs.Rescaled.{near-down}
 use Rattle.binary32.specs.Steps.{mulValue}
-use Rattle.errorfree.specs.Constants.{down}
+use Rattle.errorfree.proofs.Factors.{unscale}
 use Rattle.errorfree.proofs.Steps.{toEven, round-whole, mul-positive}
 
 -- ---- N units of u * u beside m * 2 ^ k units of u, a number of the format
@@ -40,7 +40,7 @@ pow-ge-of F N k h = rw one-mul at (even-ge F N 1 k (pow-pos (suc (F .fraction)))
 pub pow-above : (F : Format) (N k : ℕ) → 2 ^ k < toEven F N → 2 ^ k * 2 ^ low F ≤ N
 pow-above F N k h = elim (decLe (2 ^ k * 2 ^ low F) N) [ yes g ↦ g | no g ↦ absurd (omega (arith, pow-le-of F N k (omega arith))) ]
 
--- ---- scaled up: 2 ^ (low F + k) is 2 ^ k, so `up F` and `upUp F` are among them
+-- ---- scaled up: 2 ^ (low F + k) is 2 ^ k, so `scale F` and `scaleTwice F` are among them
 pub rep-shift : {p m : ℕ} (k : ℕ) → Rep p 0 m → Rep p 0 (m * 2 ^ k)
 rep-shift k r = rep-lower (let z : 0 ≤ 0 + k = omega arith in z) (rep-up k r)
 
@@ -57,7 +57,7 @@ module _ (F : Format) (wide : suc (F .fraction) ≤ low F) where
       mul-comm (2 ^ (low F - suc (F .fraction))) (m * 2 ^ suc (F .fraction))
       ∙ joined m (suc (F .fraction)) (low F - suc (F .fraction)) (low F) (let z : suc (F .fraction) + (low F - suc (F .fraction)) ≡ low F = omega arith in z)
 
-  pub down-step : (s : Bool) (m : ℕ) → Rep (suc (F .fraction)) 0 m → m < limit F → mulValue F (down F) (finite s (m * 2 ^ suc (F .fraction))) ≡ finite s m
+  pub down-step : (s : Bool) (m : ℕ) → Rep (suc (F .fraction)) 0 m → m < limit F → mulValue F (unscale F) (finite s (m * 2 ^ suc (F .fraction))) ≡ finite s m
   down-step s m r b = mul-positive F (2 ^ (low F - suc (F .fraction))) s (m * 2 ^ suc (F .fraction)) ∙ ap (roundFinite ToEven F s) (down-arg m) ∙ round-whole ToEven F s m r b
 
   -- what d units of u scaled down round to, beside d: a multiple of 2 ^ suc (F .fraction)

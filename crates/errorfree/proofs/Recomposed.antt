@@ -9,7 +9,8 @@ use lib.Pow.{pow-add}
 use Rattle.rounding.specs.declared.Ties.the-variants.{ToEven}
 use Rattle.rounding.specs.Format.{Format, low, limit}
 use Rattle.rounding.specs.Nearest.{dist, Rep, Near}
-use Rattle.rounding.specs.Value.{Value, nan, infinite, finite}
+use Rattle.rounding.specs.Value.{Value, nan, infinite, finite, Fits, isFinite}
+use Rattle.rounding.proofs.Representable.{rep-zero}
 use Rattle.rounding.proofs.NearLaws.{near0-one}
 use Rattle.rounding.proofs.Rounded.{rounded-near}
 use Rattle.rounding.proofs.RoundValue.{round-below}
@@ -92,3 +93,16 @@ module _ (F : Format) (room : Roomy F) (s : Bool) (n A : ℕ) (b : Value) (h : S
       let v = subValue F (finite s Z) (finite s A) in
       let w = mulValue F (two F) b in
       rw (ei, di, zi, z-is) (choice (same w v) (same-eq s w v (2 * n) (2 * A) Z A e-is d-is) (eq-same s w v (2 * n) (2 * A) Z A e-is d-is))
+
+-- ---- the product of a finite value is finite
+pub psi-finite : (F : Format) → Roomy F → (s : Bool) (A : ℕ) → Fits F (finite s A) → isFinite (mulValue F (psi F) (finite s A)) ≡ true
+unfolding Fits
+psi-finite F room s A f =
+    let none : dist A A ≡ 0 = omega arith in
+    let own : (s : Bool) → Rel s s 0 A A = λ (s : Bool). nothing s A in
+    let whole : Split F s A A (finite s 0) = record { near = record { rep = f .0; best = λ m r. omega arith }; fine = f .1; error = rw none rep-zero; rest = own s } in
+    ap isFinite (z-is F room s A A (finite s 0) whole)
+  where
+    nothing : (s : Bool) (A : ℕ) → Rel s s 0 A A
+    nothing false A = omega arith
+    nothing true A = omega arith

@@ -19,7 +19,7 @@ use Rattle.rounding.proofs.Rescaled.{dist-mul}
 use Rattle.binary32.specs.Steps.{mulValue}
 use Rattle.augmented.specs.Pairs.{pairOf}
 use Rattle.augmented.proofs.Second.{head, tail, up, unlike-true, unlike-false, first-finite, pair-second}
-use Rattle.errorfree.specs.Constants.{zero}
+use Rattle.errorfree.proofs.Factors.{zero}
 use Rattle.errorfree.proofs.Signed.{Rel, Is, rel-dist, other-side}
 use Rattle.errorfree.proofs.Steps.{toZero, whole-near, zero-at, zero-times}
 

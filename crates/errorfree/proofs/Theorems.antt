@@ -24,11 +24,10 @@ use Rattle.rounding.proofs.Predecessor.{upper, below-add, below-rep, below-best
 use Rattle.rounding.proofs.Predecessor as predecessor
 use Rattle.binary32.specs.Exact.{negate, plus, times, finer, int}
 use Rattle.binary32.specs.Steps.{addValue, subValue, mulValue, fmaValue}
-use Rattle.binary32.proofs.Sums.{like-eq}
 use Rattle.binary32.proofs.Integers.{plus-exact}
 use Rattle.augmented.specs.Pairs.{rest, addsUp}
 use Rattle.augmented.proofs.Distance.{int-size}
-use Rattle.errorfree.specs.Comparisons.{same, smaller}
+use Rattle.errorfree.specs.Comparisons.{same, lessMagnitude}
 use Rattle.errorfree.specs.Constants.{psi}
 use Rattle.errorfree.specs.Theorems as specs
 use Rattle.errorfree.proofs.NoNumber.{not-both, none-zero, number-of, both-of, sum-none, finer-none, negate-none, add-none}
@@ -40,16 +39,16 @@ use Rattle.errorfree.proofs.AddsUp.{adds-up, up-adds}
 use Rattle.errorfree.proofs.Recomposed as split
 
 -- ---- comparisons
-pub smaller-means : specs.SmallerMeans
-unfolding smaller
-smaller-means = (λ s a t b. refl, nothing, λ s v. (refl, infinity s v))
+pub less-means : specs.LessMeans
+unfolding lessMagnitude
+less-means = (λ s a t b. refl, nothing, λ s v. (refl, infinity s v))
   where
-    nothing : (v : Value) → (smaller nan v ≡ false) × (smaller v nan ≡ false)
+    nothing : (v : Value) → (lessMagnitude nan v ≡ false) × (lessMagnitude v nan ≡ false)
     nothing nan = (refl, refl)
     nothing (infinite s) = (refl, refl)
     nothing (finite s a) = (refl, refl)
 
-    infinity : (s : Bool) (v : Value) → smaller v (infinite s) ≡ isFinite v
+    infinity : (s : Bool) (v : Value) → lessMagnitude v (infinite s) ≡ isFinite v
     infinity s nan = refl
     infinity s (infinite t) = refl
     infinity s (finite t a) = refl
@@ -78,7 +77,7 @@ same-sign false true a e = let z = eqb-true a 0 e in rw z refl
 
 pub same-means : specs.SameMeans
 unfolding same
-same-means = (λ s a t b. (forth s a t b, back s a t b), nothing, infinity)
+same-means = (λ s a t b. (forth s a t b, back s a t b), nothing, λ s t. refl, λ s t b. (refl, refl))
   where
     forth : (s : Bool) (a : ℕ) (t : Bool) (b : ℕ) → eqb a b && (Bool·beq s t || eqb a 0) ≡ true → int s a ≡ int t b
     forth s a t b e = let h = both-of (eqb a b) (Bool·beq s t || eqb a 0) e in same-sign s t a (h .1) ∙ ap (int t) (eqb-true a b (h .0))
@@ -92,11 +91,6 @@ same-means = (λ s a t b. (forth s a t b, back s a t b), nothing, infinity)
     nothing nan = (refl, refl)
     nothing (infinite s) = (refl, refl)
     nothing (finite s a) = (refl, refl)
-
-    infinity : (s : Bool) (v : Value) → same (infinite s) v ≡ true → v ≡ infinite s
-    infinity s nan e = not-both (sym e)
-    infinity s (infinite t) e = ap infinite (sym (like-eq s t e))
-    infinity s (finite t a) e = not-both (sym e)
 
 -- ---- errors
 pub sum-errors : specs.SumError
@@ -134,7 +128,7 @@ fast-finite F s X t Y xf yf le f =
     rw (a-is, e .2) (adds-up F r n (toEven F (n * 2 ^ low F)) (subValue F (finite t Y) (subValue F (finite r (toEven F (n * 2 ^ low F))) (finite s X))) (split .rest))
 
 pub fast2sum : specs.Fast2Sum
-unfolding smaller
+unfolding lessMagnitude
 fast2sum F x y a v b xf yf l ai vi bi f = by (isFinite x && isFinite y) refl
   where
     by : (c : Bool) → isFinite x && isFinite y ≡ c → addsUp F (finer F (plus x y)) (record { first = a; second = b }) ≡ true
@@ -143,7 +137,7 @@ fast2sum F x y a v b xf yf l ai vi bi f = by (isFinite x && isFinite y) refl
         let h = both-of (isFinite x) (isFinite y) n in
         let p = number-of x (h .0) in
         let q = number-of y (h .1) in
-        let le = ltb-false (p .1) (q .1) (sym (ap₂ smaller (p .2) (q .2)) ∙ l) in
+        let le = ltb-false (p .1) (q .1) (sym (ap₂ lessMagnitude (p .2) (q .2)) ∙ l) in
         let k = fast-finite F (p .0) (p .1) (q .0) (q .1) (subst (Fits F) (p .2) xf) (subst (Fits F) (q .2) yf) le (sym (ap₂ (λ (u w : Value). isFinite (addValue F u w)) (p .2) (q .2)) ∙ sym (ap isFinite ai) ∙ f) in
         rw (bi, vi, ai) (subst (λ (w : Value). addsUp F (finer F (plus x w)) (record { first = addValue F x w; second = subValue F w (subValue F (addValue F x w) x) }) ≡ true) (sym (q .2))
         (subst (λ (u : Value). addsUp F (finer F (plus u (finite (q .0) (q .1)))) (record { first = addValue F u (finite (q .0) (q .1)); second = subValue F (finite (q .0) (q .1)) (subValue F (addValue F u (finite (q .0) (q .1))) u) }) ≡ true) (sym (p .2)) k))
@@ -205,4 +199,4 @@ recomposition F room s n a b z d e ai f bf add zi di ei =
     rw a-is (h .is ∙ sym (round-below ToZero F s N (h .fine)), rw (h .is) (adds-up F s n (toZero F N) (cond (same e d) (negate b) b) (h .rest)))
 
 pub all : specs.All
-all = (same-means, smaller-means, sum-errors, product-errors, fast2sum, fused-leaves, psi-predecessor, recomposition, omega arith)
+all = (same-means, less-means, sum-errors, product-errors, fast2sum, fused-leaves, psi-predecessor, recomposition, omega arith)

@@ -23,7 +23,8 @@ use Rattle.binary32.specs.Steps.{addValue, subValue, mulValue, fmaValue}
 use Rattle.binary32.proofs.Sums.{not-like, sum-left}
 use Rattle.augmented.specs.Pairs.{pairOf}
 use Rattle.errorfree.specs.Comparisons.{same}
-use Rattle.errorfree.specs.Constants.{Roomy, up, upUp, zero}
+use Rattle.errorfree.specs.Constants.{Roomy}
+use Rattle.errorfree.proofs.Factors.{scale, scaleTwice, zero}
 use Rattle.errorfree.proofs.Steps.{toEven, even-at, zero-le-even, error-le, round-whole, mul-finite, zero-times}
 use Rattle.errorfree.proofs.ProductSplit.{fused-rest, whole, whole-error}
 use Rattle.errorfree.proofs.Powers.{pow-le-of, rep-shift, up-step}
@@ -223,8 +224,8 @@ module _ (F : Format) (room : Roomy F) (a b : ℕ) (ar : Rep (suc (F .fraction))
 
     -- both factors scaled up; z and w find the tie that went up
     pub tiny-pair : (m n t1 t2 g t3 z w : Value)
-        → m ≡ mulValue F (up F) (finite s a) → n ≡ mulValue F (up F) (finite t b) → t1 ≡ mulValue F m n → t2 ≡ fmaValue F m n (negate t1)
-        → g ≡ mulValue F (upUp F) (finite (unlike s t) (toEven F (a * b))) → t3 ≡ subValue F t1 g → z ≡ addValue F t2 t3 → w ≡ subValue F z t3
+        → m ≡ mulValue F (scale F) (finite s a) → n ≡ mulValue F (scale F) (finite t b) → t1 ≡ mulValue F m n → t2 ≡ fmaValue F m n (negate t1)
+        → g ≡ mulValue F (scaleTwice F) (finite (unlike s t) (toEven F (a * b))) → t3 ≡ subValue F t1 g → z ≡ addValue F t2 t3 → w ≡ subValue F z t3
         → let A = finite (unlike s t) (toEven F (a * b)) in
         let first = cond (same z (finite (not (unlike s t)) (2 ^ suc (F .fraction + F .fraction))) && same w t2) (subValue F A (finite (unlike s t) 1)) A in
         (first ≡ pairOf F (finite (unlike s t) (a * b)) .first) × (mulValue F zero first ≡ pairOf F (finite (unlike s t) (a * b)) .second)

@@ -14,9 +14,9 @@ same (finite s a) (infinite t) = false
 same (finite s a) (finite t b) = eqb a b && (Bool·beq s t || eqb a 0)
 
 -- |x| < |y|
-unfoldable pub smaller : Value → Value → Bool
-smaller nan y = false
-smaller (infinite s) y = false
-smaller (finite s a) nan = false
-smaller (finite s a) (infinite t) = true
-smaller (finite s a) (finite t b) = ltb a b
+unfoldable pub lessMagnitude : Value → Value → Bool
+lessMagnitude nan y = false
+lessMagnitude (infinite s) y = false
+lessMagnitude (finite s a) nan = false
+lessMagnitude (finite s a) (infinite t) = true
+lessMagnitude (finite s a) (finite t b) = ltb a b

@@ -1,7 +1,7 @@
--- What is proved of error-free transformations, for a course to cite. Each name is a statement; `proofs/Theorems.antt` has its proof.
--- Assumes nothing. All but the last speak of any format; `Roomy` (Constants) asks for room between its precision and its exponents.
+-- What is proved of error-free transformations, for a course to cite. `All`, at the end, lists the statements, and `proofs/Theorems.antt`
+-- proves them. Assumes nothing. They speak of any format, two of them of any `Roomy` one (Constants), as binary32 is.
 use mathlib.Core.Path.{_≡_}
-use mathlib.Core.Bool.{Bool, true, false, cond}
+use mathlib.Core.Bool.{Bool, true, false, Bool·beq, cond}
 use Prim.Native.Nat.{ℕ, suc, _+_, _*_, _^_, _≤_, _<_}
 use lib.Dec.{ltb}
 use Rattle.rounding.specs.declared.Ties.{Ties}
@@ -12,7 +12,7 @@ use Rattle.rounding.specs.Value.{Value, nan, infinite, finite, Fits, isFinite, 
 use Rattle.binary32.specs.Exact.{negate, plus, times, finer, int}
 use Rattle.binary32.specs.Steps.{addValue, subValue, mulValue, fmaValue}
 use Rattle.augmented.specs.Pairs.{addsUp}
-use Rattle.errorfree.specs.Comparisons.{same, smaller}
+use Rattle.errorfree.specs.Comparisons.{same, lessMagnitude}
 use Rattle.errorfree.specs.Constants.{Roomy, psi, two}
 
 -- ---- what comparisons mean
@@ -21,14 +21,14 @@ abbrev pub SameMeans : Type 0
 SameMeans =
     ((s : Bool) (a : ℕ) (t : Bool) (b : ℕ) → (same (finite s a) (finite t b) ≡ true → int s a ≡ int t b) × (int s a ≡ int t b → same (finite s a) (finite t b) ≡ true))
     × ((v : Value) → (same nan v ≡ false) × (same v nan ≡ false))
-    × ((s : Bool) (v : Value) → same (infinite s) v ≡ true → v ≡ infinite s)
+    × ((s t : Bool) → same (infinite s) (infinite t) ≡ Bool·beq s t) × ((s t : Bool) (b : ℕ) → (same (infinite s) (finite t b) ≡ false) × (same (finite t b) (infinite s) ≡ false))
 
--- by magnitude; nothing is smaller than NaN or larger than it
-abbrev pub SmallerMeans : Type 0
-SmallerMeans =
-    ((s : Bool) (a : ℕ) (t : Bool) (b : ℕ) → smaller (finite s a) (finite t b) ≡ ltb a b)
-    × ((v : Value) → (smaller nan v ≡ false) × (smaller v nan ≡ false))
-    × ((s : Bool) (v : Value) → (smaller (infinite s) v ≡ false) × (smaller v (infinite s) ≡ isFinite v))
+-- by magnitude; NaN is neither below nor above anything
+abbrev pub LessMeans : Type 0
+LessMeans =
+    ((s : Bool) (a : ℕ) (t : Bool) (b : ℕ) → lessMagnitude (finite s a) (finite t b) ≡ ltb a b)
+    × ((v : Value) → (lessMagnitude nan v ≡ false) × (lessMagnitude v nan ≡ false))
+    × ((s : Bool) (v : Value) → (lessMagnitude (infinite s) v ≡ false) × (lessMagnitude v (infinite s) ≡ isFinite v))
 
 -- ---- errors that are numbers of the format
 -- what either tie rule leaves over of a sum, or of a difference
@@ -44,7 +44,7 @@ ProductError =
 -- ---- Fast2Sum is exact: |y| is not above |x|, and a is finite
 abbrev pub Fast2Sum : Type 0
 Fast2Sum =
-    (F : Format) (x y a v b : Value) → Fits F x → Fits F y → smaller x y ≡ false → a ≡ addValue F x y → v ≡ subValue F a x → b ≡ subValue F y v → isFinite a ≡ true
+    (F : Format) (x y a v b : Value) → Fits F x → Fits F y → lessMagnitude x y ≡ false → a ≡ addValue F x y → v ≡ subValue F a x → b ≡ subValue F y v → isFinite a ≡ true
     → addsUp F (finer F (plus x y)) (record { first = a; second = b }) ≡ true
 
 -- a fused step leaves all of a product that is not small
@@ -81,4 +81,4 @@ Binary32Roomy = Roomy binary32
 
 -- ---- all of them: `proofs/Theorems.antt` proves this
 abbrev pub All : Type 0
-All = SameMeans × SmallerMeans × SumError × ProductError × Fast2Sum × FusedRest × PsiPredecessor × Recomposition × Binary32Roomy
+All = SameMeans × LessMeans × SumError × ProductError × Fast2Sum × FusedRest × PsiPredecessor × Recomposition × Binary32Roomy

@@ -18,7 +18,8 @@ recomposition a b =
     let z = mulStep psi a in
     let d = subStep z a in
     let e = mulStep two b in
-    before (line multiply psi a z ∷ line subtract z a d ∷ line multiply two b e ∷ []) (ends (cond (equal e d) z a) (cond (equal e d) (minus b) b))
+    before (line multiply psi a z ∷ line subtract z a d ∷ line multiply two b e ∷ [])
+    (ends (cond (equal e d) z a) (cond (equal e d) (minus b) b))
 
 -- "Zero finish: where second is zero, one line second = (+0)·first."
 unfoldable pub zeroFinish : ℕ → ℕ → Sheet
@@ -39,7 +40,9 @@ unfoldable pub edgeFinish : ℕ → ℕ → ℕ → Sheet
 edgeFinish a a' b' =
     let first = mulStep kappa a' in
     let second = mulStep minusTwo b' in
-    cond (atEdge a' b') (before (line multiply kappa a' first ∷ line multiply minusTwo b' second ∷ []) (ends first second)) (ends a a)
+    cond (atEdge a' b')
+    (before (line multiply kappa a' first ∷ line multiply minusTwo b' second ∷ []) (ends first second))
+    (ends a a)
 
 -- ---- "Sum"
 -- "x' = ½·x; y' = ½·y; a' = x' + y'; v' = a' - x'; b' = y' - v'", and the edge
@@ -50,7 +53,8 @@ halvedSum x y a =
     let a' = addStep x' y' in
     let v' = subStep a' x' in
     let b' = subStep y' v' in
-    before (line multiply half x x' ∷ line multiply half y y' ∷ line add x' y' a' ∷ line subtract a' x' v' ∷ line subtract y' v' b' ∷ []) (edgeFinish a a' b')
+    before (line multiply half x x' ∷ line multiply half y y' ∷ line add x' y' a' ∷ line subtract a' x' v' ∷ line subtract y' v' b' ∷ [])
+    (edgeFinish a a' b')
 
 -- "second is not zero and a is infinite": a NaN second is not zero, so that an infinite operand leads here too
 unfoldable pub overflows : ℕ → ℕ → Bool
@@ -63,7 +67,8 @@ sumInOrder x y =
     let v = subStep a x in
     let b = subStep y v in
     let r = recomposedFinished a b in
-    before (line add x y a ∷ line subtract a x v ∷ line subtract y v b ∷ r .lines) (cond (overflows (r .second) a) (halvedSum x y a) (ends (r .first) (r .second)))
+    before (line add x y a ∷ line subtract a x v ∷ line subtract y v b ∷ r .lines)
+    (cond (overflows (r .second) a) (halvedSum x y a) (ends (r .first) (r .second)))
 
 -- "Swap if |y| > |x|."
 unfoldable pub swaps : ℕ → ℕ → Bool
@@ -109,7 +114,8 @@ tinyProduct x y a =
     let first = cond tie (lowered a) a in
     let second = mulStep plusZero first in
     before
-    (line multiply twoTo24 x m ∷ line multiply twoTo24 y n ∷ line multiply m n t1 ∷ fusedLine m n (minus t1) t2 ∷ line multiply twoTo48 a g ∷ line subtract t1 g t3 ∷ line add t2 t3 z ∷ line subtract z t3 w ∷ [])
+    (line multiply twoTo24 x m ∷ line multiply twoTo24 y n ∷ line multiply m n t1 ∷ fusedLine m n (minus t1) t2
+    ∷ line multiply twoTo48 a g ∷ line subtract t1 g t3 ∷ line add t2 t3 z ∷ line subtract z t3 w ∷ [])
     (before (cond tie (lowering a ∷ []) []) (before (line multiply plusZero first second ∷ []) (ends first second)))
 
 -- "β is not zero and r is 2^-126 with β's sign"

@@ -14,7 +14,7 @@ use Rattle.rounding.proofs.Multiple.{Mult}
 use Rattle.rounding.proofs.NearLaws.{near-exact, near-le}
 use Rattle.rounding.proofs.Representable.{rep-zero}
 use Rattle.rounding.proofs.RoundValue.{round-below}
-use Rattle.rounding.proofs.SmallProducts.{t3-rep, t3-zero, w-rep}
+use Rattle.rounding.proofs.SmallProducts.{difference-rep, difference-none, rounded-rest}
 use Rattle.rounding.proofs.Sterbenz.{dist-le}
 use Rattle.binary32.specs.Exact.{plus, finer}
 use Rattle.binary32.specs.Steps.{addValue, subValue}
@@ -76,7 +76,7 @@ module _ (F : Format) (r : Bool) (T1 Q G H k : ℕ) (t2 : Value) (h : Scaled F r
   t3-is =
       let e = dist-shift (T1 + 0) (0 + G) T1 G (omega arith) in
       is-shift r t3 (T1 + 0) (0 + G) T1 G
-      (is-sub F r (finite r T1) (finite r G) T1 0 G 0 (rel-own r T1) (rel-own r G) (rw e (t3-rep k (h .near) (h .G-rep) (h .G-grid) (h .top) (h .close))) (rw e (omega (arith, h .fine, h .G-fine))))
+      (is-sub F r (finite r T1) (finite r G) T1 0 G 0 (rel-own r T1) (rel-own r G) (rw e (difference-rep k (h .near) (h .G-rep) (h .G-grid) (h .top) (h .close))) (rw e (omega (arith, h .fine, h .G-fine))))
       (omega arith)
 
   Z : ℕ
@@ -100,7 +100,7 @@ module _ (F : Format) (r : Bool) (T1 Q G H k : ℕ) (t2 : Value) (h : Scaled F r
 
   module _ (less : Q < G) where
     T1-le : T1 ≤ G
-    T1-le = elim (decLe G T1) [ yes b ↦ le-of-eq (t3-zero k (h .near) (h .G-rep) (h .G-grid) (h .top) (h .close) less b) | no b ↦ omega arith ]
+    T1-le = elim (decLe G T1) [ yes b ↦ le-of-eq (difference-none k (h .near) (h .G-rep) (h .G-grid) (h .top) (h .close) less b) | no b ↦ omega arith ]
 
     Z-below : Near (suc (F .fraction)) 0 (G - Q) Z
     Z-below = rw (dist-le (let z : Q ≤ G = omega arith in z)) at Z-near
@@ -114,7 +114,7 @@ module _ (F : Format) (r : Bool) (T1 Q G H k : ℕ) (t2 : Value) (h : Scaled F r
     w-is : Is r (subValue F (finite (not r) Z) t3) (0 + G) (Z + T1)
     w-is =
         let e = w-dist Z G T1 T1-le in
-        is-sub F r (finite (not r) Z) t3 0 Z T1 G (rel-other r Z) t3-is (rw e (w-rep k (h .near) (h .G-rep) (h .G-grid) (h .top) (h .close) (h .error) less Z-below)) (rw e (w-bound Z G T1 H (limit F) T1-le Z-le (h .H-fine) (h .G-fine)))
+        is-sub F r (finite (not r) Z) t3 0 Z T1 G (rel-other r Z) t3-is (rw e (rounded-rest k (h .near) (h .G-rep) (h .G-grid) (h .top) (h .close) (h .error) less Z-below)) (rw e (w-bound Z G T1 H (limit F) T1-le Z-le (h .H-fine) (h .G-fine)))
 
     z-below : addValue F t2 t3 ≡ finite (not r) Z
     z-below = z-is .1 ∙ ap (λ (s : Bool). finite s Z) (other-side r (z-is .0) (dist Q G) Q G (z-is .2) less)

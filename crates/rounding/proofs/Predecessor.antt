@@ -12,7 +12,7 @@ use Rattle.rounding.proofs.Representable.{rep-le, rep-unit, ceil-best}
 use Rattle.rounding.proofs.LastPlace.{place-ge, place-above, place-below}
 use Rattle.rounding.proofs.Scaled.{rep-up, rep-down}
 
--- ---- A above 0 as m * 2 ^ f with m ≤ 2 ^ (p + 1), and 2 ^ p < m unless f is the lowest exponent: the value below A is A - 2 ^ f, at a power of two as well
+-- ---- A above 0 as m * 2 ^ f with m ≤ 2 ^ (p + 1), and 2 ^ p < m unless f is the lowest exponent: the number below A is A - 2 ^ f, at a power of two as well
 pub record Upper (p l A : ℕ) : Type 0 where
   pub f : ℕ
   pub m : ℕ
@@ -68,7 +68,7 @@ module _ {p l A : ℕ} (u : Upper p l A) where
             omega (arith, rw (v, e) at w, u .is))
       ]
 
-  -- the product by 1 - 2 ^ -(p + 1), in units 2 ^ (p + 1) times finer, rounds to the value below A
+  -- the product by 1 - 2 ^ -(p + 1), in units 2 ^ (p + 1) times finer, rounds to the number below A
   pub above-always : 2 ^ p * 2 ^ l < A → 2 ^ p < u .m
   above-always h = elim (decLe (suc l) (u .f)) [ yes g ↦ u .above g | no g ↦ let b = u .low in let e : u .f ≡ l = omega arith in lt-of-mul-lt-mul-right (2 ^ l) (lt-of-lt-of-le h (le-of-eq (u .is ∙ ap (λ (z : ℕ). u .m * 2 ^ z) e))) ]
 

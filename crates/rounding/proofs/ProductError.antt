@@ -10,7 +10,7 @@ use Rattle.rounding.proofs.Representable.{rep-le, rep-lt}
 use Rattle.rounding.proofs.NearLaws.{near-mult}
 use Rattle.rounding.proofs.TieDown.{dbl}
 
--- half of a step at most, for every step 2 ^ k at which n still has p digits
+-- a nearest number is at most half of 2 ^ k away, where n has at most p + 1 digits above 2 ^ k
 pub near-half : {p l n a : ℕ} (k : ℕ) → Near (suc p) l n a → l ≤ k → n < 2 ^ suc p * 2 ^ k → 2 * dist a n ≤ 2 ^ k
 near-half {p} {l} {n} {a} k h low top =
     let q = n / 2 ^ k in
@@ -21,7 +21,7 @@ near-half {p} {l} {n} {a} k h low top =
     let y = h .best (suc q * 2 ^ k) (rep-le p l (suc q) k low c) in
     omega (arith, suc-mul q (2 ^ k))
 
--- ---- a product of two significands: its error is a value
+-- ---- a product of two significands
 pub product-error : {p l N a : ℕ} (g c : ℕ) → l ≤ g → N ≡ c * 2 ^ g → c < 2 ^ suc p * 2 ^ suc p → Near (suc p) l N a → Rep (suc p) l (dist a N)
 product-error {p} {l} {N} {a} g c low is small h =
     let e : 2 ^ suc p * 2 ^ (g + suc p) ≡ 2 ^ suc p * 2 ^ suc p * 2 ^ g = ap (λ (z : ℕ). 2 ^ suc p * z) (pow-add 2 g (suc p) ∙ mul-comm (2 ^ g) (2 ^ suc p)) ∙ sym (mul-assoc (2 ^ suc p) (2 ^ suc p) (2 ^ g)) in

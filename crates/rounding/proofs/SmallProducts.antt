@@ -1,4 +1,4 @@
--- The two corrections of small products, on magnitudes: what is left is rounded a second time, and a tie that went up goes down. Assumes nothing.
+-- A second rounding to a coarser unit, and differences from a number near by: what corrections of small products rest on. Assumes nothing.
 use mathlib.Core.Path.{_≡_, sym, ap, _∙_, subst}
 use mathlib.Core.Logic.{_⊎_, inl, inr}
 use Prim.Native.Nat.{ℕ, zero, suc, _+_, _-_, _*_, _^_, _≤_, _<_}
@@ -18,7 +18,7 @@ use Rattle.rounding.proofs.Predecessor.{Upper, upper}
 use Rattle.rounding.proofs.TieDown.{keep-above, keep-below, go-down}
 use Rattle.rounding.proofs.Sterbenz.{dist-ge, dist-le, rep-dist, rep-double, half-ge, add-ge, add-v, sub-le, sub-v}
 
--- ---- the middle branch's second: B is rounded to a multiple of 2 ^ l, and a tie that went up goes down
+-- ---- B, a number of the format, is rounded again, to a multiple of 2 ^ l; where that was a tie that went up, ties go down by 2 ^ l
 module _ {p l B A : ℕ} (b : Rep (suc p) 0 B) (h : Near (suc p) l B A) where
   lowest : (u : Upper p l A) → B < A → u .f ≡ l
   lowest u less =
@@ -49,52 +49,52 @@ module _ {p l B A : ℕ} (b : Rep (suc p) 0 B) (h : Near (suc p) l B A) where
             keep-below h u less (λ t. no-tie (less, t ∙ ap (λ (z : ℕ). 2 ^ z) (lowest u less)))
       ]
 
--- ---- the step at which n is rounded
-pub near-cut : {p l n a : ℕ} → Near (suc p) l n a → Mult (lastPlace p l n) a
-near-cut {p} {l} {n} {a} h =
+-- ---- a nearest number is a multiple of n's last place, and at most half of it away
+pub near-place : {p l n a : ℕ} → Near (suc p) l n a → Mult (lastPlace p l n) a
+near-place {p} {l} {n} {a} h =
     let k = lastPlace p l n in
     elim (decLe (suc l) k) [
       | yes g ↦ rep-low (near-raise k (place-ge p l n) (le-trans (le-of-eq (sym (pow-add 2 p k))) (place-below p l n g)) h .rep)
       | no g ↦ let b = place-ge p l n in let e : k ≡ l = omega arith in rw e (rep-low (h .rep))
     ]
 
-pub near-err : {p l n a : ℕ} → Near (suc p) l n a → 2 * dist a n ≤ 2 ^ lastPlace p l n
-near-err {p} {l} {n} {a} h = near-half (lastPlace p l n) h (place-ge p l n) (lt-of-lt-of-le (place-above p l n) (le-of-eq (pow-add 2 (suc p) (lastPlace p l n))))
+pub near-error : {p l n a : ℕ} → Near (suc p) l n a → 2 * dist a n ≤ 2 ^ lastPlace p l n
+near-error {p} {l} {n} {a} h = near-half (lastPlace p l n) h (place-ge p l n) (lt-of-lt-of-le (place-above p l n) (le-of-eq (pow-add 2 (suc p) (lastPlace p l n))))
 
 far : (d e K q : ℕ) → 2 * d ≤ K → e ≡ q + K → d ≤ e
 far d e K q a b = omega arith
 
--- ---- the lowest branch. T is the scaled product, T1 its rounding, and G the scaled a. T1 - G is a value, and so is what is left of z after it.
+-- ---- T is rounded to T1; G, a coarser number of the format, is near T. T1 - G is a number of the format, and so is what rounding leaves of T - G.
 module _ {p T T1 G : ℕ} (k : ℕ) (h : Near (suc p) 0 T T1) (g : Rep (suc p) 0 G) (gk : Mult k G) (top : T < 2 ^ suc p * 2 ^ k) where
   -- T1 and G are equal, or further apart than T and T1
   pub apart : (T1 ≡ G) ⊎ (dist T1 T ≤ dist T1 G)
   apart =
       let c = lastPlace p 0 T in
-      let m = mult-dist c T1 G (near-cut h) (mult-down G (place-le p 0 k T (omega arith) (lt-of-lt-of-le top (le-of-eq (sym (pow-add 2 (suc p) k))))) gk) in
-      go (m .0) (m .1) (near-err h)
+      let m = mult-dist c T1 G (near-place h) (mult-down G (place-le p 0 k T (omega arith) (lt-of-lt-of-le top (le-of-eq (sym (pow-add 2 (suc p) k))))) gk) in
+      go (m .0) (m .1) (near-error h)
     where
       go : (q : ℕ) → dist T1 G ≡ q * 2 ^ lastPlace p 0 T → 2 * dist T1 T ≤ 2 ^ lastPlace p 0 T → (T1 ≡ G) ⊎ (dist T1 T ≤ dist T1 G)
       go zero e b = inl (omega (arith, zero-mul (2 ^ lastPlace p 0 T)))
       go (suc q) e b = inr (far (dist T1 T) (dist T1 G) (2 ^ lastPlace p 0 T) (q * 2 ^ lastPlace p 0 T) b (e ∙ suc-mul q (2 ^ lastPlace p 0 T)))
 
   module _ (near : dist T G * 2 ≤ G) where
-    pub t3-rep : Rep (suc p) 0 (dist T1 G)
-    t3-rep =
+    pub difference-rep : Rep (suc p) 0 (dist T1 G)
+    difference-rep =
         rep-dist (h .rep) g
         (elim (decLe G T) [ yes b ↦ omega (arith, near-ge h g b) | no b ↦ half-ge g (T, sym (mul-one T)) (omega arith) (omega arith) h ])
         (near-le h (rep-double g) (omega arith))
 
-    pub t3-zero : T < G → G ≤ T1 → T1 ≡ G
-    t3-zero less le = elim apart [ inl e ↦ e | inr b ↦ absurd (omega arith) ]
+    pub difference-none : T < G → G ≤ T1 → T1 ≡ G
+    difference-none less le = elim apart [ inl e ↦ e | inr b ↦ absurd (omega arith) ]
 
-    -- z = -Z is the rounding of T - G, and w = z - (T1 - G) is exact
-    pub w-rep : {Z : ℕ} → Rep (suc p) 0 (dist T1 T) → T < G → Near (suc p) 0 (G - T) Z → Rep (suc p) 0 (dist Z (G - T1))
-    w-rep {Z} t2 less n =
+    -- with Z the rounding of G - T, Z - (G - T1) is exact
+    pub rounded-rest : {Z : ℕ} → Rep (suc p) 0 (dist T1 T) → T < G → Near (suc p) 0 (G - T) Z → Rep (suc p) 0 (dist Z (G - T1))
+    rounded-rest {Z} t2 less n =
         elim (decLe G T1) [
-          | yes b ↦ let e : dist Z (G - T1) ≡ Z = omega (arith, t3-zero less b) in rw e (n .rep)
+          | yes b ↦ let e : dist Z (G - T1) ≡ Z = omega (arith, difference-none less b) in rw e (n .rep)
           | no b ↦
               let X = G - T1 in
-              let x : Rep (suc p) 0 X = rw (dist-le (let z : T1 ≤ G = omega arith in z)) at t3-rep in
+              let x : Rep (suc p) 0 X = rw (dist-le (let z : T1 ≤ G = omega arith in z)) at difference-rep in
               let le : dist T1 T ≤ X = elim apart [ inl e ↦ absurd (omega arith) | inr c ↦ omega arith ] in
               elim (decLe T T1) [
                 | yes c ↦

@@ -59,7 +59,7 @@ module _ {p l X Y A : ℕ} (x : Rep (suc p) l X) (y : Rep (suc p) l Y) (le : Y �
   pub add-v : Near (suc p) l (X + Y) A → Rep (suc p) l (A - X)
   add-v h = sterbenz A X (h .rep) x (add-ge h) (add-le h)
 
-  -- ---- and for opposite signs
+  -- the same for X - Y
   pub sub-le : Near (suc p) l (X - Y) A → A ≤ X
   sub-le h = near-le h x (omega arith)
 

@@ -24,15 +24,12 @@ same-dist A P F t e h d = omega arith
 under : (P F A t m : ℕ) → P + F ≡ A → t < A → 2 * (A - t) ≡ F → dist m t ≡ dist A t → P ≤ m
 under P F A t m e h d k = omega arith
 
--- ---- the choice: t = A - B with 2 * B the step below A is a tie that went up, and then the value below A is the answer, with the rest B
+-- ---- A is nearest to t: it is kept, unless t lies below it by half of the step down to the next smaller number, which was a tie that went up
 module _ {p l t A : ℕ} (h : Near (suc p) l t A) where
   pub keep-above : A ≤ t → Near0 (suc p) l t A
   keep-above g = record { near = h; tie = λ m r e. omega arith }
 
-  pub keep-exact : A ≡ t → Near0 (suc p) l t A
-  keep-exact g = keep-above (le-of-eq g)
-
-  -- below 2 ^ p steps of the lowest size nothing is rounded
+  -- up to 2 ^ p units of the lowest exponent nothing is rounded
   pub small-exact : Mult l t → A ≤ 2 ^ p * 2 ^ l → A ≡ t
   small-exact c g =
       near-exact h (rep-lt l t (le-refl l) c

@@ -11,13 +11,14 @@ use Rattle.rounding.specs.Format.{binary32, low, limit}
 use Rattle.rounding.specs.Nearest.{Rep}
 use Rattle.rounding.specs.Value.{Value, infinite, finite, isFinite, isZero, roundFinite}
 use Rattle.rounding.proofs.RoundValue.{round-below, round-above}
+use Rattle.rounding.proofs.Rounded.{rounded-zero-le}
 use Rattle.binary32.specs.Exact.{negate}
 use Rattle.binary32.specs.Steps.{mulValue, fmaValue, subValue, subStep, mulStep, fmaStep}
 use Rattle.binary32.proofs.Theorems.{add-decodes, sub-decodes, mul-decodes, fma-decodes}
 use Rattle.augmented.proofs.Second.{first-finite}
 use Rattle.errorfree.specs.Comparisons.{same}
 use Rattle.errorfree.proofs.Factors as factors
-use Rattle.errorfree.proofs.Steps.{toEven, toZero, zero-le-even, mul-finite}
+use Rattle.errorfree.proofs.Steps.{toEven, toZero, mul-finite}
 use Rattle.errorfree.proofs.Split.{Split0}
 use Rattle.errorfree.proofs.Powers.{pow-above}
 use Rattle.errorfree.proofs.ProductSplit.{whole, product-split}
@@ -188,5 +189,5 @@ module _ (x y : ℕ) (s t : Bool) (a b : ℕ) (xi : value x ≡ finite s a) (yi 
 
       pub first-number : isFinite (value (first x y)) ≡ true
       first-number =
-          let below : toZero binary32 (a * b) < limit binary32 = lt-of-le-of-lt (zero-le-even binary32 (a * b)) fine in
+          let below : toZero binary32 (a * b) < limit binary32 = lt-of-le-of-lt (rounded-zero-le 23 149 (a * b)) fine in
           ap isFinite (first-is ∙ middle-first binary32 (omega arith) a b xr yr lo hi r (split-is .n) (toZero binary32 (split-is .n * 2 ^ low binary32)) (value (C x y)) (value (B x y)) (split-is .product) halves ∙ first-finite binary32 r (a * b) below)

@@ -1,9 +1,9 @@
 -- Sums and products that overflow, halved: the halves are exact, and the edge test on them gives the pair. Assumes nothing.
-use mathlib.Core.Path.{_≡_, refl, sym, ap, ap₂, _∙_, subst}
+use mathlib.Core.Path.{_≡_, sym, ap, ap₂, _∙_, subst}
 use mathlib.Core.Logic.{_⊎_, inl, inr}
 use mathlib.Core.Bool.{Bool, not, cond, _&&_}
-use Prim.Native.Nat.{ℕ, zero, suc, _+_, _-_, _*_, _^_, _≤_, _<_}
-use native.Mathlib.Nat.{le-trans, le-of-eq, mul-comm, mul-assoc, mul-left-comm, mul-one, one-mul, pow-succ', mul-le-mul-right, mul-le-mul-left, mul-lt-mul-of-pos-right}
+use Prim.Native.Nat.{ℕ, suc, _+_, _-_, _*_, _^_, _≤_, _<_}
+use native.Mathlib.Nat.{le-trans, le-of-eq, mul-comm, mul-assoc, one-mul, pow-succ', mul-le-mul-right, mul-le-mul-left, mul-lt-mul-of-pos-right}
 use native.Mathlib.Decide.{decLe}
 use native.Mathlib.Omega.{arith}
 use lib.Ieee.{unlike}
@@ -12,6 +12,7 @@ use Rattle.rounding.specs.declared.Ties.the-variants.{ToEven}
 use Rattle.rounding.specs.Format.{Format, Proper, low, limit}
 use Rattle.rounding.specs.Nearest.{Rep}
 use Rattle.rounding.specs.Value.{Value, infinite, finite, roundFinite}
+use Rattle.rounding.proofs.Representable.{rep-half}
 use Rattle.rounding.proofs.NearLaws.{near-ge}
 use Rattle.rounding.proofs.RoundValue.{round-below, round-above}
 use Rattle.rounding.proofs.Sterbenz.{add-le}
@@ -37,14 +38,6 @@ EdgePair F s N a b =
     (cond c (mulValue F (kappa F) a) (infinite s) ≡ pairOf F (finite s N) .first) × (cond c (mulValue F (minusTwo F) b) (infinite s) ≡ pairOf F (finite s N) .second)
 
 -- ---- halves
--- a number with a full significand is even, or it is at the lowest exponent
-pub half-of : {p X : ℕ} → Rep (suc p) 0 X → 2 ^ suc p ≤ X → (H : ℕ) × (X ≡ 2 * H) × Rep (suc p) 0 H
-half-of {p} {X} r h = go (r .e) (r .is)
-  where
-    go : (e : ℕ) → X ≡ r .m * 2 ^ e → (H : ℕ) × (X ≡ 2 * H) × Rep (suc p) 0 H
-    go zero i = absurd (omega (arith, r .small, mul-one (r .m)))
-    go (suc e) i = (r .m * 2 ^ e, i ∙ ap (λ (z : ℕ). r .m * z) (pow-succ' 2 e) ∙ mul-left-comm (r .m) 2 (2 ^ e), record { e = e; m = r .m; low = omega arith; small = r .small; is = refl })
-
 half-step : (F : Format) → Roomy F → (s : Bool) (H : ℕ) → Rep (suc (F .fraction)) 0 H → H < limit F → mulValue F (half F) (finite s (2 * H)) ≡ finite s H
 half-step F room s H r b =
     let e : 2 * 2 ^ (low F - 1) ≡ 2 ^ low F = sym (pow-succ' 2 (low F - 1)) ∙ ap (λ (z : ℕ). 2 ^ z) (let z : suc (low F - 1) ≡ low F = omega arith in z) in
@@ -66,8 +59,8 @@ module _ (F : Format) (ok : Proper F) (room : Roomy F) (s : Bool) (X Y : ℕ) (x
       → (A : ℕ) × (a' ≡ finite s A) × EdgePair F s ((X + Y) * 2 ^ low F) a' b'
   unfolding plus
   sum-edge x' y' a' v' b' xi yi ai vi bi =
-      let hy = half-of yr y-big in
-      let hx = half-of xr (le-trans y-big le) in
+      let hy = rep-half yr y-big in
+      let hx = rep-half xr (le-trans y-big le) in
       let H = hx .0 in
       let G = hy .0 in
       let n = H + G in
@@ -142,7 +135,7 @@ module _ (F : Format) (ok : Proper F) (room : Roomy F) (a b : ℕ) (ar : Rep (su
       ]
 
   halved : (H : ℕ) × (a ≡ 2 * H) × Rep (suc f) 0 H
-  halved = half-of ar a-big
+  halved = rep-half ar a-big
 
   H : ℕ
   H = halved .0

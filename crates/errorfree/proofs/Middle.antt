@@ -18,8 +18,9 @@ use Rattle.rounding.proofs.NearLaws.{near-exact, near0-one}
 use Rattle.rounding.proofs.Representable.{rep-zero}
 use Rattle.rounding.proofs.Rounded.{rounded-near0}
 use Rattle.rounding.proofs.RoundValue.{round-below}
-use Rattle.rounding.proofs.Scaled.{rep-up, rounded-rep}
+use Rattle.rounding.proofs.Scaled.{rep-up, rounded-rep, rep-shift}
 use Rattle.rounding.proofs.Rescaled.{dist-mul, near0-up, near0-raise}
+use Rattle.rounding.proofs.TieDown.{error-le}
 use Rattle.binary32.specs.Exact.{negate}
 use Rattle.binary32.specs.Steps.{subValue, mulValue, fmaValue}
 use Rattle.augmented.specs.Pairs.{pairOf}
@@ -28,10 +29,10 @@ use Rattle.errorfree.specs.Comparisons.{same}
 use Rattle.errorfree.specs.Constants.{Roomy}
 use Rattle.errorfree.proofs.Factors.{scale, unscale, zero}
 use Rattle.errorfree.proofs.Signed.{Rel, Is, rel-dist}
-use Rattle.errorfree.proofs.Steps.{toEven, toZero, error-le, mul-finite}
+use Rattle.errorfree.proofs.Steps.{toEven, toZero, mul-finite}
 use Rattle.errorfree.proofs.Split.{Split, Split0, zero-finish, side-of, ltb-scale}
 use Rattle.errorfree.proofs.ProductSplit.{whole, product-split}
-use Rattle.errorfree.proofs.Powers.{pow-le-of, pow-ge-of, rep-shift, up-step, down-step}
+use Rattle.errorfree.proofs.Powers.{pow-le-of, pow-ge-of, up-step, down-step}
 use Rattle.errorfree.proofs.MiddleSecond.{stepped, small, scaled-down, stepped-is, stepped-nonzero}
 
 -- the product of a and b with the sign r, 2 ^ suc (F .fraction) times larger, is n units of u, and a' and b' are what it is split into

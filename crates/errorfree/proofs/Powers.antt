@@ -2,7 +2,7 @@
 use mathlib.Core.Path.{_≡_, sym, ap, _∙_, subst}
 use mathlib.Core.Bool.{Bool, false}
 use Prim.Native.Nat.{ℕ, suc, _+_, _-_, _*_, _^_, _≤_, _<_}
-use native.Mathlib.Nat.{mul-comm, one-mul, le-of-mul-le-mul-right}
+use native.Mathlib.Nat.{mul-comm, one-mul}
 use native.Mathlib.Decide.{decLe}
 use native.Mathlib.Omega.{arith}
 use lib.Pow.{pow-pos}
@@ -11,39 +11,25 @@ use Rattle.rounding.specs.Format.{Format, low, limit}
 use Rattle.rounding.specs.Nearest.{Rep, Near}
 use Rattle.rounding.specs.Value.{finite, roundFinite}
 use Rattle.rounding.proofs.Multiple.{joined}
-use Rattle.rounding.proofs.NearLaws.{near-ge, near-le}
-use Rattle.rounding.proofs.Representable.{rep-le, rep-lower}
 use Rattle.rounding.proofs.Rounded.{rounded-near}
-use Rattle.rounding.proofs.Scaled.{rep-up}
+use Rattle.rounding.proofs.Bounds.{rounded-le, rounded-ge}
 use Rattle.rounding.proofs.Rescaled.{near-down}
 use Rattle.binary32.specs.Steps.{mulValue}
 use Rattle.errorfree.proofs.Factors.{unscale}
 use Rattle.errorfree.proofs.Steps.{toEven, round-whole, mul-positive}
 
--- ---- N units of u * u beside m * 2 ^ k units of u, a number of the format
-bound-rep : (F : Format) (m k : ℕ) → m ≤ 2 ^ suc (F .fraction) → Rep (suc (F .fraction)) (low F) (m * 2 ^ k * 2 ^ low F)
-bound-rep F m k b = subst (λ (z : ℕ). Rep (suc (F .fraction)) (low F) z) (sym (joined m k (low F) (k + low F) (let z : k + low F ≡ k + low F = omega arith in z))) (rep-le (F .fraction) (low F) m (k + low F) (omega arith) b)
-
-pub even-le : (F : Format) (N m k : ℕ) → m ≤ 2 ^ suc (F .fraction) → N ≤ m * 2 ^ k * 2 ^ low F → toEven F N ≤ m * 2 ^ k
-even-le F N m k b h = le-of-mul-le-mul-right (near-le (rounded-near ToEven (F .fraction) (low F) N) (bound-rep F m k b) h) (pow-pos (low F))
-
-pub even-ge : (F : Format) (N m k : ℕ) → m ≤ 2 ^ suc (F .fraction) → m * 2 ^ k * 2 ^ low F ≤ N → m * 2 ^ k ≤ toEven F N
-even-ge F N m k b h = le-of-mul-le-mul-right (near-ge (rounded-near ToEven (F .fraction) (low F) N) (bound-rep F m k b) h) (pow-pos (low F))
-
+-- ---- N units of u * u beside a power of two
 pub pow-le-of : (F : Format) (N k : ℕ) → N ≤ 2 ^ k * 2 ^ low F → toEven F N ≤ 2 ^ k
-pow-le-of F N k h = rw one-mul at (even-le F N 1 k (pow-pos (suc (F .fraction))) (rw one-mul h))
+pow-le-of F N k h = rw one-mul at (rounded-le ToEven (F .fraction) (low F) N 1 k (pow-pos (suc (F .fraction))) (rw one-mul h))
 
 pub pow-ge-of : (F : Format) (N k : ℕ) → 2 ^ k * 2 ^ low F ≤ N → 2 ^ k ≤ toEven F N
-pow-ge-of F N k h = rw one-mul at (even-ge F N 1 k (pow-pos (suc (F .fraction))) (rw one-mul h))
+pow-ge-of F N k h = rw one-mul at (rounded-ge ToEven (F .fraction) (low F) N 1 k (pow-pos (suc (F .fraction))) (rw one-mul h))
 
 -- a number that rounds to more than a power of two is not below it
 pub pow-above : (F : Format) (N k : ℕ) → 2 ^ k < toEven F N → 2 ^ k * 2 ^ low F ≤ N
 pow-above F N k h = elim (decLe (2 ^ k * 2 ^ low F) N) [ yes g ↦ g | no g ↦ absurd (omega (arith, pow-le-of F N k (omega arith))) ]
 
 -- ---- scaled up: 2 ^ (low F + k) is 2 ^ k, so `scale F` and `scaleTwice F` are among them
-pub rep-shift : {p m : ℕ} (k : ℕ) → Rep p 0 m → Rep p 0 (m * 2 ^ k)
-rep-shift k r = rep-lower (let z : 0 ≤ 0 + k = omega arith in z) (rep-up k r)
-
 pub up-step : (F : Format) (s : Bool) (m k : ℕ) → Rep (suc (F .fraction)) 0 (m * 2 ^ k) → m * 2 ^ k < limit F → mulValue F (finite false (2 ^ (low F + k))) (finite s m) ≡ finite s (m * 2 ^ k)
 up-step F s m k r b =
     mul-positive F (2 ^ (low F + k)) s m

@@ -17,12 +17,13 @@ use Rattle.rounding.proofs.RoundValue.{round-below}
 use Rattle.rounding.proofs.Rescaled.{near-down}
 use Rattle.rounding.proofs.Sterbenz.{rep-double}
 use Rattle.rounding.proofs.Chosen.{choose-z, choose-a, z-le, z-diff}
+use Rattle.rounding.proofs.TieDown.{error-le}
 use Rattle.binary32.specs.Exact.{negate}
 use Rattle.binary32.specs.Steps.{subValue, mulValue}
 use Rattle.errorfree.specs.Comparisons.{same}
 use Rattle.errorfree.specs.Constants.{Roomy, psi, two}
 use Rattle.errorfree.proofs.Signed.{Rel, Is, rel-own, rel-dist, is-negate, is-shift, same-eq, eq-same}
-use Rattle.errorfree.proofs.Steps.{toEven, toZero, zero-at, error-le, round-whole, is-sub, mul-positive}
+use Rattle.errorfree.proofs.Steps.{toEven, toZero, zero-at, round-whole, is-sub, mul-positive}
 use Rattle.errorfree.proofs.Split.{Split, Split0}
 
 -- ---- the product by 1 - 2 ^ -precision

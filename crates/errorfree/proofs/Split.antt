@@ -15,13 +15,13 @@ use Rattle.rounding.specs.Format.{Format, low, limit}
 use Rattle.rounding.specs.Nearest.{dist, Rep, Near, Near0}
 use Rattle.rounding.specs.Value.{Value, nan, infinite, finite, isZero}
 use Rattle.rounding.proofs.NearLaws.{near-exact, near0-one}
-use Rattle.rounding.proofs.Rescaled.{dist-mul}
+use Rattle.rounding.proofs.Rescaled.{dist-mul, whole-near}
 use Rattle.binary32.specs.Steps.{mulValue}
 use Rattle.augmented.specs.Pairs.{pairOf}
 use Rattle.augmented.proofs.Second.{head, tail, up, unlike-true, unlike-false, first-finite, pair-second}
 use Rattle.errorfree.proofs.Factors.{zero}
 use Rattle.errorfree.proofs.Signed.{Rel, Is, rel-dist, other-side}
-use Rattle.errorfree.proofs.Steps.{toZero, whole-near, zero-at, zero-times}
+use Rattle.errorfree.proofs.Steps.{toZero, zero-at, zero-times}
 
 -- n units of u with the sign s: A is nearest to n, and b is all of what is left
 pub record Split (F : Format) (s : Bool) (n A : ℕ) (b : Value) : Type 0 where
@@ -84,7 +84,7 @@ module _ (F : Format) (s : Bool) (n f : ℕ) (first second : Value) (h : Split0 
   tail-is =
       ap (λ (a : ℕ). toZero F (dist (a * 2 ^ low F) (n * 2 ^ low F))) head-is
       ∙ ap (toZero F) (dist-mul f n (2 ^ low F) ∙ ap (λ (a : ℕ). a * 2 ^ low F) (let z : dist f n ≡ dist n f = omega arith in z))
-      ∙ near-exact (whole-near ToZero F (dist n f)) (h .error)
+      ∙ near-exact (whole-near ToZero (F .fraction) (low F) (dist n f)) (h .error)
 
   up-is : up F s (n * 2 ^ low F) ≡ ltb n f
   up-is = ap (λ (a : ℕ). ltb (n * 2 ^ low F) (a * 2 ^ low F)) head-is ∙ ltb-scale n f (2 ^ low F) (pow-pos (low F))

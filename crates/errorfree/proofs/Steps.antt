@@ -1,10 +1,8 @@
 -- The steps on finite values: rounded by one rule or the other, and exact where the exact result is a number of the format. Assumes nothing.
 use mathlib.Core.Path.{_≡_, refl, sym, ap, _∙_}
 use mathlib.Core.Bool.{Bool, true, false}
-use Prim.Native.Nat.{ℕ, suc, _+_, _-_, _*_, _^_, _≤_, _<_}
-use native.Mathlib.Nat.{le-of-eq, lt-of-le-of-lt, le-of-mul-le-mul-right, zero-add, zero-mul, mul-one}
-use native.Mathlib.Decide.{decLe}
-use native.Mathlib.Omega.{arith}
+use Prim.Native.Nat.{ℕ, suc, _+_, _*_, _^_, _<_}
+use native.Mathlib.Nat.{le-of-eq, lt-of-le-of-lt, zero-mul}
 use lib.Ieee.{unlike}
 use lib.Pow.{pow-pos}
 use Rattle.rounding.specs.declared.Ties.{Ties}
@@ -13,14 +11,10 @@ use Rattle.rounding.specs.Format.{Format, low, limit}
 use Rattle.rounding.specs.Round.{rounded}
 use Rattle.rounding.specs.Nearest.{dist, Rep, Near, Near0}
 use Rattle.rounding.specs.Value.{Value, nan, infinite, finite, roundFinite, round, RNe}
-use Rattle.rounding.proofs.NearLaws.{near-exact, near-ge}
+use Rattle.rounding.proofs.NearLaws.{near-exact}
 use Rattle.rounding.proofs.Representable.{rep-zero}
-use Rattle.rounding.proofs.Rounded.{rounded-near, rounded-near0}
 use Rattle.rounding.proofs.RoundValue.{round-below}
-use Rattle.rounding.proofs.Rescaled.{near-down, near0-down}
-use Rattle.rounding.proofs.Sterbenz.{rep-double}
-use Rattle.rounding.proofs.Predecessor.{upper, below-add, below-rep}
-use Rattle.rounding.proofs.TieDown.{small-exact}
+use Rattle.rounding.proofs.Rescaled.{whole-near, whole-near0}
 use Rattle.binary32.specs.Exact.{negate, plus, times, finer}
 use Rattle.binary32.specs.Steps.{addValue, subValue, mulValue}
 use Rattle.errorfree.proofs.Signed.{Is, rel-dist, is-negate, is-plus}
@@ -33,44 +27,16 @@ abbrev pub toZero : Format → ℕ → ℕ
 toZero F N = rounded ToZero (F .fraction) (low F) N
 
 -- ---- a whole number n of u, rounded
-pub whole-near : (t : Ties) (F : Format) (n : ℕ) → Near (suc (F .fraction)) 0 n (rounded t (F .fraction) (low F) (n * 2 ^ low F))
-whole-near t F n = near-down n (rounded t (F .fraction) (low F) (n * 2 ^ low F)) (low F) (rw zero-add (rounded-near t (F .fraction) (low F) (n * 2 ^ low F)))
-
 pub even-at : (F : Format) (n : ℕ) → Near (suc (F .fraction)) 0 n (toEven F (n * 2 ^ low F))
-even-at F n = whole-near ToEven F n
+even-at F n = whole-near ToEven (F .fraction) (low F) n
 
 pub zero-at : (F : Format) (n : ℕ) → Near0 (suc (F .fraction)) 0 n (toZero F (n * 2 ^ low F))
-zero-at F n = near0-down n (toZero F (n * 2 ^ low F)) (low F) (rw zero-add (rounded-near0 (F .fraction) (low F) (n * 2 ^ low F)))
-
--- RN0 is at most RNe
-pub zero-le-even : (F : Format) (N : ℕ) → toZero F N ≤ toEven F N
-zero-le-even F N =
-    let k = rounded-near0 (F .fraction) (low F) N in
-    let h = rounded-near ToEven (F .fraction) (low F) N in
-    let x = k .near .best (toEven F N * 2 ^ low F) (h .rep) in
-    let y = h .best (toZero F N * 2 ^ low F) (k .near .rep) in
-    le-of-mul-le-mul-right (k .tie (toEven F N * 2 ^ low F) (h .rep) (omega arith)) (pow-pos (low F))
-
--- at most half of the rounded number is left over
-pub error-le : {p n A : ℕ} → Near (suc p) 0 n A → 2 * dist n A ≤ A
-error-le {p} {n} {A} h =
-    elim (decLe A (2 ^ p)) [
-      | yes g ↦ omega (arith, small-exact h (n, sym (mul-one n)) (omega arith))
-      | no g ↦ elim (decLe A n) [
-        | yes k ↦ elim (decLe n (2 * A)) [ yes j ↦ omega (arith, h .best (2 * A) (rep-double (h .rep))) | no j ↦ absurd (omega (arith, near-ge h (rep-double (h .rep)) (omega arith), pow-pos p)) ]
-        | no k ↦
-            let u = upper p 0 A (h .rep) (omega arith) in
-            above A (A - 2 ^ u .f) (2 ^ u .f) n (pow-pos (u .f)) (below-add u) (omega arith) (h .best (A - 2 ^ u .f) (below-rep u))
-      ]
-    ]
-  where
-    above : (A P F n : ℕ) → 0 < F → P + F ≡ A → n ≤ A → dist A n ≤ dist P n → 2 * dist n A ≤ A
-    above A P F n z e k b = omega arith
+zero-at F n = whole-near0 (F .fraction) (low F) n
 
 -- ---- exact steps
 pub round-whole : (t : Ties) (F : Format) (s : Bool) (a : ℕ) → Rep (suc (F .fraction)) 0 a → a < limit F → roundFinite t F s (a * 2 ^ low F) ≡ finite s a
 round-whole t F s a r h =
-    let e = near-exact (whole-near t F a) r in
+    let e = near-exact (whole-near t (F .fraction) (low F) a) r in
     round-below t F s (a * 2 ^ low F) (lt-of-le-of-lt (le-of-eq e) h) ∙ ap (finite s) e
 
 is-rounded : (F : Format) (r : Bool) (v : Value) (p n : ℕ) → Is r v p n → Rep (suc (F .fraction)) 0 (dist p n) → dist p n < limit F → Is r (RNe F (finer F v)) p n

@@ -18,7 +18,7 @@ use Rattle.rounding.specs.Value.{Value, nan, infinite, finite, Fits, isFinite, 
 use Rattle.rounding.proofs.Rounded.{rounded-near}
 use Rattle.rounding.proofs.RoundValue.{round-below, round-above}
 use Rattle.rounding.proofs.Scaled.{rep-up}
-use Rattle.rounding.proofs.Rescaled.{dist-mul}
+use Rattle.rounding.proofs.Rescaled.{dist-mul, whole-near}
 use Rattle.rounding.proofs.SumError.{sum-error, difference-error}
 use Rattle.rounding.proofs.Predecessor.{upper, below-add, below-rep, below-best}
 use Rattle.rounding.proofs.Predecessor as predecessor
@@ -32,7 +32,7 @@ use Rattle.errorfree.specs.Constants.{psi}
 use Rattle.errorfree.specs.Theorems as specs
 use Rattle.errorfree.proofs.NoNumber.{not-both, none-zero, number-of, both-of, sum-none, finer-none, negate-none, add-none}
 use Rattle.errorfree.proofs.Signed.{Is, rel-dist}
-use Rattle.errorfree.proofs.Steps.{toEven, toZero, whole-near, even-at, mul-finite, mul-positive}
+use Rattle.errorfree.proofs.Steps.{toEven, toZero, even-at, mul-finite, mul-positive}
 use Rattle.errorfree.proofs.ProductSplit.{whole, whole-error, product-split}
 use Rattle.errorfree.proofs.FastTwoSum.{add-finite, fast-two-sum}
 use Rattle.errorfree.proofs.AddsUp.{adds-up, up-adds}
@@ -101,7 +101,7 @@ product-errors t F a b ar br big =
     let n = whole F a b ar br big in
     let U = 2 ^ low F in
     let A = rounded t (F .fraction) (low F) (a * b) in
-    let near : Near (suc (F .fraction)) 0 (n .0) A = subst (λ (z : ℕ). Near (suc (F .fraction)) 0 (n .0) (rounded t (F .fraction) (low F) z)) (sym (n .1)) (whole-near t F (n .0)) in
+    let near : Near (suc (F .fraction)) 0 (n .0) A = subst (λ (z : ℕ). Near (suc (F .fraction)) 0 (n .0) (rounded t (F .fraction) (low F) z)) (sym (n .1)) (whole-near t (F .fraction) (low F) (n .0)) in
     let e : dist (n .0) A * U ≡ dist (A * U) (a * b) = ap (λ (z : ℕ). z * U) (let z : dist (n .0) A ≡ dist A (n .0) = omega arith in z) ∙ sym (dist-mul A (n .0) U) ∙ ap (dist (A * U)) (sym (n .1)) in
     rw (← e) (rw zero-add at (rep-up (low F) (whole-error F a b ar br big A near)))
 

@@ -15,9 +15,10 @@ use Rattle.rounding.specs.Value.{Value, finite, round, RNe}
 use Rattle.rounding.proofs.ProductError.{near-half}
 use Rattle.rounding.proofs.Representable.{rep-zero, rep-lt}
 use Rattle.rounding.proofs.Rescaled.{dist-mul}
-use Rattle.rounding.proofs.Rounded.{rounded-near}
+use Rattle.rounding.proofs.Rounded.{rounded-near, rounded-zero-le}
 use Rattle.rounding.proofs.RoundValue.{round-below}
-use Rattle.rounding.proofs.Scaled.{rounded-rep}
+use Rattle.rounding.proofs.Scaled.{rounded-rep, rep-shift}
+use Rattle.rounding.proofs.TieDown.{error-le}
 use Rattle.binary32.specs.Exact.{negate, plus, finer}
 use Rattle.binary32.specs.Steps.{addValue, subValue, mulValue, fmaValue}
 use Rattle.binary32.proofs.Sums.{not-like, sum-left}
@@ -25,9 +26,9 @@ use Rattle.augmented.specs.Pairs.{pairOf}
 use Rattle.errorfree.specs.Comparisons.{same}
 use Rattle.errorfree.specs.Constants.{Roomy}
 use Rattle.errorfree.proofs.Factors.{scale, scaleTwice, zero}
-use Rattle.errorfree.proofs.Steps.{toEven, even-at, zero-le-even, error-le, round-whole, mul-finite, zero-times}
+use Rattle.errorfree.proofs.Steps.{toEven, even-at, round-whole, mul-finite, zero-times}
 use Rattle.errorfree.proofs.ProductSplit.{fused-rest, whole, whole-error}
-use Rattle.errorfree.proofs.Powers.{pow-le-of, rep-shift, up-step}
+use Rattle.errorfree.proofs.Powers.{pow-le-of, up-step}
 use Rattle.errorfree.proofs.TinyRounding.{tiny-below, tiny-direct, tie-of, of-tie, tie-above-one, tiny-keep, tiny-down}
 use Rattle.errorfree.proofs.TinyTest.{Scaled, tieUp, test-true, test-make}
 
@@ -35,7 +36,7 @@ use Rattle.errorfree.proofs.TinyTest.{Scaled, tieUp, test-true, test-ma
 pub zero-pair : (F : Format) (s : Bool) (N : ℕ) → toEven F N ≡ 0 → (pairOf F (finite s N) .first ≡ finite s 0) × (pairOf F (finite s N) .second ≡ finite s 0)
 unfolding limit
 zero-pair F s N e =
-    let d = tiny-direct F s N 0 (omega (arith, pow-pos (suc (F .fraction)))) (omega (arith, pow-pos (suc (F .emax) + low F))) (omega (arith, zero-le-even F N)) in
+    let d = tiny-direct F s N 0 (omega (arith, pow-pos (suc (F .fraction)))) (omega (arith, pow-pos (suc (F .emax) + low F))) (omega (arith, rounded-zero-le (F .fraction) (low F) N)) in
     (sym (d .0), sym (d .1))
 
 -- ---- one unit less

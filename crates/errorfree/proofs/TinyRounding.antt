@@ -19,11 +19,11 @@ use Rattle.rounding.proofs.NearLaws.{near0-one}
 use Rattle.rounding.proofs.Predecessor.{Upper, upper}
 use Rattle.rounding.proofs.ProductError.{near-half}
 use Rattle.rounding.proofs.Representable.{rep-zero}
-use Rattle.rounding.proofs.Rounded.{rounded-near, rounded-near0}
+use Rattle.rounding.proofs.Rounded.{rounded-near, rounded-near0, rounded-zero-le}
 use Rattle.rounding.proofs.TieDown.{dbl, keep-above, keep-below, go-down}
 use Rattle.augmented.specs.Pairs.{pairOf}
 use Rattle.augmented.proofs.Second.{head, tail, up, first-finite, pair-second}
-use Rattle.errorfree.proofs.Steps.{toEven, toZero, zero-le-even}
+use Rattle.errorfree.proofs.Steps.{toEven, toZero}
 use Rattle.errorfree.proofs.Powers.{pow-ge-of}
 
 -- ---- the rest: half of u at most, which ties to zero round to zero
@@ -50,7 +50,7 @@ with-zero s c k e = rw e refl
 pub tiny-direct : (F : Format) (s : Bool) (N f : ℕ) → toEven F N < 2 ^ suc (F .fraction) → toEven F N < limit F → toZero F N ≡ f
     → (finite s f ≡ pairOf F (finite s N) .first) × (finite s 0 ≡ pairOf F (finite s N) .second)
 tiny-direct F s N f lo fine e =
-    let h : head F s N < limit F = lt-of-le-of-lt (zero-le-even F N) fine in
+    let h : head F s N < limit F = lt-of-le-of-lt (rounded-zero-le (F .fraction) (low F) N) fine in
     (ap (finite s) (sym e) ∙ sym (first-finite F s N h), sym (pair-second F s N h ∙ with-zero s (unlike s (up F s N)) (tail F s N) (tiny-rest F N (tiny-below F N lo))))
 
 -- ---- a tie that went up: N is half of U below E * U. H stands for half of U where S stands for U.

@@ -17,6 +17,7 @@ pub mod Predecessor
 pub mod TieDown
 pub mod Chosen
 pub mod Rescaled
+pub mod Bounds
 pub mod ProductError
 pub mod SmallProducts
 pub mod Halfway

@@ -1,7 +1,7 @@
 -- Numbers of the format: how to make one, and which lie around a given number. Assumes nothing.
 use mathlib.Core.Path.{_≡_, refl, sym, ap, _∙_}
-use Prim.Native.Nat.{ℕ, suc, _+_, _*_, _/_, _^_, _≤_, _<_}
-use native.Mathlib.Nat.{le-refl, le-trans, le-of-eq, zero-mul, one-mul, mul-le-mul-right, mul-lt-mul-of-pos-right, lt-of-mul-lt-mul-right, lt-of-le-of-lt, lt-of-lt-of-le, le-div-iff-mul-le, div-lt-iff-lt-mul}
+use Prim.Native.Nat.{ℕ, zero, suc, _+_, _*_, _/_, _^_, _≤_, _<_}
+use native.Mathlib.Nat.{mul-one, mul-left-comm, pow-succ', le-refl, le-trans, le-of-eq, zero-mul, one-mul, mul-le-mul-right, mul-lt-mul-of-pos-right, lt-of-mul-lt-mul-right, lt-of-le-of-lt, lt-of-lt-of-le, le-div-iff-mul-le, div-lt-iff-lt-mul}
 use native.Mathlib.Decide.{decLe}
 use native.Mathlib.Omega.{arith}
 use lib.Pow.{pow-add, pow-pos, pow-mono}
@@ -62,6 +62,14 @@ rep-raise {k = k} h r =
       | yes g ↦ record { e = r .e; m = r .m; low = g; small = r .small; is = r .is }
       | no g ↦ absurd (omega (arith, rep-under {k = k} r (omega arith)))
     ]
+
+-- a number of more than p + 1 digits is even, and its half is a number of the format
+pub rep-half : {p X : ℕ} → Rep (suc p) 0 X → 2 ^ suc p ≤ X → (H : ℕ) × (X ≡ 2 * H) × Rep (suc p) 0 H
+rep-half {p} {X} r h = go (r .e) (r .is)
+  where
+    go : (e : ℕ) → X ≡ r .m * 2 ^ e → (H : ℕ) × (X ≡ 2 * H) × Rep (suc p) 0 H
+    go zero i = absurd (omega (arith, r .small, mul-one (r .m)))
+    go (suc e) i = (r .m * 2 ^ e, i ∙ ap (λ (z : ℕ). r .m * z) (pow-succ' 2 e) ∙ mul-left-comm (r .m) 2 (2 ^ e), record { e = e; m = r .m; low = omega arith; small = r .small; is = refl })
 
 -- a number that is no larger than x and y, and a multiple of 2 ^ g wherever both are
 pub rep-within : {p l x y : ℕ} (d : ℕ) → Rep p l x → Rep p l y → ((g : ℕ) → Mult g x → Mult g y → Mult g d) → d ≤ x → d ≤ y → Rep p l d

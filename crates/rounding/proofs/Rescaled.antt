@@ -1,13 +1,17 @@
 -- Being nearest in finer and coarser units, and with another lowest exponent. Assumes nothing.
 use mathlib.Core.Path.{_≡_, sym, ap, _∙_}
 use Prim.Native.Nat.{ℕ, suc, _+_, _*_, _^_, _≤_}
-use native.Mathlib.Nat.{le-refl, le-trans, le-of-eq, mul-le-mul-right, le-of-mul-le-mul-right, eq-of-mul-eq-mul-right, add-mul}
+use native.Mathlib.Nat.{zero-add, le-refl, le-trans, le-of-eq, mul-le-mul-right, le-of-mul-le-mul-right, eq-of-mul-eq-mul-right, add-mul}
 use native.Mathlib.Omega.{arith}
 use lib.Pow.{pow-pos}
+use Rattle.rounding.specs.declared.Ties.{Ties}
+use Rattle.rounding.specs.declared.Ties.the-variants.{ToZero}
+use Rattle.rounding.specs.Round.{rounded}
 use Rattle.rounding.specs.Nearest.{dist, Rep, Near, Near0}
 use Rattle.rounding.proofs.Multiple.{mult-down, sub-mul}
 use Rattle.rounding.proofs.Representable.{rep-mult, rep-le, rep-lower, rep-raise}
 use Rattle.rounding.proofs.NearLaws.{near-ge}
+use Rattle.rounding.proofs.Rounded.{rounded-near, rounded-near0}
 use Rattle.rounding.proofs.Scaled.{rep-up, rep-down}
 
 pub dist-mul : (a b S : ℕ) → dist (a * S) (b * S) ≡ dist a b * S
@@ -45,3 +49,10 @@ near-raise {p} {l} l' b h near =
 
 pub near0-raise : {p l n a : ℕ} (l' : ℕ) → l ≤ l' → 2 ^ p * 2 ^ l' ≤ n → Near0 (suc p) l n a → Near0 (suc p) l' n a
 near0-raise l' b h k = record { near = near-raise l' b h (k .near); tie = λ m r e. k .tie m (rep-lower b r) e }
+
+-- ---- a whole number n of u, rounded
+pub whole-near : (t : Ties) (f L n : ℕ) → Near (suc f) 0 n (rounded t f L (n * 2 ^ L))
+whole-near t f L n = near-down n (rounded t f L (n * 2 ^ L)) L (rw zero-add (rounded-near t f L (n * 2 ^ L)))
+
+pub whole-near0 : (f L n : ℕ) → Near0 (suc f) 0 n (rounded ToZero f L (n * 2 ^ L))
+whole-near0 f L n = near0-down n (rounded ToZero f L (n * 2 ^ L)) L (rw zero-add (rounded-near0 f L (n * 2 ^ L)))

@@ -135,3 +135,11 @@ rounded-differ f L N =
       | inl e ↦ inl (eq-of-mul-eq-mul-right (2 ^ L) (pow-pos L) (rounded ToEven f L N) (rounded ToZero f L N) e)
       | inr d ↦ inr d
     ]
+
+-- ties to zero are not above ties to even
+pub rounded-zero-le : (f L N : ℕ) → rounded ToZero f L N ≤ rounded ToEven f L N
+rounded-zero-le f L N =
+    elim (rounded-differ f L N) [
+      | inl e ↦ le-of-eq (sym e)
+      | inr d ↦ le-of-mul-le-mul-right {k = 2 ^ L} (omega arith) (pow-pos L)
+    ]

@@ -8,6 +8,7 @@ use Rattle.rounding.specs.declared.Ties.{Ties}
 use Rattle.rounding.specs.Round.{rounded}
 use Rattle.rounding.specs.Nearest.{Rep}
 use Rattle.rounding.proofs.Multiple.{split-unit}
+use Rattle.rounding.proofs.Representable.{rep-lower}
 use Rattle.rounding.proofs.Rounded.{rounded-near}
 
 pub rep-up : {p l n : ℕ} (s : ℕ) → Rep p l n → Rep p (l + s) (n * 2 ^ s)
@@ -26,6 +27,10 @@ rep-down {l = l} n s r =
       small = r .small;
       is = eq-of-mul-eq-mul-right (2 ^ s) (pow-pos s) n (r .m * 2 ^ (r .e - s)) (r .is ∙ split-unit (r .m) h);
     }
+
+-- any power of two of them is one
+pub rep-shift : {p m : ℕ} (k : ℕ) → Rep p 0 m → Rep p 0 (m * 2 ^ k)
+rep-shift k r = rep-lower (let z : 0 ≤ 0 + k = omega arith in z) (rep-up k r)
 
 -- the result is a number of the format, in units of u
 pub rounded-rep : (t : Ties) (f L N : ℕ) → Rep (suc f) 0 (rounded t f L N)

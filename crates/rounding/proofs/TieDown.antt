@@ -1,8 +1,8 @@
 -- From a nearest number A to the one that ties go down to: A itself, or the number below it where A came from a tie. Assumes nothing.
-use mathlib.Core.Path.{_≡_, ap, _∙_}
+use mathlib.Core.Path.{sym, _≡_, ap, _∙_}
 use mathlib.Core.Logic.{_≢_}
 use Prim.Native.Nat.{ℕ, suc, _+_, _-_, _*_, _^_, _≤_, _<_}
-use native.Mathlib.Nat.{le-refl, le-trans, le-of-eq, mul-pos, pow-succ', mul-assoc}
+use native.Mathlib.Nat.{mul-one, le-refl, le-trans, le-of-eq, mul-pos, pow-succ', mul-assoc}
 use native.Mathlib.Decide.{decLe}
 use native.Mathlib.Omega.{arith}
 use lib.Pow.{pow-pos}
@@ -10,7 +10,8 @@ use Rattle.rounding.specs.Nearest.{dist, Near, Near0}
 use Rattle.rounding.proofs.Multiple.{Mult}
 use Rattle.rounding.proofs.Representable.{rep-lt, rep-pow}
 use Rattle.rounding.proofs.NearLaws.{near-exact, near-ge}
-use Rattle.rounding.proofs.Predecessor.{Upper, below-add, below-rep, below-best}
+use Rattle.rounding.proofs.Predecessor.{Upper, upper, below-add, below-rep, below-best}
+use Rattle.rounding.proofs.Sterbenz.{rep-double}
 
 pub dbl : (p l : ℕ) → 2 ^ suc p * 2 ^ l ≡ 2 * (2 ^ p * 2 ^ l)
 dbl p l = ap (λ (z : ℕ). z * 2 ^ l) (pow-succ' 2 p) ∙ mul-assoc 2 (2 ^ p) (2 ^ l)
@@ -43,3 +44,19 @@ module _ {p l t A : ℕ} (h : Near (suc p) l t A) where
     go-down eq =
         let d : dist (A - 2 ^ u .f) t ≡ dist A t = same-dist A (A - 2 ^ u .f) (2 ^ u .f) t (below-add u) less eq in
         record { near = record { rep = below-rep u; best = λ m r. le-trans (le-of-eq d) (h .best m r) }; tie = λ m r e. under (A - 2 ^ u .f) (2 ^ u .f) A t m (below-add u) less eq (e ∙ d) }
+
+-- ---- at most half of a nearest number is left over
+pub error-le : {p n A : ℕ} → Near (suc p) 0 n A → 2 * dist n A ≤ A
+error-le {p} {n} {A} h =
+    elim (decLe A (2 ^ p)) [
+      | yes g ↦ omega (arith, small-exact h (n, sym (mul-one n)) (omega arith))
+      | no g ↦ elim (decLe A n) [
+        | yes k ↦ elim (decLe n (2 * A)) [ yes j ↦ omega (arith, h .best (2 * A) (rep-double (h .rep))) | no j ↦ absurd (omega (arith, near-ge h (rep-double (h .rep)) (omega arith), pow-pos p)) ]
+        | no k ↦
+            let u = upper p 0 A (h .rep) (omega arith) in
+            above A (A - 2 ^ u .f) (2 ^ u .f) n (pow-pos (u .f)) (below-add u) (omega arith) (h .best (A - 2 ^ u .f) (below-rep u))
+      ]
+    ]
+  where
+    above : (A P F n : ℕ) → 0 < F → P + F ≡ A → n ≤ A → dist A n ≤ dist P n → 2 * dist n A ≤ A
+    above A P F n z e k b = omega arith

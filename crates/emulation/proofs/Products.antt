@@ -149,7 +149,7 @@ module _ (x y : ℕ) (s t : Bool) (a b : ℕ) (xi : value x ≡ finite s a) (yi 
         foots r (a * b) (tinyProduct x y p) (width-cond (tiny.tie x y p) (lowered p) p (sub-width p (copySign smallest p)) (mul-width x y)) (mul-width plusZero (cond (tiny.tie x y p) (lowered p) p))
         (leads ∙ pair .0, mul-decodes plusZero (cond (tiny.tie x y p) (lowered p) p) ∙ ap₂ (mulValue binary32) zero-value leads ∙ pair .1)
 
-    -- one factor scaled up, recomposedFinished, and scaled down again
+    -- one factor scaled up, the split recomposed, and scaled down again
     module _ (lo : 2 ^ 24 ≤ A) (hi : A ≤ 2 ^ 47) where
       split-is : Scaled binary32 a b r (value (a' x y)) (value (b' x y))
       split-is = middle-split binary32 (omega arith) a b xr yr lo hi s t (value (m x y)) (value (a' x y)) (value (b' x y)) (scaled twoTo24 (factors.scale binary32) up-value x (finite s a) xi) (mul-decodes (m x y) y ∙ ap (mulValue binary32 (value (m x y))) yi) (fused-value (m x y) y (a' x y) (value (m x y)) (finite t b) refl yi (mul-width (m x y) y))
@@ -184,7 +184,7 @@ module _ (x y : ℕ) (s t : Bool) (a b : ℕ) (xi : value x ≡ finite s a) (yi 
           )
 
       -- a correction leaves no zero to be finished
-      pub corrected-nonzero : (tie x y) ≡ true → zero (corrected x y) ≡ false
+      pub corrected-nonzero : tie x y ≡ true → zero (corrected x y) ≡ false
       corrected-nonzero h = ap isZero corrected-is ∙ second .nonzero (sym test ∙ h)
 
       pub first-number : isFinite (value (first x y)) ≡ true

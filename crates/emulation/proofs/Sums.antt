@@ -88,7 +88,7 @@ module _ (x y : ℕ) where
       let c = asks-edge s h in
       (first-is ∙ ap (λ (i : Bool). cond i (halvedSum x y a .first) (recomposedFinished a b .first)) c ∙ f .0, second-is ∙ ap (λ (i : Bool). cond i (halvedSum x y a .second) (recomposedFinished a b .second)) c ∙ f .1)
 
--- ---- finite operands, the first of which is not the lessMagnitude
+-- ---- finite operands, the first of which is not the smaller
 module _ (x y : ℕ) (s t : Bool) (X Y : ℕ) (xi : value x ≡ finite s X) (yi : value y ≡ finite t Y) (xr : Rep 24 0 X) (yr : Rep 24 0 Y) (xb : X < limit binary32) (le : Y ≤ X) where
   abbrev A : ℕ → ℕ
   A n = toEven binary32 (n * 2 ^ low binary32)
@@ -184,7 +184,7 @@ module _ (x y : ℕ) where
       let p : a x y ≡ encode binary32 (infinite s) = add-step x y ∙ ap (encode binary32) k in
       infinite-foot x y (infinite s) s ai (foots-infinite s (halvedSum x y (a x y)) (r .0 ∙ p) (r .1 ∙ p))
 
--- ---- all patterns: where the first is not the lessMagnitude, and then in any order
+-- ---- all patterns: where the first is not the smaller, and then in any order
 module _ (x y : ℕ) where
   -- an operand is no number
   none-foot : isFinite (value x) && isFinite (value y) ≡ false → Foots (finer binary32 (plus (value x) (value y))) (sumInOrder x y)
@@ -210,19 +210,19 @@ module _ (x y : ℕ) where
           let g = subst (Fits binary32) (q .2) (decode-fits binary32 (omega arith) y) in
           finite-foot x y (p .0) (q .0) (p .1) (q .1) (p .2) (q .2) (f .0) (g .0) (f .1) (ltb-false (p .1) (q .1) (sym (ap₂ lessMagnitude (p .2) (q .2)) ∙ l))
 
--- one of two is not the lessMagnitude
-not-smaller : (v w : Value) → lessMagnitude v w ≡ true → lessMagnitude w v ≡ false
+-- one of two is not the smaller
+not-less : (v w : Value) → lessMagnitude v w ≡ true → lessMagnitude w v ≡ false
 unfolding lessMagnitude
-not-smaller nan w h = not-both (sym h)
-not-smaller (infinite s) w h = not-both (sym h)
-not-smaller (finite s m) nan h = refl
-not-smaller (finite s m) (infinite t) h = refl
-not-smaller (finite s m) (finite t n) h = let l = ltb-true m n h in le-ltb n m (omega arith)
+not-less nan w h = not-both (sym h)
+not-less (infinite s) w h = not-both (sym h)
+not-less (finite s m) nan h = refl
+not-less (finite s m) (infinite t) h = refl
+not-less (finite s m) (finite t n) h = let l = ltb-true m n h in le-ltb n m (omega arith)
 
 pub sum-foot : (x y : ℕ) → Foots (finer binary32 (plus (value x) (value y))) (sumSheet x y)
 unfolding sumSheet swaps
 sum-foot x y = by (swaps x y) refl
   where
     by : (c : Bool) → swaps x y ≡ c → Foots (finer binary32 (plus (value x) (value y))) (cond c (sumInOrder y x) (sumInOrder x y))
-    by true l = subst (λ (v : Value). Foots (finer binary32 v) (sumInOrder y x)) (plus-comm (value x) (value y)) (in-order y x (not-smaller (value x) (value y) l))
+    by true l = subst (λ (v : Value). Foots (finer binary32 v) (sumInOrder y x)) (plus-comm (value x) (value y)) (in-order y x (not-less (value x) (value y) l))
     by false l = in-order x y l

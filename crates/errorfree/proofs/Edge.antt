@@ -108,7 +108,7 @@ module _ (F : Format) (room : Roomy F) where
           | no g ↦ absurd (omega (arith, under-edge F ok ToEven (n * 2 ^ low F) (omega arith)))
         ]
 
-    -- at the edge RN0 is the largest finite number, and twice edgeRest F is left
+    -- at the edge RN0 is the largest finite number, and twice `edgeRest` is left
     at-edge : (s : Bool) (n : ℕ) → n + 2 * edgeRest F ≡ limit F → Split0 F s n last (finite s last) (finite s (2 * edgeRest F))
     at-edge s n e =
         let x : n * 2 ^ low F ≡ edge F = omega (arith, add-mul n (2 * edgeRest F) (2 ^ low F), ap (λ (z : ℕ). z * 2 ^ low F) e, edge-is) in

@@ -11,4 +11,6 @@ pub mod Derivation
 pub mod Derived
 pub mod Operations
 pub mod ProductOperations
+pub mod FootIsPair
+pub mod Filling
 pub mod Theorems

@@ -1,5 +1,5 @@
 -- The theorems of `specs/Theorems.antt`. Assumes nothing.
-use mathlib.Core.Path.{_≡_, refl, sym, ap, _∙_, subst}
+use mathlib.Core.Path.{_≡_, refl, ap, subst}
 use mathlib.Core.Logic.{_⊎_, inl, inr}
 use mathlib.Core.Bool.{Bool, true, false, not, cond}
 use mathlib.Core.List.{List, [], _∷_}
@@ -9,20 +9,18 @@ use native.Mathlib.Decide.{decLe}
 use native.Mathlib.Omega.{arith}
 use lib.Dec.{T}
 use lib.ListN.{length, take}
-use Rattle.rounding.specs.Format.{binary32}
 use Rattle.rounding.specs.Value.{Value, nan, infinite, finite, isNaN, isFinite, decode}
 use Rattle.binary32.specs.Steps.{addStep, mulStep}
 use Rattle.augmented.specs.Direct.{sum, difference, product}
-use Rattle.augmented.proofs.Read.{first-pattern, second-pattern}
 use Rattle.emulation.specs.Constants.{psi, two, half, kappa, twoTo24, twoTo48, twoToMinus24, plusZero, smallest, twoTo127, twoTo102, twoToMinus102, twoToMinus126}
 use Rattle.emulation.specs.Lines.{Line, line, add, value, minus, equal, zero}
 use Rattle.emulation.specs.Sheets.{sumInOrder, swaps, sumSheet, productSheet, sheetOf}
-use Rattle.emulation.specs.Theorems.{patternOf, ConstantPatterns, EachLine, Derived, FirstLine, operations, sumOperations, ProductOperations, InOrder, AtMost13, FootIsPair, All}
+use Rattle.emulation.specs.Theorems.{patternOf, ConstantPatterns, EachLine, Derived, FirstLine, operations, sumOperations, ProductOperations, InOrder, AtMost13, FootIsPair, FillingRefused, SheetFilled, FilledPair, All}
 use Rattle.emulation.proofs.Patterns.{Pattern, pattern-of}
-use Rattle.emulation.proofs.Sums.{sum-foot}
-use Rattle.emulation.proofs.ProductSheet.{product-foot}
 use Rattle.emulation.proofs.EachLine as lines
 use Rattle.emulation.proofs.Derived as derivation
+use Rattle.emulation.proofs.FootIsPair as feet
+use Rattle.emulation.proofs.Filling as answers
 use Rattle.emulation.proofs.Operations.{sum-operations}
 use Rattle.emulation.proofs.ProductOperations.{product-operations}
 
@@ -134,10 +132,17 @@ at-most-13 product x y =
 
 -- ---- the foot
 pub foot-is-pair : FootIsPair
-unfolding sheetOf
-foot-is-pair sum x y = (sum-foot x y .0 ∙ sym (first-pattern sum binary32 x y), sum-foot x y .1 ∙ sym (second-pattern sum binary32 x y))
-foot-is-pair difference x y = (sum-foot x (minus y) .0 ∙ sym (first-pattern difference binary32 x y), sum-foot x (minus y) .1 ∙ sym (second-pattern difference binary32 x y))
-foot-is-pair product x y = (product-foot x y .0 ∙ sym (first-pattern product binary32 x y), product-foot x y .1 ∙ sym (second-pattern product binary32 x y))
+foot-is-pair = feet.foot-is-pair
+
+-- ---- filling
+pub filling-refused : FillingRefused
+filling-refused = answers.filling-refused
+
+pub sheet-filled : SheetFilled
+sheet-filled o x y words h = answers.sheet-filled o x y words h (at-most-13 o x y .1)
+
+pub filled-pair : FilledPair
+filled-pair = answers.filled-pair
 
 pub all : All
-all = (constant-patterns, each-line, derived, first-line, in-order, at-most-13, foot-is-pair)
+all = (constant-patterns, each-line, derived, first-line, in-order, at-most-13, foot-is-pair, filling-refused, sheet-filled, filled-pair)

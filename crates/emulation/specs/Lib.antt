@@ -1,4 +1,5 @@
 pub mod Constants
 pub mod Lines
 pub mod Sheets
+pub mod Filling
 pub mod Theorems

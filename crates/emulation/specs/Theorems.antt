@@ -4,7 +4,7 @@ use mathlib.Core.Logic.{_⊎_}
 use mathlib.Core.Bool.{true, false, cond}
 use mathlib.Core.List.{List, [], _∷_, _++_}
 use Prim.Native.Nat.{ℕ, _-_, _*_, _^_, _≤_, _<_}
-use lib.ListN.{length, take}
+use lib.ListN.{length, take, drop, replicate}
 use Rattle.rounding.specs.Format.{binary32}
 use Rattle.rounding.specs.Value.{Value, nan, infinite, finite, isFinite, encode}
 use Rattle.binary32.specs.Steps.{addStep, subStep, mulStep, fmaStep}
@@ -13,6 +13,7 @@ use Rattle.errorfree.specs.Comparisons.{lessMagnitude}
 use Rattle.emulation.specs.Constants.{psi, two, minusTwo, half, kappa, twoTo24, twoTo48, twoToMinus24, plusZero, smallest, twoTo127, twoTo102, twoToMinus102, twoToMinus126}
 use Rattle.emulation.specs.Lines.{Step, add, subtract, multiply, fused, number, Line, line, value, minus, equal, zero}
 use Rattle.emulation.specs.Sheets.{sheetOf}
+use Rattle.emulation.specs.Filling.{operationNumber, refused, filled, filling, afterFilling, HasDirectPair}
 
 -- ---- the constants: each is the pattern of its number. Magnitudes count u = 2^-149, so 1 is 2 ^ 149 of them.
 abbrev pub patternOf : ℕ → ℕ
@@ -118,6 +119,28 @@ AtMost13 = (o : Operation) (x y : ℕ) → (1 ≤ length (sheetOf o x y .lines))
 abbrev pub FootIsPair : Type 0
 FootIsPair = (o : Operation) (x y : ℕ) → (sheetOf o x y .first ≡ directPair o binary32 x y .first) × (sheetOf o x y .second ≡ directPair o binary32 x y .second)
 
+-- ---- filling
+-- "10 operation number outside 1 to 3 (sum, difference, product); 9 fewer than 65 words lent", in this order; "every lent word .. is unchanged"
+abbrev pub FillingRefused : Type 0
+FillingRefused =
+    (o x y : ℕ) (words : List ℕ)
+    → ((o ≡ 0) ⊎ (3 < o) → (filling o x y words ≡ refused 10) × (afterFilling o x y words ≡ words))
+    × (1 ≤ o → o ≤ 3 → length words < 65 → (filling o x y words ≡ refused 9) × (afterFilling o x y words ≡ words))
+
+-- 1 is a sum, 2 a difference, 3 a product. "Its model sheet is what filling gives when it is not refused": the line count, and the words
+abbrev pub SheetFilled : Type 0
+SheetFilled =
+    (o : Operation) (x y : ℕ) (words : List ℕ) → 65 ≤ length words → let n = operationNumber o in let ls = sheetOf o x y .lines in
+    (filling n x y words ≡ filled (length ls) (directPair o binary32 x y))
+    × (length (afterFilling n x y words) ≡ length words)
+    × ((k : ℕ) (before after : List Line) (l : Line) → ls ≡ before ++ (l ∷ after) → k ≡ length before → take 5 (drop (5 * k) (afterFilling n x y words)) ≡ number (l .operation) ∷ l .x ∷ l .y ∷ l .z ∷ l .result ∷ [])
+    × (take (65 - 5 * length ls) (drop (5 * length ls) (afterFilling n x y words)) ≡ replicate (65 - 5 * length ls) 0)
+    × (drop 65 (afterFilling n x y words) ≡ drop 65 words)
+
+-- "The foot equals the direct pair in every bit, and the flags that come back are those of Flags.": of every answer
+abbrev pub FilledPair : Type 0
+FilledPair = (o x y : ℕ) (words : List ℕ) → HasDirectPair o x y (filling o x y words)
+
 -- ---- all of them
 abbrev pub All : Type 0
-All = ConstantPatterns × EachLine × Derived × FirstLine × InOrder × AtMost13 × FootIsPair
+All = ConstantPatterns × EachLine × Derived × FirstLine × InOrder × AtMost13 × FootIsPair × FillingRefused × SheetFilled × FilledPair

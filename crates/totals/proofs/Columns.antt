@@ -29,12 +29,12 @@ module _ (z : ℤ) (n : ℕ) (x : Term) (few : n < 65536) (small : natAbs z ≤ 
       ∙ ap₂ (λ (y : ℤ) (m : ℕ). totalOf (y +ℤ whole (exactTerm x)) (suc m)) (total-number z n (sum-room (natAbs z) n (omega arith) small)) (total-count z n)
 
 -- ---- all terms, from any total
-record Exact (z : ℤ) (n : ℕ) (xs : List Term) : Type 0 where
+pub record Exact (z : ℤ) (n : ℕ) (xs : List Term) : Type 0 where
   pub accepted : Accepted (totalOf z n) xs
   pub is : column (totalOf z n) xs ≡ totalOf (z +ℤ columnSum xs) (n + length xs)
   pub small : natAbs (z +ℤ columnSum xs) ≤ (n + length xs) * 2 ^ 554
 
-exact-from : (xs : List Term) (z : ℤ) (n : ℕ) → n + length xs ≤ 65536 → natAbs z ≤ n * 2 ^ 554 → AllFinite xs → Exact z n xs
+pub exact-from : (xs : List Term) (z : ℤ) (n : ℕ) → n + length xs ≤ 65536 → natAbs z ≤ n * 2 ^ 554 → AllFinite xs → Exact z n xs
 unfolding column Accepted AllFinite columnSum
 exact-from [] z n h l f = record { accepted = tt; is = rw (+ℤ-idr z, add-zero n); small = rw (+ℤ-idr z, add-zero n) l }
 exact-from (x ∷ xs) z n h l f =
@@ -75,7 +75,7 @@ unfolding AllFinite
 all-finite-is xs x = (tt, finite-more xs x)
 
 -- ---- from a cleared total
-cleared-is : zeros ≡ totalOf (pos 0) 0
+pub cleared-is : zeros ≡ totalOf (pos 0) 0
 unfolding wordsOf wordsOfInteger
 cleared-is = refl
 

@@ -22,7 +22,7 @@ room m h = doubled m (2 ^ 639) (2 ^ 640) (pow-add 2 1 639) h
     doubled m h r e l = omega arith
 
 module _ (z : ℤ) (n : ℕ) where
-  words-full : length (wordsOfInteger 20 z) ≡ 20
+  pub words-full : length (wordsOfInteger 20 z) ≡ 20
   words-full = formed 20 z .0
 
   pub total-number : natAbs z < 2 ^ 639 → number (totalOf z n) ≡ z

@@ -1,0 +1,4 @@
+pub mod Operands
+pub mod Entering
+pub mod Conservation
+pub mod Theorems

@@ -1,0 +1,1 @@
+// Demand 3's claim about lists of questions over two totals.

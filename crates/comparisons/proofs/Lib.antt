@@ -1,0 +1,5 @@
+pub mod Orders
+pub mod Magnitudes
+pub mod ProductBranches
+pub mod Equality
+pub mod Choices

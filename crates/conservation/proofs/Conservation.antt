@@ -94,27 +94,35 @@ idle z m n e es s s' a k b f o =
     }
 
 -- a call on a fit total that is refused, 7 or 8
-refused-call : (t : List ℕ) (x : Term) → FitTotal t → (finiteOperands x ≡ false) ⊎ (count t ≡ 65536) → (adding t x ≡ refused 7) ⊎ (adding t x ≡ refused 8)
-refused-call t x f h = elim h [ inl s ↦ inl (adding-special t x (f .full) (f .fits) s) | inr c ↦ go (finiteOperands x) refl c ]
-  where
-    go : (b : Bool) → finiteOperands x ≡ b → count t ≡ 65536 → (adding t x ≡ refused 7) ⊎ (adding t x ≡ refused 8)
-    go false s c = inl (adding-special t x (f .full) (f .fits) s)
-    go true s c = inr (adding-full t x (f .full) (f .fits) s c)
+record Refused (t : List ℕ) (x : Term) : Type 0 where
+  pub special : finiteOperands x ≡ false → adding t x ≡ refused 7
+  pub full : finiteOperands x ≡ true → adding t x ≡ refused 8
+  pub unchanged : afterAdding t x ≡ t
 
-unchanged : (t : List ℕ) (x : Term) → (adding t x ≡ refused 7) ⊎ (adding t x ≡ refused 8) → afterAdding t x ≡ t
-unchanged t x h = elim h [ inl e ↦ after-refused t x 7 e | inr e ↦ after-refused t x 8 e ]
+refused-call : (t : List ℕ) (x : Term) → FitTotal t → (finiteOperands x ≡ false) ⊎ (count t ≡ 65536) → Refused t x
+refused-call t x f h = go (finiteOperands x) refl h
+  where
+    seven : finiteOperands x ≡ false → adding t x ≡ refused 7
+    seven s = adding-special t x (f .full) (f .fits) s
+
+    go : (b : Bool) → finiteOperands x ≡ b → (finiteOperands x ≡ false) ⊎ (count t ≡ 65536) → Refused t x
+    go false s h = record { special = seven; full = λ (o : finiteOperands x ≡ true). absurd (true≢false (sym o ∙ s)); unchanged = after-refused t x 7 (seven s) }
+    go true s (inl o) = absurd (true≢false (sym s ∙ o))
+    go true s (inr c) =
+        let eight = adding-full t x (f .full) (f .fits) s c in
+        record { special = seven; full = λ (o : finiteOperands x ≡ true). eight; unchanged = after-refused t x 8 eight }
 
 module _ (z : ℤ) (m n : ℕ) (es : List Event) (few : m ≤ 65536) (few' : n ≤ 65536) (small : natAbs z ≤ m * 2 ^ 554) (small' : natAbs z ≤ n * 2 ^ 554) where
   adding-step : (side : Side) (x : Term) → AllowedNow (holding z m n) (adds side x) → Step z (pos 0) m n 0 0 (adds side x) es
   unfolding book enteringSums enteringProducts
   adding-step onFirst x h =
       let r = refused-call (totalOf z m) x (total-fit z m few small) h in
-      let u = ap {B = Totals} (λ (t : List ℕ). record { first = t; other = totalOf z n }) (unchanged (totalOf z m) x r) in
-      idle z m n (adds onFirst x) es small small' u (r, u) (sym (+ℤ-idl (book es))) refl refl
+      let u = ap {B = Totals} (λ (t : List ℕ). record { first = t; other = totalOf z n }) (r .unchanged) in
+      idle z m n (adds onFirst x) es small small' u (r .special, r .full, u) (sym (+ℤ-idl (book es))) refl refl
   adding-step onOther x h =
       let r = refused-call (totalOf z n) x (total-fit z n few' small') h in
-      let u = ap {B = Totals} (λ (t : List ℕ). record { first = totalOf z m; other = t }) (unchanged (totalOf z n) x r) in
-      idle z m n (adds onOther x) es small small' u (r, u) (sym (+ℤ-idl (book es))) refl refl
+      let u = ap {B = Totals} (λ (t : List ℕ). record { first = totalOf z m; other = t }) (r .unchanged) in
+      idle z m n (adds onOther x) es small small' u (r .special, r .full, u) (sym (+ℤ-idl (book es))) refl refl
 
   reading-step : (side : Side) → Step z (pos 0) m n 0 0 (reads side) es
   unfolding book enteringSums enteringProducts

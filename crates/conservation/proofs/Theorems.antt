@@ -23,10 +23,13 @@ use Rattle.totals.proofs.Answers.{clearing-done}
 use Rattle.totals.proofs.Columns.{cleared-is}
 use Rattle.totals.proofs.ReadTotal.{read-fit}
 use Rattle.conservation.specs.Lists.{Question, answer, operation, direct, finitePair, enters, oneSum, oneProduct, Totals, Event, asks, reads, adds, run, book, questions, enteringSums, enteringProducts}
-use Rattle.conservation.specs.Theorems.{Allowed, Met, cleared, Holds, Conserved, EntersExactly, All}
+use Rattle.conservation.specs.Replay.{eventsOf, totalsAfter}
+use Rattle.conservation.specs.Theorems.{Allowed, Met, cleared, Holds, Conserved, EntersExactly, Replayed, All}
 use Rattle.conservation.proofs.Operands.{both}
 use Rattle.conservation.proofs.Entering.{not-true}
 use Rattle.conservation.proofs.Conservation.{holding, firstTerms, otherTerms, kept}
+use Rattle.conservation.proofs.Events.{questions-of, allowed-of}
+use Rattle.conservation.proofs.Misfits.{cleared-already, fits}
 
 -- ---- no more terms than two a question
 at-most-one : (b : Bool) (o : Operation) → cond b (oneSum o) 0 + cond b (oneProduct o) 0 ≤ 1
@@ -117,5 +120,21 @@ enters-exactly q = (
   λ h. rw (when-filled q (h .0) (h .1) (h .2), h .3, h .4, h .5),
 )
 
+-- ---- `replay`
+pub replayed : Replayed
+unfolding totalsAfter
+replayed os xs ys counts words first second v w e =
+    let f = fits os xs ys counts words first second e in
+    let a = cleared-already first (f .firstCleared) in
+    let b = cleared-already second (f .secondCleared) in
+    let es : List Event = eventsOf os xs ys counts words in
+    let n = questions-of os xs ys counts words (f .sameXs) (f .sameYs) (f .sameCounts) in
+    let start : cleared first second ≡ record { first = first; other = second } = ap₂ {C = Totals} (λ (t u : List ℕ). record { first = t; other = u }) (a .1) (b .1) in
+    let k = conserved first second es (a .0) (b .0) (le-trans (le-of-eq n) (f .few)) (allowed-of os xs ys counts words (cleared first second) v w) in (
+      rw e (subst (λ (t : Totals). Holds (run t es) es) start (k .0)),
+      subst (λ (t : Totals). Met t es) start (k .1),
+      n,
+    )
+
 pub all : All
-all = (conserved, enters-exactly)
+all = (conserved, enters-exactly, replayed)

@@ -1,2 +1,4 @@
 pub mod Lists
+pub mod Replay
+pub mod Answers
 pub mod Theorems

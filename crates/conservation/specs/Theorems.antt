@@ -1,4 +1,5 @@
 -- Demand 3's claim about lists. Each name is a statement; proofs/Theorems.antt has its proof. Assumes nothing.
+-- What demand 3 says of one sheet, its lines, line count, foot and flags, stands in emulation's Theorems (`EachLine` to `FilledPair`).
 use Prim.Native.Nat.{ℕ, _+_, _*_, _^_, _≤_, _<_}
 use mathlib.Core.Path.{_≡_}
 use mathlib.Core.Logic.{_⊎_, _↔_}
@@ -10,7 +11,9 @@ use Rattle.rounding.specs.Value.{decode, isFinite}
 use Rattle.augmented.specs.Pairs.{pairOf}
 use Rattle.totals.specs.Totals.{number, count, totalOf, finiteOperands, refused as totals·refused, adding, afterClearing, exact, pairAnswer, reading}
 use Rattle.totals.specs.Columns.{Accepted}
+use Rattle.words.specs.Words.{Words}
 use Rattle.conservation.specs.Lists.{Question, answer, operation, direct, enters, footTerms, setTerms, Totals, totalOn, Event, asks, reads, adds, after, run, book, questions, enteringSums, enteringProducts}
+use Rattle.conservation.specs.Replay.{eventsOf, Answer, refused, done, replaying, totalsAfter}
 
 -- ---- which lists: questions on patterns, readings, "and adding calls with an infinite or NaN operand (7) or to a total whose count is 65,536 (8)"
 abbrev pub AllowedNow : Totals → Event → Type 0
@@ -23,13 +26,16 @@ Allowed t [] = Unit {0}
 Allowed t (e ∷ es) = AllowedNow t e × Allowed (after t e) es
 
 -- ---- what is said of each event
--- "every term of an entering question was accepted"; the other calls answer 7 or 8, and "none of these changes anything"
+-- "every term of an entering question was accepted"; the other calls answer 7 or 8, and "none of these changes anything". (A reading is lent its
+-- total to look at only. What it answers is the claim about the part of the list before it.)
 abbrev pub MetNow : Totals → Event → Type 0
 MetNow t (asks q) =
     (enters q ≡ true → Accepted (t .first) (footTerms (answer q)) × Accepted (t .other) (setTerms (operation q) (q .x) (q .y)))
     × (enters q ≡ false → after t (asks q) ≡ t)
 MetNow t (reads side) = after t (reads side) ≡ t
-MetNow t (adds side x) = ((adding (totalOn side t) x ≡ totals·refused 7) ⊎ (adding (totalOn side t) x ≡ totals·refused 8)) × (after t (adds side x) ≡ t)
+MetNow t (adds side x) =
+    (finiteOperands x ≡ false → adding (totalOn side t) x ≡ totals·refused 7) × (finiteOperands x ≡ true → adding (totalOn side t) x ≡ totals·refused 8)
+    × (after t (adds side x) ≡ t)
 
 unfoldable pub Met : Totals → List Event → Type 0
 Met t [] = Unit {0}
@@ -69,5 +75,17 @@ EntersExactly =
     ↔ ((1 ≤ q .operation) × (q .operation ≤ 3) × (65 ≤ length (q .words)) × (isFinite (decode binary32 (direct q .first)) ≡ true) × (isFinite (decode binary32 (direct q .second)) ≡ true)
     × (direct q .flags .inexact ≡ false))
 
+-- ---- `replay`: where it is carried out, the claim holds of its questions, and these are as many as the arrays have. xs and ys hold 32-bit words.
+abbrev pub Replayed : Type 0
+Replayed =
+    (operations xs ys counts words first second : List ℕ) → Words xs → Words ys → replaying operations xs ys counts words first second ≡ done
+    → let es = eventsOf operations xs ys counts words in
+    Holds (totalsAfter operations xs ys counts words first second) es × Met (record { first = first; other = second }) es × (questions es ≡ length operations)
+
+-- what the call's contract says of its answer, the totals that it was lent and left, and its questions: the claim, where it was carried out
+abbrev pub Conserves : Answer → Totals → Totals → List Event → Type 0
+Conserves (refused n) start t es = Unit {0}
+Conserves done start t es = Holds t es × Met start es
+
 abbrev pub All : Type 0
-All = Conserved × EntersExactly
+All = Conserved × EntersExactly × Replayed

@@ -1,5 +1,6 @@
-// The steps, pairs and totals for programs in C and Rust.
+// The steps, pairs, totals and sheets for programs in C and Rust.
 pub mod columns;
+pub mod sheets;
 
 use augmented::Pair;
 ghost use mathlib.Core.Path.{_≡_};

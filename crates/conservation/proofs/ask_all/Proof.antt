@@ -1,0 +1,129 @@
+use borrow.Author.Needs.{needs}
+use mathlib.Core.Path.{_≡_, refl, sym, ap, _∙_}
+use Prim.Native.Nat.{_-_, _≤_}
+use native.Mathlib.Omega.{arith}
+use lib.ListN.{getD, length}
+use lib.Seq.{length-take-le, length-front}
+use Rattle.conservation.specs.Lists.{Totals}
+use Rattle.conservation.proofs.Events.{totalsFrom, wordsFrom, nothing-left, next-question}
+use Rattle.conservation.proofs.Misfits.{within-at}
+use Rattle.conservation.proofs.ask_all.Statement.{statement}
+use Rattle.conservation.proofs.ask_all.Tie as tie
+
+abbrev Inv-loop : tie.InvT-loop
+Inv-loop operations xs ys counts words₀ first₀ second₀ i₀ words first second i =
+    (i ≤ length operations) × (length words ≡ length words₀) × (length first ≡ length first₀) × (length second ≡ length second₀)
+    × (totalsFrom operations xs ys counts i words (record { first = first; other = second }) ≡ totalsFrom operations xs ys counts 0 words₀ (record { first = first₀; other = second₀ }))
+    × (wordsFrom operations xs ys counts i words ≡ wordsFrom operations xs ys counts 0 words₀)
+
+abbrev μ-loop : tie.MeasureT-loop
+μ-loop operations xs ys counts words₀ first₀ second₀ i₀ words first second i = length operations - i
+
+loop-holds : tie.Need-loop-holds Inv-loop μ-loop
+loop-holds c = (omega arith, refl, refl, refl, refl, refl)
+
+mul-operation : tie.Need-mul-operation Inv-loop μ-loop
+mul-operation c = search needs
+
+shared-slice-read-operation : tie.Need-shared-slice-read-operation Inv-loop μ-loop
+shared-slice-read-operation c = search needs
+
+mul-x : tie.Need-mul-x Inv-loop μ-loop
+mul-x c = search needs
+
+shared-slice-read-x : tie.Need-shared-slice-read-x Inv-loop μ-loop
+shared-slice-read-x c = search needs
+
+mul-y : tie.Need-mul-y Inv-loop μ-loop
+mul-y c = search needs
+
+shared-slice-read-y : tie.Need-shared-slice-read-y Inv-loop μ-loop
+shared-slice-read-y c = search needs
+
+mul-n : tie.Need-mul-n Inv-loop μ-loop
+mul-n c = search needs
+
+shared-slice-read-n : tie.Need-shared-slice-read-n Inv-loop μ-loop
+shared-slice-read-n c = search needs
+
+cast-n : tie.Need-cast-n Inv-loop μ-loop
+cast-n c = let w = c .shared-slice-known8 .given (c .before .before .before .before .before .loop .i) .fits in omega arith
+
+slice-relend-prefix-settle : tie.Need-slice-relend-prefix-settle Inv-loop μ-loop
+slice-relend-prefix-settle c =
+    let l = c .before .before .before .before .before .loop in
+    let start = c .before .before .before .before .before .before .before .before .before .before .before .before .before in
+    let w = within-at (start .args .counts .now) (length (start .args .words .now)) (l .i) (start .pre .1) (omega arith) in
+    omega arith
+
+slice-aggregate-settle : tie.Need-slice-aggregate-settle Inv-loop μ-loop
+slice-aggregate-settle c =
+    let l = c .before .before .before .before .before .before .loop in
+    let start = c .before .before .before .before .before .before .before .before .before .before .before .before .before .before in
+    let w = within-at (start .args .counts .now) (length (start .args .words .now)) (l .i) (start .pre .1) (omega arith) in
+    sym (length-take-le _ (l .words) (omega arith))
+
+settle-requires : tie.Need-settle-requires Inv-loop μ-loop
+settle-requires c κs = search needs
+
+add-i : tie.Need-add-i Inv-loop μ-loop
+add-i c = search needs
+
+loop-less : tie.Need-loop-less Inv-loop μ-loop
+loop-less c = search needs
+
+loop-again : tie.Need-loop-again Inv-loop μ-loop
+loop-again c =
+    let l = c .before .before .before .before .before .before .before .before .before .before .before .before .before .before .before .loop in
+    let start = c .before .before .before .before .before .before .before .before .before .before .before .before .before .before .before .before .before .before .before .before .before .before .before in
+    let a = start .args in
+    let p = start .pre .0 in
+    let s = c .before .before .before .before .before .before .settle in
+    let k = next-question (a .operations .now) (a .xs .now) (a .ys .now) (a .counts .now) (l .i) (omega arith) (p .0) (p .1) (p .2) (l .words) (l .first) (l .second) _ _ _ (s .ensures .0) (s .ensures .1 .0) (s .ensures .1 .1) in
+    let long = length-front (l .words) (s .last .1 .1 .1 .0) (getD (a .counts .now) (l .i) 0) (s .kept .1 .1 .1 .0) in
+    (omega arith, long ∙ l .inv .1, s .kept .1 .1 .1 .1 .0 ∙ l .inv .2, s .kept .1 .1 .1 .1 .1 .0 ∙ l .inv .3, k .0 ∙ l .inv .4, k .1 ∙ l .inv .5)
+
+same-length : tie.Need-same-length Inv-loop μ-loop
+same-length c = search needs
+
+same-length-2 : tie.Need-same-length-2 Inv-loop μ-loop
+same-length-2 c = search needs
+
+same-length-3 : tie.Need-same-length-3 Inv-loop μ-loop
+same-length-3 c = search needs
+
+returns : tie.Need-returns Inv-loop μ-loop
+returns c =
+    let l = c .before .loop in
+    let a = c .before .before .before .before .before .before .before .before .before .args in
+    let t : Totals = record { first = l .first; other = l .second } in
+    let k = nothing-left (a .operations .now) (a .xs .now) (a .ys .now) (a .counts .now) (l .i) (l .words) t (omega arith) in
+    let e = sym (k .0) ∙ l .inv .4 in
+    (ap (λ (u : Totals). u .first) e, (ap (λ (u : Totals). u .other) e, sym (k .1) ∙ l .inv .5))
+
+pub ask-all-spec : {M : Type 1} → statement M
+ask-all-spec =
+    tie.close
+    (tie.spec
+    Inv-loop
+    μ-loop
+    loop-holds
+    mul-operation
+    shared-slice-read-operation
+    mul-x
+    shared-slice-read-x
+    mul-y
+    shared-slice-read-y
+    mul-n
+    shared-slice-read-n
+    cast-n
+    slice-relend-prefix-settle
+    slice-aggregate-settle
+    settle-requires
+    add-i
+    loop-less
+    loop-again
+    same-length
+    same-length-2
+    same-length-3
+    returns)

@@ -1,0 +1,82 @@
+use borrow.Author.Needs.{needs}
+use mathlib.Core.Path.{sym, _∙_}
+use borrow.Author.Tests.{not-true, not-false}
+use Rattle.conservation.proofs.Misfits.{unequal, too-many, first-not-cleared, second-not-cleared, past-words, nothing-wrong}
+use Rattle.conservation.proofs.fitting.answer.Statement.{statement}
+use Rattle.conservation.proofs.fitting.answer.Tie as tie
+
+all-equal-requires : tie.Need-all-equal-requires
+all-equal-requires c κs = search needs
+
+returns : tie.Need-returns
+returns c =
+    let a = c .before .before .before .before .before .before .before .before .before .args in
+    unequal (a .operations .now) (a .xs .now) (a .ys .now) (a .counts .now) (a .words .now) (a .first .now) (a .second .now) (sym (c .before .all-equal .ensures) ∙ not-true _ (c .if1 .taken))
+
+returns-2 : tie.Need-returns-2
+returns-2 c =
+    let same = c .before in
+    let a = same .before .before .before .before .before .before .before .before .before .args in
+    too-many (a .operations .now) (a .xs .now) (a .ys .now) (a .counts .now) (a .words .now) (a .first .now) (a .second .now)
+    (sym (same .before .all-equal .ensures) ∙ not-false _ (same .if1 .left)) (c .if2 .taken)
+
+is-cleared-requires : tie.Need-is-cleared-requires
+is-cleared-requires c κs = search needs
+
+returns-3 : tie.Need-returns-3
+returns-3 c =
+    let few = c .before .before in
+    let same = few .before in
+    let a = same .before .before .before .before .before .before .before .before .before .args in
+    first-not-cleared (a .operations .now) (a .xs .now) (a .ys .now) (a .counts .now) (a .words .now) (a .first .now) (a .second .now)
+    (sym (same .before .all-equal .ensures) ∙ not-false _ (same .if1 .left)) (few .if2 .left) (sym (c .before .is-cleared .ensures) ∙ not-true _ (c .if3 .taken))
+
+is-cleared-requires-2 : tie.Need-is-cleared-requires-2
+is-cleared-requires-2 c κs = search needs
+
+returns-4 : tie.Need-returns-4
+returns-4 c =
+    let first = c .before .before in
+    let few = first .before .before in
+    let same = few .before in
+    let a = same .before .before .before .before .before .before .before .before .before .args in
+    second-not-cleared (a .operations .now) (a .xs .now) (a .ys .now) (a .counts .now) (a .words .now) (a .first .now) (a .second .now)
+    (sym (same .before .all-equal .ensures) ∙ not-false _ (same .if1 .left)) (few .if2 .left) (sym (first .before .is-cleared .ensures) ∙ not-false _ (first .if3 .left)) (sym (c .before .is-cleared2 .ensures) ∙ not-true _ (c .if4 .taken))
+
+all-within-requires : tie.Need-all-within-requires
+all-within-requires c κs = search needs
+
+returns-5 : tie.Need-returns-5
+returns-5 c =
+    let second = c .before .before in
+    let first = second .before .before in
+    let few = first .before .before in
+    let same = few .before in
+    let a = same .before .before .before .before .before .before .before .before .before .args in
+    past-words (a .operations .now) (a .xs .now) (a .ys .now) (a .counts .now) (a .words .now) (a .first .now) (a .second .now)
+    (sym (same .before .all-equal .ensures) ∙ not-false _ (same .if1 .left)) (few .if2 .left) (sym (first .before .is-cleared .ensures) ∙ not-false _ (first .if3 .left)) (sym (second .before .is-cleared2 .ensures) ∙ not-false _ (second .if4 .left)) (sym (c .before .all-within .ensures) ∙ not-true _ (c .if5 .taken))
+
+returns-6 : tie.Need-returns-6
+returns-6 c =
+    let second = c .before .before in
+    let first = second .before .before in
+    let few = first .before .before in
+    let same = few .before in
+    let a = same .before .before .before .before .before .before .before .before .before .args in
+    nothing-wrong (a .operations .now) (a .xs .now) (a .ys .now) (a .counts .now) (a .words .now) (a .first .now) (a .second .now)
+    (sym (same .before .all-equal .ensures) ∙ not-false _ (same .if1 .left)) (few .if2 .left) (sym (first .before .is-cleared .ensures) ∙ not-false _ (first .if3 .left)) (sym (second .before .is-cleared2 .ensures) ∙ not-false _ (second .if4 .left)) (sym (c .before .all-within .ensures) ∙ not-false _ (c .if5 .left))
+
+pub answer-spec : {M : Type 1} → statement M
+answer-spec =
+    tie.close
+    (tie.spec
+    all-equal-requires
+    returns
+    returns-2
+    is-cleared-requires
+    returns-3
+    is-cleared-requires-2
+    returns-4
+    all-within-requires
+    returns-5
+    returns-6)

@@ -1,0 +1,59 @@
+-- The cases of a question line, each from the facts that lead to it.
+use mathlib.Core.Path.{_≡_, refl, sym, _∙_}
+use mathlib.Core.List.{List}
+use mathlib.Core.Bool.{Bool, true, false, cond, _&&_}
+use Prim.Native.Nat.{ℕ}
+use native.Mathlib.Omega.{arith}
+use borrow.Author.Tests.{eq-eqb, ne-eqb}
+use lib.ListN.{length, getD}
+use Rattle.question.specs.Questions.{operationOf, allDigits, patternFrom, firstPattern, secondPattern, asked, refused, reading}
+use Rattle.question.specs.declared.digits.Pattern.the-variants.{Value, NoDigit}
+use Rattle.question.specs.Inner.{patternOf}
+
+all-digits : (b : Bool) (n x : ℕ) → cond b (Value n) NoDigit ≡ Value x → (b ≡ true) × (n ≡ x)
+all-digits true n x e = (refl, cc)
+all-digits false n x e = let z : _≡_ {A = ℕ} 0 1 = cc in absurd (omega arith)
+
+no-digits : (b : Bool) (n : ℕ) → cond b (Value n) NoDigit ≡ NoDigit → b ≡ false
+no-digits true n e = let z : _≡_ {A = ℕ} 0 1 = cc in absurd (omega arith)
+no-digits false n e = refl
+
+pub length-refused : (s : List ℕ) → (length s ≡ 21 → ⊥) → refused 1 ≡ reading s
+unfolding reading
+length-refused s n = rw (ne-eqb (length s) 21 n)
+
+module _ (s : List ℕ) (op : ℕ) (full : length s ≡ 21) (is : op ≡ operationOf s) where
+  pub letters-refused : op ≡ 0 → refused 2 ≡ reading s
+  unfolding reading
+  letters-refused z = rw (eq-eqb (length s) 21 full, eq-eqb (operationOf s) 0 (sym is ∙ z))
+
+  module _ (known : op ≡ 0 → ⊥) where
+    pub first-tab-refused : (getD s 3 0 ≡ 9 → ⊥) → refused 3 ≡ reading s
+    unfolding reading
+    first-tab-refused n = rw (eq-eqb (length s) 21 full, ne-eqb (operationOf s) 0 (λ z. known (is ∙ z)), ne-eqb (getD s 3 0) 9 n)
+
+    module _ (tab : getD s 3 0 ≡ 9) where
+      pub second-tab-refused : (getD s 12 0 ≡ 9 → ⊥) → refused 3 ≡ reading s
+      unfolding reading
+      second-tab-refused n = rw (eq-eqb (length s) 21 full, ne-eqb (operationOf s) 0 (λ z. known (is ∙ z)), eq-eqb (getD s 3 0) 9 tab, ne-eqb (getD s 12 0) 9 n)
+
+      module _ (tab2 : getD s 12 0 ≡ 9) where
+        pub digits-refused : (allDigits (firstPattern s) && allDigits (secondPattern s)) ≡ false → refused 4 ≡ reading s
+        unfolding reading
+        digits-refused b = rw (eq-eqb (length s) 21 full, ne-eqb (operationOf s) 0 (λ z. known (is ∙ z)), eq-eqb (getD s 3 0) 9 tab, eq-eqb (getD s 12 0) 9 tab2, b)
+
+        pub first-refused : patternOf (firstPattern s) ≡ NoDigit → refused 4 ≡ reading s
+        first-refused e = digits-refused (rw (no-digits (allDigits (firstPattern s)) (patternFrom 0 (firstPattern s)) e))
+
+        module _ (x : ℕ) (first : patternOf (firstPattern s) ≡ Value x) where
+          pub second-refused : patternOf (secondPattern s) ≡ NoDigit → refused 4 ≡ reading s
+          second-refused e =
+              digits-refused
+              (rw (all-digits (allDigits (firstPattern s)) (patternFrom 0 (firstPattern s)) x first .0, no-digits (allDigits (secondPattern s)) (patternFrom 0 (secondPattern s)) e))
+
+          pub taken : (y : ℕ) → patternOf (secondPattern s) ≡ Value y → asked op x y ≡ reading s
+          unfolding reading
+          taken y second =
+              let a = all-digits (allDigits (firstPattern s)) (patternFrom 0 (firstPattern s)) x first in
+              let b = all-digits (allDigits (secondPattern s)) (patternFrom 0 (secondPattern s)) y second in
+              rw (eq-eqb (length s) 21 full, ne-eqb (operationOf s) 0 (λ z. known (is ∙ z)), eq-eqb (getD s 3 0) 9 tab, eq-eqb (getD s 12 0) 9 tab2, a .0, b .0, a .1, b .1, is)

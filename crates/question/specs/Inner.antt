@@ -1,0 +1,14 @@
+-- What the crate's inner functions promise. No public contract cites it. Assumes nothing.
+use Prim.Native.Nat.{ℕ}
+use mathlib.Core.Bool.{cond}
+use mathlib.Core.List.{List}
+use Rattle.question.specs.declared.digits.Pattern.{Pattern}
+use Rattle.question.specs.declared.digits.Pattern.the-variants.{Value, NoDigit}
+use Rattle.question.specs.Questions.{isDigit, digitValue, allDigits, patternFrom}
+
+-- a digit's value, 16 where the byte is none
+abbrev pub digitOr16 : ℕ → ℕ
+digitOr16 c = cond (isDigit c) (digitValue c) 16
+
+abbrev pub patternOf : List ℕ → Pattern
+patternOf s = cond (allDigits s) (Value (patternFrom 0 s)) NoDigit

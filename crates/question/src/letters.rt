@@ -1,0 +1,34 @@
+// The letters of an operation.
+ghost use mathlib.Core.Path.{_≡_};
+ghost use Prim.Native.Nat.{_≤_};
+ghost use lib.ListN.{length};
+ghost use Rattle.question.specs.Questions.{starts, operationOf};
+
+fn starts_with(line: &[u8], three: &[u8; 3]) -> bool
+    requires { ⌜ 3 ≤ length (now line) ⌝ }
+    ensures { λ r. ⌜ r ≡ starts (now (line .entry)) (now (three .entry)) ⌝ }
+{
+    if line[0] == three[0] {
+        if line[1] == three[1] {
+            return line[2] == three[2];
+        }
+    }
+    false
+}
+
+// 0 where they are unknown.
+pub fn operation(line: &[u8]) -> u32
+    requires { ⌜ 3 ≤ length (now line) ⌝ }
+    ensures { λ r. ⌜ r ≡ operationOf (now (line .entry)) ⌝ }
+{
+    if starts_with(line, b"sum") {
+        return 1;
+    }
+    if starts_with(line, b"dif") {
+        return 2;
+    }
+    if starts_with(line, b"mul") {
+        return 3;
+    }
+    0
+}

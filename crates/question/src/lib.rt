@@ -1,0 +1,42 @@
+// Reading a question line: three letters, a pattern and a pattern, with tabs between.
+mod digits;
+mod letters;
+
+use digits::Pattern;
+ghost use mathlib.Core.Path.{_≡_};
+ghost use Rattle.question.specs.Questions.{reading};
+ghost use Rattle.question.specs.Answers.{answerOf};
+
+pub enum Question {
+    // 1 sum, 2 difference, 3 product.
+    Asked { operation: u32, x: u32, y: u32 },
+    Length,
+    Letters,
+    Tab,
+    Digit,
+}
+
+pub fn read(line: &[u8]) -> Question
+    ensures { λ r. ⌜ answerOf r ≡ reading (now (line .entry)) ⌝ }
+{
+    if line.len() != 21 {
+        return Question::Length;
+    }
+    let operation = letters::operation(line);
+    if operation == 0 {
+        return Question::Letters;
+    }
+    if line[3] != 9 {
+        return Question::Tab;
+    }
+    if line[12] != 9 {
+        return Question::Tab;
+    }
+    let Pattern::Value(x) = digits::value(&line[4..12]) else {
+        return Question::Digit;
+    };
+    let Pattern::Value(y) = digits::value(&line[13..21]) else {
+        return Question::Digit;
+    };
+    Question::Asked { operation, x, y }
+}

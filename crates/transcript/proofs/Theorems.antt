@@ -1,0 +1,37 @@
+-- Proofs of the statements about the texts (specs/Theorems.antt).
+use Prim.Native.Nat.{ℕ, min, _≤_}
+use mathlib.Core.Path.{refl, sym}
+use native.Mathlib.Omega.{arith}
+use Rattle.question.specs.Questions.{letters, questionText}
+use Rattle.transcript.specs.Texts.{decimalUpTo, flagsText, askText, endText}
+use Rattle.transcript.specs.Theorems.{Decimals, FlagTexts, WrittenWhole, AtMost, Example, All}
+use Rattle.transcript.proofs.Buffers.{too-short, text-first}
+use Rattle.transcript.proofs.DecimalLaws.{decimal-most, decimal-least}
+use Rattle.transcript.proofs.DecimalDigits.{makes-number, are-digits, no-zero-first}
+use Rattle.transcript.proofs.FieldLaws.{flags-most}
+use Rattle.transcript.proofs.TextLengths.{answered-length}
+use Rattle.transcript.proofs.WholeSteps.{steps-most}
+
+pub decimals : Decimals
+decimals n h = (makes-number n h, are-digits n, decimal-least n, decimal-most n, no-zero-first n h)
+
+pub flag-texts : FlagTexts
+unfolding flagsText
+flag-texts = (refl, refl, refl, refl)
+
+pub written-whole : WrittenWhole
+written-whole out text some = (text-first out text, λ h. (sym (too-short out text h .0), sym (too-short out text h .1)))
+
+at-most-13 : (lines : ℕ) → min lines 13 ≤ 13
+at-most-13 lines = omega arith
+
+pub at-most : AtMost
+at-most number operation x y words lines pair =
+    omega (arith, answered-length number operation x y words lines pair, decimal-most number, steps-most (min lines 13) words (at-most-13 lines), flags-most (pair .flags))
+
+pub example : Example
+unfolding askText questionText letters decimalUpTo endText
+example = (refl, refl)
+
+pub all : All
+all = (decimals, flag-texts, written-whole, at-most, example)

@@ -1,0 +1,60 @@
+use lib.ListN.{getD, length-set}
+use native.Mathlib.Omega.{arith}
+use Prim.Native.Nat.{_+_}
+use mathlib.Core.Path.{refl}
+use mathlib.Core.List.{[], _∷_}
+use Rattle.transcript.proofs.Stored.{from-first}
+use borrow.Author.Needs.{needs}
+use Rattle.transcript.proofs.bytes.put_three.Statement.{statement}
+use Rattle.transcript.proofs.bytes.put_three.Tie as tie
+
+element-copy-out-out : tie.Need-element-copy-out-out
+element-copy-out-out c = search needs
+
+slice-write-out : tie.Need-slice-write-out
+slice-write-out c = search needs
+
+element-copy-out-out-2 : tie.Need-element-copy-out-out-2
+element-copy-out-out-2 c = search needs
+
+add-out : tie.Need-add-out
+add-out c = search needs
+
+slice-write-out-2 : tie.Need-slice-write-out-2
+slice-write-out-2 c = simp length-set (omega arith)
+
+element-copy-out-out-3 : tie.Need-element-copy-out-out-3
+element-copy-out-out-3 c = search needs
+
+add-out-2 : tie.Need-add-out-2
+add-out-2 c = search needs
+
+slice-write-out-3 : tie.Need-slice-write-out-3
+slice-write-out-3 c = simp length-set (omega arith)
+
+add-result : tie.Need-add-result
+add-result c = search needs
+
+same-length : tie.Need-same-length
+same-length c = search needs
+
+returns : tie.Need-returns
+returns c =
+    let a = c .before .before .before .args in
+    from-first (a .out .now) (a .at) (getD (a .text .now) 0 0) (getD (a .text .now) 1 0 ∷ getD (a .text .now) 2 0 ∷ []) (a .at + 3) (c .before .before .before .pre) refl
+
+pub put-three-spec : {M : Type 1} → statement M
+put-three-spec =
+    tie.close
+    (tie.spec
+    element-copy-out-out
+    slice-write-out
+    element-copy-out-out-2
+    add-out
+    slice-write-out-2
+    element-copy-out-out-3
+    add-out-2
+    slice-write-out-3
+    add-result
+    same-length
+    returns)

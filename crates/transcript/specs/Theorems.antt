@@ -1,0 +1,49 @@
+-- What holds of the texts. Each name is a statement; proofs/Theorems.antt has its proof. Assumes nothing.
+use Prim.Native.Nat.{ℕ, _+_, _*_, _-_, _^_, _≤_, _<_}
+use mathlib.Core.Path.{_≡_}
+use mathlib.Core.Logic.{_≢_}
+use mathlib.Core.List.{List, [], _∷_}
+use lib.ListN.{length, getD, take, drop}
+use Rattle.augmented.specs.Direct.{none, I, OX, UX}
+use Rattle.augmented.specs.declared.Pair.{Pair}
+use Rattle.transcript.specs.Texts.{decimal, flagsText, askText, endText, answeredText, written, afterWriting}
+
+-- the number that decimal digits make, the most significant first
+unfoldable pub fromDigits : ℕ → List ℕ → ℕ
+fromDigits n [] = n
+fromDigits n (c ∷ cs) = fromDigits (n * 10 + (c - 48)) cs
+
+-- every byte is one of 48 to 57
+unfoldable pub Digits : List ℕ → Type 0
+Digits [] = Unit {0}
+Digits (c ∷ cs) = (48 ≤ c) × (c ≤ 57) × Digits cs
+
+-- a decimal is digits that make its number, and has no zero in front
+abbrev pub Decimals : Type 0
+Decimals =
+    (n : ℕ) → n < 2 ^ 32
+    → (fromDigits 0 (decimal n) ≡ n) × Digits (decimal n) × (1 ≤ length (decimal n)) × (length (decimal n) ≤ 10) × (1 < length (decimal n) → getD (decimal n) 0 0 ≢ 48)
+
+-- the flag sets that occur, in text
+abbrev pub FlagTexts : Type 0
+FlagTexts = (flagsText none ≡ 45 ∷ []) × (flagsText I ≡ 73 ∷ []) × (flagsText OX ≡ 79 ∷ 88 ∷ []) × (flagsText UX ≡ 85 ∷ 88 ∷ [])
+
+-- a buffer that is long enough begins with the text and is unchanged behind it, one that is too short is unchanged
+abbrev pub WrittenWhole : Type 0
+WrittenWhole =
+    (out text : List ℕ) → text ≢ []
+    → (length text ≤ length out → (written out text ≡ length text) × (take (written out text) (afterWriting out text) ≡ text) × (drop (length text) (afterWriting out text) ≡ drop (length text) out))
+    × (length out < length text → (written out text ≡ 0) × (afterWriting out text ≡ out))
+
+-- an answered question has at most 680 bytes
+abbrev pub AtMost : Type 0
+AtMost = (number operation x y : ℕ) (words : List ℕ) (lines : ℕ) (pair : Pair) → length (answeredText number operation x y words lines pair) ≤ 680
+
+-- document 01's printed example, but for its steps
+abbrev pub Example : Type 0
+Example =
+    (askText 1 1 0x3f80_0001 0x3380_0000 ≡ 97 ∷ 115 ∷ 107 ∷ 9 ∷ 49 ∷ 9 ∷ 115 ∷ 117 ∷ 109 ∷ 9 ∷ 51 ∷ 70 ∷ 56 ∷ 48 ∷ 48 ∷ 48 ∷ 48 ∷ 49 ∷ 9 ∷ 51 ∷ 51 ∷ 56 ∷ 48 ∷ 48 ∷ 48 ∷ 48 ∷ 48 ∷ 10 ∷ [])
+    × (endText 1 0 ≡ 101 ∷ 110 ∷ 100 ∷ 9 ∷ 49 ∷ 9 ∷ 48 ∷ 10 ∷ [])
+
+abbrev pub All : Type 0
+All = Decimals × FlagTexts × WrittenWhole × AtMost × Example

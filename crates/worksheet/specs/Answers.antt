@@ -1,0 +1,9 @@
+-- The answers of the code's call: document 01's number and values for each case of its enum. Assumes nothing.
+use Rattle.emulation.specs.Filling.{Answer, refused, filled}
+use Rattle.worksheet.specs.declared.Filled.{Filled}
+use Rattle.worksheet.specs.declared.Filled.the-variants as the-filled
+
+abbrev pub answerFilled : Filled → Answer
+answerFilled (the-filled.Sheet lines pair) = filled lines pair
+answerFilled the-filled.Operation = refused 10
+answerFilled the-filled.Words = refused 9

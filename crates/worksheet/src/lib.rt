@@ -1,0 +1,83 @@
+// The step sheet of a question in 65 lent words. Each result on a line is a rounding step's.
+mod blocks;
+mod constants;
+mod lines;
+mod products;
+mod sums;
+
+use crate::lines::Foot;
+use crate::lines::Places;
+use augmented::Flags;
+use augmented::Pair;
+use binary32::class::flipped;
+ghost use mathlib.Core.Path.{_≡_};
+ghost use Rattle.rounding.specs.Format.{binary32};
+ghost use Rattle.augmented.specs.Direct.{directPair};
+ghost use Rattle.emulation.specs.Sheets.{sheetOf};
+ghost use Rattle.emulation.specs.Filling.{operationOf, filling, afterFilling, HasDirectPair};
+ghost use Rattle.worksheet.specs.Answers.{answerFilled};
+ghost use Rattle.worksheet.specs.Inner.{Follows};
+
+pub enum Filled {
+    Sheet { lines: u32, pair: Pair },
+    Operation,
+    Words,
+}
+
+// The pair is the one that the lines reach. The flags are the direct pair's.
+pub fn fill(operation: u32, x: u32, y: u32, words: &mut [u32]) -> Filled
+    ensures { λ r. ⌜ (answerFilled r ≡ filling operation x y (now (words .entry))) × (now (words .exit) ≡ afterFilling operation x y (now (words .entry))) × HasDirectPair operation x y (answerFilled r) ⌝ }
+{
+    if operation == 0 {
+        return Filled::Operation;
+    }
+    if operation > 3 {
+        return Filled::Operation;
+    }
+    if words.len() < 65 {
+        return Filled::Words;
+    }
+    let mut lines = [[0u32; 5]; 13];
+    let foot = sheet(&mut lines, operation, x, y);
+    lines::copy_out(lines, words);
+    let pair = Pair {
+        first: foot.first,
+        second: foot.second,
+        flags: flags(operation, x, y),
+    };
+    Filled::Sheet {
+        lines: foot.next as u32,
+        pair,
+    }
+}
+
+fn sheet(lines: &mut Places, operation: u32, x: u32, y: u32) -> Foot
+    ensures { λ r. ⌜ Follows (now (lines .entry)) (now (lines .exit)) 0 (sheetOf (operationOf operation) x y) r ⌝ }
+{
+    match operation {
+        1 => sums::sum(lines, x, y),
+        2 => sums::sum(lines, x, flipped(y)),
+        // 3
+        _ => products::product(lines, x, y),
+    }
+}
+
+fn flags(operation: u32, x: u32, y: u32) -> Flags
+    ensures { λ r. ⌜ r ≡ directPair (operationOf operation) binary32 x y .flags ⌝ }
+{
+    match operation {
+        1 => {
+            let direct = augmented::sum(x, y);
+            direct.flags
+        }
+        2 => {
+            let direct = augmented::difference(x, y);
+            direct.flags
+        }
+        // 3
+        _ => {
+            let direct = augmented::product(x, y);
+            direct.flags
+        }
+    }
+}

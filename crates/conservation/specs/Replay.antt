@@ -8,7 +8,8 @@ use lib.ListN.{length, take, drop}
 use Rattle.emulation.specs.Filling.{afterFilling}
 use Rattle.conservation.specs.Lists.{Totals, Event, asks, run}
 
--- ---- the questions: the ith has the ith operation number and patterns, and the first counts[i] of the lent words, as the last question left them
+-- ---- the questions: the ith has the ith operation number and patterns, and the first counts[i] of the lent words. These are as the last question
+-- left them, and each sheet is written over the one before it: of the words a question's answer depends on their number alone.
 unfoldable pub eventsOf : List ℕ → List ℕ → List ℕ → List ℕ → List ℕ → List Event
 eventsOf [] xs ys counts words = []
 eventsOf (o ∷ os) [] ys counts words = []
@@ -26,11 +27,11 @@ wordsAfter (o ∷ os) (x ∷ xs) (y ∷ ys) [] words = words
 wordsAfter (o ∷ os) (x ∷ xs) (y ∷ ys) (n ∷ counts) words = wordsAfter os xs ys counts (afterFilling o x y (take n words) ++ drop n words)
 
 -- ---- misfits
--- 21 zeros
 unfoldable pub allZero : List ℕ → Bool
 allZero [] = true
 allZero (w ∷ ws) = eqb w 0 && allZero ws
 
+-- 21 zeros
 abbrev pub isCleared : List ℕ → Bool
 isCleared total = eqb (length total) 21 && allZero total
 
@@ -43,7 +44,7 @@ pub data Answer : Type 0 where
   refused : ℕ → Answer
   done : Answer
 
--- tried in this order: 21 arrays of unequal length; 22 more than 32,768 questions; 23 a total that is not cleared; 24 a word count past the lent
+-- tried in this order: 21, arrays of unequal length; 22, more than 32,768 questions; 23, a total that is not cleared; 24, a word count past the lent
 -- words. The numbers follow document 01's, whose last is 11, at a distance.
 unfoldable pub replaying : List ℕ → List ℕ → List ℕ → List ℕ → List ℕ → List ℕ → List ℕ → Answer
 replaying operations xs ys counts words first second =

@@ -16,6 +16,7 @@ difLetters = 100 ∷ 105 ∷ 102 ∷ []
 abbrev pub mulLetters : List ℕ
 mulLetters = 109 ∷ 117 ∷ 108 ∷ []
 
+-- by the number; any other, which no question has, is written as `mul`
 unfoldable pub letters : ℕ → List ℕ
 letters operation = cond (eqb operation 1) sumLetters (cond (eqb operation 2) difLetters mulLetters)
 

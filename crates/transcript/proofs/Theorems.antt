@@ -1,10 +1,10 @@
 -- Proofs of the statements about the texts (specs/Theorems.antt).
-use Prim.Native.Nat.{ℕ, min, _≤_}
+use Prim.Native.Nat.{ℕ, suc, min, _≤_, _<_}
 use mathlib.Core.Path.{refl, sym}
 use native.Mathlib.Omega.{arith}
 use Rattle.question.specs.Questions.{letters, questionText}
-use Rattle.transcript.specs.Texts.{decimalUpTo, flagsText, askText, endText}
-use Rattle.transcript.specs.Theorems.{Decimals, FlagTexts, WrittenWhole, AtMost, Example, All}
+use Rattle.transcript.specs.Texts.{decimalUpTo, flagsText, askText, stepText, pairText, badText, totalText, endText, answeredText}
+use Rattle.transcript.specs.Theorems.{Decimals, FlagTexts, WrittenWhole, AtMost, Example, NoneEmpty, All}
 use Rattle.transcript.proofs.Buffers.{too-short, text-first}
 use Rattle.transcript.proofs.DecimalLaws.{decimal-most, decimal-least}
 use Rattle.transcript.proofs.DecimalDigits.{makes-number, are-digits, no-zero-first}
@@ -33,5 +33,12 @@ pub example : Example
 unfolding askText questionText letters decimalUpTo endText
 example = (refl, refl)
 
+pub none-empty : NoneEmpty
+unfolding askText stepText pairText badText totalText endText answeredText
+none-empty n o x y z r words lines p = (some _, some _, some _, some _, some _, some _, some _, some _)
+  where
+    some : (n : ℕ) → 0 < suc n
+    some n = omega arith
+
 pub all : All
-all = (decimals, flag-texts, written-whole, at-most, example)
+all = (decimals, flag-texts, written-whole, at-most, example, none-empty)

@@ -1,4 +1,4 @@
--- What is printed (document 01, "What `sheet` prints"), as lists of bytes, in that section's order. Assumes nothing.
+-- What is printed (document 01, "What `sheet` prints"), as lists of bytes: fields, lines, and an answered question. Assumes nothing.
 -- "tabs between fields in every printed line": a tab is byte 9; each line ends in a newline, byte 10.
 use Prim.Native.Nat.{ℕ, zero, suc, _+_, _/_, _%_, min}
 use mathlib.Core.Bool.{Bool, cond, _||_}
@@ -19,7 +19,7 @@ decimalUpTo (suc most) n = cond (ltb n 10) ((48 + n) ∷ []) (decimalUpTo most (
 abbrev pub decimal : ℕ → List ℕ
 decimal n = decimalUpTo 10 n
 
--- "operation (add, sub, mul, fma)", by its number on a sheet: 1 to 4; no other number stands there
+-- "operation (add, sub, mul, fma)", by its number on a sheet, 1 to 4; any other, which stands on no sheet, is written as `fma`
 unfoldable pub stepLetters : ℕ → List ℕ
 stepLetters operation =
     cond (eqb operation 1) (97 ∷ 100 ∷ 100 ∷ [])
@@ -81,12 +81,12 @@ stepsText zero number words = []
 stepsText (suc lines) number words =
     stepText number (getD words 0 0) (getD words 1 0) (getD words 2 0) (getD words 3 0) (getD words 4 0) ++ stepsText lines (suc number) (drop 5 words)
 
--- "A sheet has at most 13 lines"
+-- "A sheet has at most 13 lines": no more are printed
 unfoldable pub answeredText : ℕ → ℕ → ℕ → ℕ → List ℕ → ℕ → Pair → List ℕ
 answeredText number operation x y words lines pair = askText number operation x y ++ (stepsText (min lines 13) 1 words ++ pairText pair)
 
--- ---- a text written at the start of a lent buffer: how many bytes, and the buffer after it. Where the buffer is too short, no byte is written and
--- the answer is 0 (no text is empty).
+-- ---- a text written at the start of a lent buffer: how many bytes, and the buffer after it. Document 01 has no such call: that a buffer too short
+-- for the text stays as it was, and that the answer is then 0, is ours (docs/DECISIONS.md). No text is empty (`NoneEmpty` of Theorems).
 unfoldable pub written : List ℕ → List ℕ → ℕ
 written out text = cond (leb (length text) (length out)) (length text) 0
 

@@ -6,7 +6,7 @@ use mathlib.Core.List.{List, [], _∷_}
 use lib.ListN.{length, getD, take, drop}
 use Rattle.augmented.specs.Direct.{none, I, OX, UX}
 use Rattle.augmented.specs.declared.Pair.{Pair}
-use Rattle.transcript.specs.Texts.{decimal, flagsText, askText, endText, answeredText, written, afterWriting}
+use Rattle.transcript.specs.Texts.{decimal, flagsText, askText, stepText, pairText, badText, totalText, endText, stopText, answeredText, written, afterWriting}
 
 -- the number that decimal digits make, the most significant first
 unfoldable pub fromDigits : ℕ → List ℕ → ℕ
@@ -39,11 +39,18 @@ WrittenWhole =
 abbrev pub AtMost : Type 0
 AtMost = (number operation x y : ℕ) (words : List ℕ) (lines : ℕ) (pair : Pair) → length (answeredText number operation x y words lines pair) ≤ 680
 
--- document 01's printed example, but for its steps
+-- the first and the last line of document 01's printed example; a program prints all of it and is held to that text
 abbrev pub Example : Type 0
 Example =
     (askText 1 1 0x3f80_0001 0x3380_0000 ≡ 97 ∷ 115 ∷ 107 ∷ 9 ∷ 49 ∷ 9 ∷ 115 ∷ 117 ∷ 109 ∷ 9 ∷ 51 ∷ 70 ∷ 56 ∷ 48 ∷ 48 ∷ 48 ∷ 48 ∷ 49 ∷ 9 ∷ 51 ∷ 51 ∷ 56 ∷ 48 ∷ 48 ∷ 48 ∷ 48 ∷ 48 ∷ 10 ∷ [])
     × (endText 1 0 ≡ 101 ∷ 110 ∷ 100 ∷ 9 ∷ 49 ∷ 9 ∷ 48 ∷ 10 ∷ [])
 
+-- no text is empty: an answer of 0 is no length of one
+abbrev pub NoneEmpty : Type 0
+NoneEmpty =
+    (n o x y z r : ℕ) (words : List ℕ) (lines : ℕ) (p : Pair)
+    → (0 < length (askText n o x y)) × (0 < length (stepText n o x y z r)) × (0 < length (pairText p)) × (0 < length (badText n o)) × (0 < length (totalText x y)) × (0 < length (endText n o))
+    × (0 < length stopText) × (0 < length (answeredText n o x y words lines p))
+
 abbrev pub All : Type 0
-All = Decimals × FlagTexts × WrittenWhole × AtMost × Example
+All = Decimals × FlagTexts × WrittenWhole × AtMost × Example × NoneEmpty

@@ -1,0 +1,159 @@
+-- The end of the input: the open line and the last two lines. Assumes nothing.
+use mathlib.Core.Path.{_≡_, refl, sym, ap, _∙_, subst}
+use mathlib.Core.Bool.{true≢false, Bool, true, false, not, cond, _||_}
+use mathlib.Core.List.{List, [], _++_}
+use Prim.Native.Nat.{ℕ, suc, _+_, _-_, _≤_, _<_}
+use native.Mathlib.Nat.{le-trans, le-of-eq}
+use native.Mathlib.Omega.{arith}
+use borrow.Author.Tests.{ne-eqb}
+use borrow.Rule.Slice.PartAt.{part-to-end}
+use lib.Dec.{eqb}
+use lib.ListN.{length, take, drop, length-append, length-drop}
+use Rattle.question.specs.Questions.{reading}
+use Rattle.totals.specs.Totals.{Answer, refused, done, pair}
+use Rattle.totals.specs.Totals.{reading as readTotal}
+use Rattle.transcript.specs.Texts.{totalText, endText, written, afterWriting}
+use Rattle.transcript.proofs.DecimalLaws.{decimal-most}
+use Rattle.transcript.proofs.TextLengths.{counts-length}
+use Rattle.printer.specs.Printed.{Progress, lineText, afterLine, readText, closingText}
+use Rattle.printer.specs.States.{State, lastLine, lastText, closeText}
+use Rattle.printer.specs.Places.{sound, stateOf, Starts, Ends}
+use Rattle.printer.specs.Inner.{Runs, progressOf, LineEnds, LastLine}
+use Rattle.printer.specs.declared.Place.{Place}
+use Rattle.printer.specs.declared.step.Step.{Step}
+use Rattle.printer.proofs.Answered.{line-most}
+use Rattle.printer.proofs.Bytes.{nothing-after-stop}
+use Rattle.printer.proofs.Placed.{going-on}
+use Rattle.printer.proofs.Starting.{nothing, wrote, as-long, after-part}
+use Rattle.printer.proofs.Stepped.{ends-soundly}
+
+-- ---- the total
+pub total-written : (first second : ℕ) (a : Answer) (out : List ℕ) (n : ℕ) (out' : List ℕ) → pair first second ≡ a → 60 ≤ length out → n ≡ written out (totalText first second) → out' ≡ afterWriting out (totalText first second)
+    → (n ≤ 24) × Starts out (readText a) n out'
+unfolding totalText
+total-written first second a out n out' e h w v =
+    let s : Starts out (totalText first second) n out' = wrote out (totalText first second) n out' (omega arith) w v in
+    subst (λ (b : Answer). (n ≤ 24) × Starts out (readText b) n out') e (le-of-eq (s .0), s)
+
+pub no-total : (k : ℕ) (a : Answer) (out : List ℕ) → refused k ≡ a → (0 ≤ 24) × Starts out (readText a) 0 out
+no-total k a out e = subst (λ (b : Answer). (0 ≤ 24) × Starts out (readText b) 0 out) e (omega arith, nothing out)
+
+-- ---- the last two lines
+end-most : (good bad : ℕ) → length (endText good bad) ≤ 26
+unfolding endText
+end-most good bad = omega (arith, counts-length good bad, decimal-most good, decimal-most bad)
+
+read-most : (a : Answer) → length (readText a) ≤ 24
+unfolding totalText
+read-most (pair first second) = omega arith
+read-most done = omega arith
+read-most (refused k) = omega arith
+
+closing-most : (p : Progress) → length (closingText p) ≤ 50
+unfolding closingText
+closing-most p =
+    omega (arith, length-append (readText (readTotal (p .total))) (endText (p .good) (p .lines - p .good)), read-most (readTotal (p .total)), end-most (p .good) (p .lines - p .good))
+
+module _ (p : Progress) (out : List ℕ) (n : ℕ) (out₁ : List ℕ) (first : (n ≤ 24) × Starts out (readText (readTotal (p .total))) n out₁) (room : 60 ≤ length out) where
+  first-long : length out₁ ≡ length out
+  first-long = as-long out (readText (readTotal (p .total))) n out₁ (first .1) (le-trans (le-of-eq (sym (first .1 .0))) (le-trans (first .0) (omega arith)))
+
+  module _ (m : ℕ) (part : List ℕ) (w : m ≡ written (take (length out₁ - n) (drop n out₁)) (endText (p .good) (p .lines - p .good)))
+      (v : part ≡ afterWriting (take (length out₁ - n) (drop n out₁)) (endText (p .good) (p .lines - p .good))) where
+    end-written : Starts (take (length out₁ - n) (drop n out₁)) (endText (p .good) (p .lines - p .good)) m part
+    end-written =
+        let l : length (take (length out₁ - n) (drop n out₁)) ≡ length out₁ - n = ap length (part-to-end out₁ n) ∙ length-drop n out₁ in
+        wrote (take (length out₁ - n) (drop n out₁)) (endText (p .good) (p .lines - p .good)) m part (omega (arith, l, first-long, first .0, end-most (p .good) (p .lines - p .good))) w v
+
+    pub closes-short : n + m ≤ 50
+    closes-short = omega (arith, end-written .0, first .0, end-most (p .good) (p .lines - p .good))
+
+    pub closes : Starts out (closingText p) (n + m) (take n out₁ ++ (part ++ drop (length out₁ - n) (drop n out₁)))
+    unfolding closingText
+    closes = after-part out (readText (readTotal (p .total))) n out₁ (first .1) (endText (p .good) (p .lines - p .good)) m part (omega (arith, first-long, first .0)) end-written
+
+-- ---- the open line
+no-open-line : (s : State) (out : List ℕ) → s .begun ≡ [] → s .progress .good ≤ s .progress .lines → LastLine s out (s .progress) 0 out
+no-open-line s out e h =
+    let b : eqb (length (s .begun)) 0 ≡ true = ap (λ (l : List ℕ). eqb (length l) 0) e in
+    record { progress = rw b; sound = h; text = rw b (nothing out) }
+
+an-open-line : (s : State) (out : List ℕ) (p : Progress) (n : ℕ) (out' : List ℕ) → (length (s .begun) ≡ 0 → ⊥) → p .good ≤ p .lines → p ≡ afterLine (s .progress) (s .begun)
+    → Starts out (lineText (suc (s .progress .lines)) (reading (s .begun))) n out' → LastLine s out p n out'
+an-open-line s out p n out' e h k t =
+    let b : eqb (length (s .begun)) 0 ≡ false = ne-eqb (length (s .begun)) 0 e in
+    record { progress = rw b k; sound = h; text = rw b t }
+
+module _ (p : Place) (line total : List ℕ) (r : Runs p) (out : List ℕ) where
+  pub none-open : p .length ≡ 0 → LastLine (stateOf p line total) out (progressOf p total) 0 out
+  none-open e =
+      subst (λ (s : State). LastLine s out (progressOf p total) 0 out) (sym (going-on p line total r))
+      (no-open-line (record { progress = progressOf p total; begun = take (p .length) line; stopped = false }) out (ap (λ (n : ℕ). take n line) e) (r .good))
+
+  pub one-open : (s : Step) (total' out' : List ℕ) → (p .length ≡ 0 → ⊥) → LineEnds p (take (p .length) line) total total' out s (suc (p .lines)) out' → LastLine (stateOf p line total) out (progressOf (s .place) total') (s .written) out'
+  one-open s total' out' e h =
+      subst (λ (q : State). LastLine q out (progressOf (s .place) total') (s .written) out') (sym (going-on p line total r))
+      (
+      an-open-line (record { progress = progressOf p total; begun = take (p .length) line; stopped = false }) out (progressOf (s .place) total') (s .written) out' (λ z. e (sym (h .whole) ∙ z))
+      (ends-soundly p line total r out s total' out' h .1) (h .progress) (h .text)
+      )
+
+-- ---- the end of the input
+last-most : (s : State) → length (lastText s) ≤ 680
+last-most s = go (eqb (length (s .begun)) 0)
+  where
+    go : (b : Bool) → length (cond b [] (lineText (suc (s .progress .lines)) (reading (s .begun)))) ≤ 680
+    go true = omega arith
+    go false = line-most (suc (s .progress .lines)) (reading (s .begun))
+
+module _ (p : Place) (line total : List ℕ) (out : List ℕ) where
+  pub ends-short : length out < 740 → Ends (stateOf p line total) out 0 total out
+  unfolding stateOf
+  ends-short h = record {
+    text = λ k. absurd (omega (arith, h, k));
+    total = λ k e. absurd (omega (arith, h, k));
+    short = λ k. (refl, refl, refl);
+    stopped = λ e. (refl, refl, refl);
+  }
+
+  pub ends-stopped : p .stopped || not (sound p) ≡ true → Ends (stateOf p line total) out 0 total out
+  unfolding stateOf
+  ends-stopped e = record {
+    text = λ k. subst (λ (t : List ℕ). Starts out t 0 out) (sym (nothing-after-stop (stateOf p line total) [] e .2)) (nothing out);
+    total = λ k f. absurd (true≢false (sym e ∙ f));
+    short = λ k. (refl, refl, refl);
+    stopped = λ f. (refl, refl, refl);
+  }
+
+closed : (s : State) → s .stopped ≡ false → closeText s ≡ lastText s ++ closingText (lastLine s)
+unfolding closeText
+closed s e = rw e
+
+module _ (s : State) (out : List ℕ) (p : Progress) (n : ℕ) (out₁ : List ℕ) (h : LastLine s out p n out₁) (room : 740 ≤ length out) where
+  last-long : (length out₁ ≡ length out) × (n ≤ 680)
+  last-long =
+      let k : n ≤ 680 = le-trans (le-of-eq (h .text .0)) (last-most s) in
+      (as-long out (lastText s) n out₁ (h .text) (le-trans (last-most s) (omega arith)), k)
+
+  pub last-within : n ≤ length out₁
+  last-within = omega (arith, last-long .0, last-long .1)
+
+  pub room-behind : 60 ≤ length (take (length out₁ - n) (drop n out₁))
+  room-behind =
+      let l : length (take (length out₁ - n) (drop n out₁)) ≡ length out₁ - n = ap length (part-to-end out₁ n) ∙ length-drop n out₁ in
+      omega (arith, l, last-long .0, last-long .1)
+
+  pub ends-most : (m : ℕ) (part : List ℕ) → Starts (take (length out₁ - n) (drop n out₁)) (closingText p) m part → n + m ≤ 730
+  ends-most m part t = omega (arith, last-long .1, t .0, closing-most p)
+
+  pub ends : (m : ℕ) (part : List ℕ) → s .stopped ≡ false → Starts (take (length out₁ - n) (drop n out₁)) (closingText p) m part
+      → Ends s out (n + m) (p .total) (take n out₁ ++ (part ++ drop (length out₁ - n) (drop n out₁)))
+  ends m part e t = record {
+    text = λ k. subst (λ (l : List ℕ). Starts out l (n + m) (take n out₁ ++ (part ++ drop (length out₁ - n) (drop n out₁)))) close (after-part out (lastText s) n out₁ (h .text) (closingText p) m part last-within t);
+    total = λ k f. ap (λ (q : Progress). q .total) (h .progress);
+    short = λ k. absurd (omega (arith, room, k));
+    stopped = λ f. absurd (true≢false (sym f ∙ e));
+  }
+    where
+      close : lastText s ++ closingText p ≡ closeText s
+      close = ap (λ (q : Progress). lastText s ++ closingText q) (h .progress) ∙ sym (closed s e)

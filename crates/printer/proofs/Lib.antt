@@ -1,0 +1,11 @@
+pub mod Lines
+pub mod Bytes
+pub mod Totals
+pub mod Theorems
+pub mod Starting
+pub mod Extended
+pub mod Placed
+pub mod Answered
+pub mod Stepped
+pub mod Feeding
+pub mod Closing

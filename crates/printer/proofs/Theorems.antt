@@ -1,0 +1,40 @@
+-- The theorems of `specs/Theorems.antt`. Assumes nothing.
+use mathlib.Core.Path.{_≡_, ap}
+use mathlib.Core.List.{[], _++_}
+use native.Mathlib.Omega.{arith}
+use Rattle.totals.specs.Totals.{Answer, pair, reading}
+use Rattle.totals.specs.Columns.{zeros, column, AllFinite, columnSum}
+use Rattle.totals.proofs.Columns.{exact-column}
+use Rattle.totals.proofs.ReadTotal.{read-zero}
+use Rattle.transcript.specs.Texts.{endText}
+use Rattle.printer.specs.Printed.{linesFrom, afterLines, linesText, readText, closingText, output}
+use Rattle.printer.specs.Theorems.{ByteByByte, AnyReads, NothingAfterStop, NeverRefused, TotalTakesAll, EmptyInput, All}
+use Rattle.printer.proofs.Bytes as bytes
+use Rattle.printer.proofs.Totals as totals
+
+pub byte-by-byte : ByteByByte
+byte-by-byte = bytes.byte-by-byte
+
+pub any-reads : AnyReads
+any-reads = bytes.any-reads
+
+pub nothing-after-stop : NothingAfterStop
+nothing-after-stop = bytes.nothing-after-stop
+
+pub never-refused : NeverRefused
+never-refused = totals.never-refused
+
+pub total-takes-all : TotalTakesAll
+total-takes-all = totals.total-takes-all
+
+-- a cleared total reads two zeros
+cleared : reading zeros ≡ pair 0 0
+unfolding AllFinite column columnSum
+cleared = let c = exact-column [] (omega arith) tt in read-zero zeros (c .4) (c .2)
+
+pub empty-input : EmptyInput
+unfolding output linesFrom linesText afterLines closingText
+empty-input = ap (λ (a : Answer). readText a ++ endText 0 0) cleared
+
+pub all : All
+all = (byte-by-byte, any-reads, nothing-after-stop, never-refused, total-takes-all, empty-input)

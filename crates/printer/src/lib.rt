@@ -1,0 +1,74 @@
+// What the program prints, carried from byte to byte. Nothing is read or written here: the text goes into a lent buffer.
+mod last;
+mod line;
+mod step;
+
+ghost use Rattle.printer.specs.Places.{stateOf, Feeds, Ends, Begins};
+
+// Lines that have ended, good ones among them, bytes of the open line, and whether `stop` was printed.
+pub struct Place {
+    pub lines: u32,
+    pub good: u32,
+    pub length: usize,
+    pub stopped: bool,
+}
+
+pub struct Fed {
+    pub place: Place,
+    pub taken: usize,
+    pub written: usize,
+}
+
+// The state of a run begins with any line and a cleared total.
+pub fn begin() -> Place
+    ensures { λ r. ⌜ Begins r ⌝ }
+{
+    Place {
+        lines: 0,
+        good: 0,
+        length: 0,
+        stopped: false,
+    }
+}
+
+// Bytes are taken as long as there is room for another line's text, so that the caller can write out in large pieces.
+pub fn feed(
+    bytes: &[u8],
+    place: Place,
+    line: &mut [u8; 22],
+    total: &mut [u32],
+    out: &mut [u8],
+) -> Fed
+    ensures { λ r. ⌜ Feeds (now (bytes .entry)) (stateOf place (now (line .entry)) (now (total .entry))) (now (out .entry)) r (stateOf (r .place) (now (line .exit)) (now (total .exit))) (now (out .exit)) ⌝ }
+{
+    let mut here = place;
+    let mut at: usize = 0;
+    let mut used: usize = 0;
+    while at < bytes.len() && step::goes_on(here) && step::has_room(out, used) {
+        let b = bytes[at];
+        let next = step::byte(b, here, line, total, &mut out[used..]);
+        here = next.place;
+        used += next.written;
+        at += 1;
+    }
+    Fed {
+        place: here,
+        taken: at,
+        written: used,
+    }
+}
+
+// The open line, if it has a byte, and the last two lines. Without room for them nothing is done.
+pub fn finish(place: Place, line: &[u8; 22], total: &mut [u32], out: &mut [u8]) -> usize
+    ensures { λ r. ⌜ Ends (stateOf place (now (line .entry)) (now (total .entry))) (now (out .entry)) r (now (total .exit)) (now (out .exit)) ⌝ }
+{
+    if out.len() < 740 {
+        return 0;
+    }
+    if !step::goes_on(place) {
+        return 0;
+    }
+    let here = last::open_line(place, line, total, out);
+    let used = here.written;
+    used + last::closing(here.place, total, &mut out[used..])
+}

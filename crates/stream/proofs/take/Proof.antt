@@ -1,0 +1,90 @@
+use mathlib.Core.Path.{_≡_}
+use Prim.Native.Nat.{_-_, _≤_}
+use lib.ListN.{length}
+use borrow.Author.Needs.{needs}
+use Rattle.stream.proofs.take.Statement.{statement}
+use Rattle.stream.proofs.take.Tie as tie
+use Rattle.stream.proofs.take.Reads as reads
+use Rattle.stream.proofs.take.Lts as lts
+use Rattle.stream.proofs.some.Reads as some-reads
+
+abbrev Inv-loop : tie.InvT-loop
+Inv-loop output bytes line₀ total₀ out₀ here₀ at₀ line total out here at = (at ≤ length bytes) × (length total ≡ length total₀) × (length out ≡ length out₀)
+
+abbrev μ-loop : tie.MeasureT-loop
+μ-loop output bytes line₀ total₀ out₀ here₀ at₀ line total out here at = length bytes - at
+
+loop-holds : tie.Need-loop-holds Inv-loop μ-loop
+loop-holds c = search needs
+
+sub-some : tie.Need-sub-some Inv-loop μ-loop
+sub-some c = search needs
+
+part-some-start : tie.Need-part-some-start Inv-loop μ-loop
+part-some-start c = search needs
+
+part-some-end : tie.Need-part-some-end Inv-loop μ-loop
+part-some-end c = search needs
+
+some-requires : tie.Need-some-requires Inv-loop μ-loop
+some-requires c κs = search needs
+
+same-length : tie.Need-same-length Inv-loop μ-loop
+same-length c = search needs
+
+same-length-2 : tie.Need-same-length-2 Inv-loop μ-loop
+same-length-2 c = search needs
+
+returns : tie.Need-returns Inv-loop μ-loop
+returns c = search needs
+
+add-at : tie.Need-add-at Inv-loop μ-loop
+add-at c = search needs
+
+loop-less : tie.Need-loop-less Inv-loop μ-loop
+loop-less c = search needs
+
+loop-again : tie.Need-loop-again Inv-loop μ-loop
+loop-again c = search needs
+
+same-length-3 : tie.Need-same-length-3 Inv-loop μ-loop
+same-length-3 c = search needs
+
+same-length-4 : tie.Need-same-length-4 Inv-loop μ-loop
+same-length-4 c = search needs
+
+returns-2 : tie.Need-returns-2 Inv-loop μ-loop
+returns-2 c = search needs
+
+same-length-5 : tie.Need-same-length-5 Inv-loop μ-loop
+same-length-5 c = search needs
+
+same-length-6 : tie.Need-same-length-6 Inv-loop μ-loop
+same-length-6 c = search needs
+
+returns-3 : tie.Need-returns-3 Inv-loop μ-loop
+returns-3 c = search needs
+
+pub take-spec : {M : Type 1} → statement M
+take-spec =
+    tie.close
+    (tie.spec
+    Inv-loop
+    μ-loop
+    loop-holds
+    sub-some
+    part-some-start
+    part-some-end
+    some-requires
+    same-length
+    same-length-2
+    returns
+    add-at
+    loop-less
+    loop-again
+    same-length-3
+    same-length-4
+    returns-2
+    same-length-5
+    same-length-6
+    returns-3)

@@ -1,4 +1,4 @@
-//! `compare check`: the comparison tried on itself, then the steps, the pairs and the totals.
+//! `compare check`: the comparison tried on itself, then the steps, the pairs, the totals, filling, lists and the program.
 use crate::pairs::edges::Edges;
 use crate::pairs::{self, cases, OPERATIONS};
 use crate::processor::Processor;
@@ -8,7 +8,7 @@ use crate::subject::Library;
 use crate::totals;
 use crate::totals::columns::SHAPES as COLUMN_SHAPES;
 use crate::workers::SHOWN;
-use crate::{edges, planted, steps};
+use crate::{edges, lists, planted, sheets, steps};
 use std::process::ExitCode;
 use std::time::Instant;
 
@@ -20,6 +20,20 @@ pub struct Options {
     pub pairs: u64,
     /// Random columns of calls on totals, for each shape that has them.
     pub columns: u64,
+    /// Random questions for filling, shared by the shapes.
+    pub fills: u64,
+    /// Random lists of events, for each shape that has them.
+    pub lists: u64,
+    /// Random files of question lines for the program, for each shape that has them.
+    pub files: u64,
+    /// What is run in the place of `target/bin/sheet`.
+    pub program: Option<String>,
+}
+
+impl Options {
+    pub fn sheets(&self) -> sheets::check::Options {
+        sheets::check::Options { seed: self.seed, files: self.files, program: self.program.clone() }
+    }
 }
 
 pub fn run(processor: Processor, options: &Options) -> ExitCode {
@@ -34,6 +48,10 @@ pub fn run(processor: Processor, options: &Options) -> ExitCode {
         println!("the reference for the totals is at fault: {what}");
         return ExitCode::FAILURE;
     }
+    if let Some(what) = sheets::check::distrusted(processor, options.seed) {
+        println!("{what}");
+        return ExitCode::FAILURE;
+    }
     let (step_edges, pair_edges) = (edges::patterns(), Edges::new());
     if !finds_planted(processor, &step_edges, &pair_edges, options.seed) {
         return ExitCode::FAILURE;
@@ -42,7 +60,10 @@ pub fn run(processor: Processor, options: &Options) -> ExitCode {
     let of_steps = timed("questions", || compared_steps(processor, &step_edges, options));
     let of_pairs = timed("questions of pairs", || compared_pairs(processor, &pair_edges, options));
     let of_totals = timed("calls on totals", || compared_totals(options));
-    if of_steps + of_pairs + of_totals == 0 {
+    let of_fills = timed("sheets filled", || lists::check::compared_fills(options.seed, options.fills));
+    let of_lists = timed("events of lists", || lists::check::compared_lists(options.seed, options.lists));
+    let of_sheets = timed("lines for the program", || sheets::check::compared(&options.sheets()));
+    if of_steps + of_pairs + of_totals + of_fills + of_lists + of_sheets == 0 {
         ExitCode::SUCCESS
     } else {
         ExitCode::FAILURE
@@ -57,6 +78,8 @@ fn finds_planted(processor: Processor, step_edges: &[u32], pair_edges: &Edges, s
             pairs::planted::tried(processor, pair_edges, seed),
         ),
         ("totals, by a shape of columns", totals::planted::tried(seed)),
+        ("filling and in lists, by a shape of questions or lists", lists::check::tried(seed)),
+        ("the program, by a shape of files", sheets::check::tried(seed)),
     ];
     for (place, result) in &tried {
         match result {

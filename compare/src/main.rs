@@ -1,8 +1,10 @@
-//! `compare check` compares the library with its references, `bench` times it, `step`, `pair` and `total` ask it one question.
+//! `compare check` compares the library and the program with their references, `bench` and `sheets-bench` time them, `step`,
+//! `pair` and `total` ask the library one question.
 mod bench;
 mod check;
 mod edges;
 mod fused;
+mod lists;
 mod pairs;
 mod pattern;
 mod planted;
@@ -10,6 +12,7 @@ mod processor;
 mod products;
 mod questions;
 mod random;
+mod sheets;
 mod software;
 mod step;
 mod steps;
@@ -26,15 +29,24 @@ use std::process::ExitCode;
 use step::{Question, Step, STEPS};
 use subject::{Library, Subject};
 
-const USAGE: &str = "usage: compare check [--seed N] [--count N] [--pairs N] [--columns N] | compare bench [--seed N]
+const USAGE: &str = "usage: compare check [OPTION N]... | compare sheets [OPTION N]... | compare lists [OPTION N]...
+     | compare bench [--seed N] | compare sheets-bench [--seed N] [--program WORDS]
      | compare step STEP PATTERN PATTERN [PATTERN] | compare pair OPERATION PATTERN PATTERN | compare total TERM...
+     | compare sheets-model | compare peer | compare sheets-input SHAPE NUMBER [--seed N]
+    check       all comparisons; sheets: that of the program `sheet` alone; lists: those of filling and of lists alone
+    sheets-model, peer   answer question lines of standard input as `sheet` does: by the model, on the processor's floats
+    sheets-input         prints a file of question lines that a difference names
     STEP        add, sub, mul or fma, which takes three patterns; a pattern is eight upper-case hexadecimal digits
     OPERATION   sum, dif or mul
     TERM        a pattern, or two with * between, whose product is added
     --seed N    the seed of the random questions (default 1)
     --count N   random questions a step, shared by the shapes (default 24000000)
     --pairs N   random questions an operation of the pairs, shared by the shapes (default 16800000)
-    --columns N random columns of calls on totals, for each shape that has them (default 20000)";
+    --columns N random columns of calls on totals, for each shape that has them (default 20000)
+    --fills N   random questions for filling, shared by the shapes (default 2400000)
+    --lists N   random lists of questions, for each shape that has them (default 400)
+    --files N   random files of question lines for the program, for each shape that has them (default 60)
+    --program WORDS   what is run in the place of target/bin/sheet: a path and arguments, with spaces between";
 
 fn main() -> ExitCode {
     let words: Vec<String> = std::env::args().skip(1).collect();
@@ -45,6 +57,10 @@ fn main() -> ExitCode {
         "step" => one_step(rest),
         "pair" => one_pair(rest),
         "total" => one_total(rest),
+        "peer" if rest.is_empty() => return sheets::peer::run(),
+        "sheets-model" if rest.is_empty() => return sheets::check::of_input(),
+        "sheets-input" => return sheets::check::input(rest).unwrap_or_else(wrong_usage),
+        "impostor" if rest.len() == 1 => return sheets::impostor::run(&rest[0]).unwrap_or_else(wrong_usage),
         _ => return measured_or_compared(command, rest),
     };
     let Some(answer) = answered else {
@@ -65,6 +81,9 @@ fn measured_or_compared(command: &str, words: &[String]) -> ExitCode {
     }
     match command {
         "check" => check::run(processor, &options),
+        "sheets-bench" => sheets::bench::run(options.seed, options.program.as_deref()),
+        "lists" => lists::check::run(options.seed, options.fills, options.lists),
+        "sheets" => sheets::check::run(processor, &options.sheets()),
         "bench" => benches(processor, options.seed),
         _ => wrong_usage(),
     }
@@ -129,15 +148,31 @@ fn one_total(words: &[String]) -> Option<String> {
 }
 
 fn options(words: &[String]) -> Option<Options> {
-    let mut options = Options { seed: 1, count: 24_000_000, pairs: 16_800_000, columns: 20_000 };
+    let mut options = Options {
+        seed: 1,
+        count: 24_000_000,
+        pairs: 16_800_000,
+        columns: 20_000,
+        fills: 2_400_000,
+        lists: 400,
+        files: 60,
+        program: None,
+    };
     for pair in words.chunks(2) {
         let [name, value] = pair else { return None };
+        if name == "--program" {
+            options.program = Some(value.clone());
+            continue;
+        }
         let value = value.parse().ok()?;
         match name.as_str() {
             "--seed" => options.seed = value,
             "--count" => options.count = value,
             "--pairs" => options.pairs = value,
             "--columns" => options.columns = value,
+            "--fills" => options.fills = value,
+            "--lists" => options.lists = value,
+            "--files" => options.files = value,
             _ => return None,
         }
     }

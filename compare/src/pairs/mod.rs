@@ -4,14 +4,14 @@ pub mod bench;
 pub mod cases;
 pub mod compare;
 pub mod edges;
+pub mod model;
+pub mod number;
+pub mod pair;
 pub mod planted;
 pub mod questions;
 pub mod subject;
 
 mod below_power;
-mod model;
-mod number;
-mod pair;
 mod tiny;
 
 pub use pair::OPERATIONS;

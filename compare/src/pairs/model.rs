@@ -92,7 +92,7 @@ fn nearest(exact: &Number) -> u32 {
 }
 
 /// By halving, as the patterns without sign rise with what they stand for.
-fn largest_not_above(t: &Magnitude) -> u32 {
+pub fn largest_not_above(t: &Magnitude) -> u32 {
     let (mut low, mut high) = (0, INFINITY);
     // What `low` stands for is not above t; what `high` stands for is, unless it is infinite.
     while high - low > 1 {

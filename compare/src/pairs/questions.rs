@@ -50,7 +50,7 @@ pub fn shapes(operation: Operation) -> &'static [Shape] {
     }
 }
 
-fn question(operation: Operation, shape: Shape, r: &mut Random) -> Question {
+pub fn question(operation: Operation, shape: Shape, r: &mut Random) -> Question {
     match operation {
         Operation::Sum => sum(shape, r),
         Operation::Difference => turned(sum(shape, r)),

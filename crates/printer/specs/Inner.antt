@@ -37,6 +37,7 @@ pub record Steps (s : State) (b : ℕ) (out : List ℕ) (r : Step) (after : Stat
 
 -- the open line, whose bytes these are, is ended
 pub record LineEnds (p : Place) (begun total total' out : List ℕ) (r : Step) (number : ℕ) (out' : List ℕ) : Type 0 where
+  -- all of its bytes are there
   pub whole : size begun ≡ p .length
   pub progress : progressOf (r .place) total' ≡ afterLine (progressOf p total) begun
   pub length : r .place .length ≡ 0

@@ -65,13 +65,11 @@ fn stopped(place: Place, out: &mut [u8]) -> Step
     ensures { λ r. ⌜ (r .place ≡ record { lines = place .lines; good = place .good; length = 0; stopped = true }) × Starts (now (out .entry)) stopText (r .written) (now (out .exit)) ⌝ }
 {
     let written = transcript::stop(out);
+    let mut last = place;
+    last.length = 0;
+    last.stopped = true;
     Step {
-        place: Place {
-            lines: place.lines,
-            good: place.good,
-            length: 0,
-            stopped: true,
-        },
+        place: last,
         written,
     }
 }

@@ -21,6 +21,6 @@ module _ (out out' : List ℕ) (same : length out' ≡ length out) where
   pub end-within : (s : State) (n : ℕ) (total : List ℕ) → Ends s out n total out' → n ≤ length out'
   end-within s n total f =
       elim (decLe lastRoom (length out)) [
-        yes h ↦ starts-within out (closeText s) n out' (f .text h) same
-      | no h ↦ omega (arith, f .short (omega arith) .0)
+        | yes h ↦ starts-within out (closeText s) n out' (f .text h) same
+        | no h ↦ omega (arith, f .short (omega arith) .0)
       ]

@@ -29,7 +29,15 @@ pub fn run(input: i32, output: i32) {
     };
     let mut reads = u64::MAX;
     while reads > 0 && here.reading {
-        here = read_once(input, output, here.place, &mut bytes, &mut line, &mut total, &mut out);
+        here = read_once(
+            input,
+            output,
+            here.place,
+            &mut bytes,
+            &mut line,
+            &mut total,
+            &mut out,
+        );
         reads -= 1;
     }
     if here.whole {
@@ -38,7 +46,15 @@ pub fn run(input: i32, output: i32) {
 }
 
 // After a read that failed nothing is closed: a text without its last lines is not taken for a whole one.
-fn read_once(input: i32, output: i32, place: Place, bytes: &mut [u8], line: &mut [u8; 22], total: &mut [u32], out: &mut [u8]) -> Turn {
+fn read_once(
+    input: i32,
+    output: i32,
+    place: Place,
+    bytes: &mut [u8],
+    line: &mut [u8; 22],
+    total: &mut [u32],
+    out: &mut [u8],
+) -> Turn {
     let got = libc::read(input, bytes);
     if got <= 0 {
         return Turn {
@@ -52,7 +68,14 @@ fn read_once(input: i32, output: i32, place: Place, bytes: &mut [u8], line: &mut
 }
 
 // Takes all the bytes. What they print is written whenever the buffer is full, and at the last byte.
-fn take(output: i32, bytes: &[u8], place: Place, line: &mut [u8; 22], total: &mut [u32], out: &mut [u8]) -> Turn {
+fn take(
+    output: i32,
+    bytes: &[u8],
+    place: Place,
+    line: &mut [u8; 22],
+    total: &mut [u32],
+    out: &mut [u8],
+) -> Turn {
     let mut here = Turn {
         place,
         reading: true,
@@ -72,7 +95,14 @@ fn take(output: i32, bytes: &[u8], place: Place, line: &mut [u8; 22], total: &mu
 }
 
 // One fill of the buffer. A write that fails ends the run at once, and so does `stop`.
-fn some(output: i32, bytes: &[u8], place: Place, line: &mut [u8; 22], total: &mut [u32], out: &mut [u8]) -> Moved
+fn some(
+    output: i32,
+    bytes: &[u8],
+    place: Place,
+    line: &mut [u8; 22],
+    total: &mut [u32],
+    out: &mut [u8],
+) -> Moved
     ensures { λ r. ⌜ r .taken ≤ length (now (bytes .entry)) ⌝ }
 {
     let fed = printer::feed(bytes, place, line, total, out);

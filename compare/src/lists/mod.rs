@@ -1,0 +1,11 @@
+//! Filled sheets and lists of questions: what is asked, what answers, and what document 01 claims of a whole list.
+pub mod check;
+
+mod book;
+mod events;
+mod fills;
+mod model;
+mod planted;
+mod replays;
+mod subject;
+mod trial;

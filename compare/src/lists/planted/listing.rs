@@ -1,0 +1,149 @@
+//! Faults in lists: in what enters, in what the totals are given, and in what a replay refuses.
+use crate::lists::book::enters;
+use crate::lists::events::Shape;
+use crate::lists::model::Sheet;
+use crate::lists::subject::{enter, Arrays, Lents, Question, Subject, TESTED};
+use crate::lists::trial::Source;
+use crate::pattern::{is_finite, SIGN};
+use crate::totals::subject::{add_pattern, Lent};
+
+#[derive(Clone, Copy, PartialEq, Debug)]
+pub enum Fault {
+    RefusedEnters,
+    InexactEnters,
+    OneOfTheOther,
+    FirstAlone,
+    YNotFlipped,
+    ProductAsTwo,
+    LastLost,
+    NoFillPast65,
+    ReplayTakesUnequal,
+    ReplayTakesMore,
+    ReplayTakesFewer,
+    ReplayTakesUncleared,
+    ReplayTakesLong,
+    ReplayOrder,
+    ReplayRefusalWrites,
+}
+
+const EVENTS: Source = Source::Events(Shape::Random);
+const CALL: Source = Source::Replayed(Shape::Random);
+
+pub const FAULTS: [(Fault, Source, &str); 24] = [
+    (Fault::RefusedEnters, Source::Events(Shape::Refused), "a refused question added"),
+    (Fault::RefusedEnters, Source::Replayed(Shape::Refused), "a refused question added"),
+    (Fault::InexactEnters, Source::Events(Shape::Tiny), "a product with X added"),
+    (Fault::InexactEnters, Source::Replayed(Shape::Tiny), "a product with X added"),
+    (Fault::OneOfTheOther, EVENTS, "one total given the other's terms"),
+    (Fault::OneOfTheOther, CALL, "one total given the other's terms"),
+    (Fault::FirstAlone, EVENTS, "the foot's first alone"),
+    (Fault::FirstAlone, CALL, "the foot's first alone"),
+    (Fault::YNotFlipped, EVENTS, "a difference's y not flipped"),
+    (Fault::YNotFlipped, CALL, "a difference's y not flipped"),
+    (Fault::ProductAsTwo, EVENTS, "a product's pair in place of the product"),
+    (Fault::ProductAsTwo, CALL, "a product's pair in place of the product"),
+    (Fault::LastLost, Source::Events(Shape::Cancelling), "a question lost"),
+    (Fault::LastLost, Source::Replayed(Shape::Cancelling), "a question lost"),
+    (Fault::LastLost, Source::Replayed(Shape::Long), "a question lost"),
+    (Fault::NoFillPast65, CALL, "sheets not filled"),
+    (Fault::ReplayTakesUnequal, Source::RefusedReplays, "unequal arrays taken"),
+    (Fault::ReplayTakesMore, Source::RefusedReplays, "32,769 questions taken"),
+    (Fault::ReplayTakesFewer, Source::Replayed(Shape::Long), "32,768 questions refused"),
+    (Fault::ReplayTakesUncleared, Source::RefusedReplays, "a total that is not cleared taken"),
+    (Fault::ReplayTakesLong, Source::RefusedReplays, "a count above the words taken"),
+    (Fault::ReplayOrder, Source::RefusedReplays, "24 before 23"),
+    (Fault::ReplayRefusalWrites, Source::RefusedReplays, "a refused replay that writes"),
+    (Fault::InexactEnters, Source::Replayed(Shape::Random), "a product with X added"),
+];
+
+impl Fault {
+    /// What a wrong caller or replay gives the totals.
+    fn give(self, q: Question, sheet: &Sheet, first: &mut [u32], second: &mut [u32]) -> u32 {
+        let entering = match self {
+            Fault::RefusedEnters => sheet.refusal != 0 && is_finite(q.x) && is_finite(q.y) || enters(sheet),
+            Fault::InexactEnters => sheet.refusal == 0 && is_finite(sheet.first),
+            Fault::LastLost if first.last() > Some(&0) && sheet.first & 7 == 5 => false,
+            _ => enters(sheet),
+        };
+        if !entering {
+            return 0;
+        }
+        match self {
+            Fault::OneOfTheOther => enter(q, sheet, second, first),
+            Fault::FirstAlone => {
+                let refusal = add_pattern(first, sheet.first);
+                enter(q, sheet, &mut [0; 21], second) | refusal
+            }
+            Fault::YNotFlipped if q.operation == 2 => {
+                enter(Question { y: q.y ^ SIGN, ..q }, sheet, first, second)
+            }
+            Fault::ProductAsTwo if q.operation == 3 => {
+                enter(Question { operation: 1, x: sheet.first, y: sheet.second, ..q }, sheet, first, second)
+            }
+            Fault::RefusedEnters if sheet.refusal != 0 => {
+                enter(q, sheet, first, second) | add_pattern(second, q.x)
+            }
+            _ => enter(q, sheet, first, second),
+        }
+    }
+
+    fn replay(self, arrays: &Arrays, lents: &mut Lents) -> u32 {
+        let count = arrays.operations.len();
+        let uncleared = lents.first.words() != [0; 21] || lents.second.words() != [0; 21];
+        let long = arrays.counts.iter().any(|&count| count as usize > lents.words.words().len());
+        match self {
+            Fault::ReplayTakesFewer if count == 32_768 => return 22,
+            Fault::ReplayTakesUnequal if !arrays.are_equal() => return 0,
+            Fault::ReplayTakesMore if arrays.are_equal() && count > 32_768 => return 0,
+            Fault::ReplayTakesUncleared if arrays.are_equal() && uncleared => return 0,
+            Fault::ReplayTakesLong if arrays.are_equal() && long => return 0,
+            Fault::ReplayOrder if arrays.are_equal() && count <= 32_768 && long => return 24,
+            _ => {}
+        }
+        self.given(arrays, lents)
+    }
+
+    /// A refused call, or the questions one after the other as the fault has it.
+    fn given(self, arrays: &Arrays, lents: &mut Lents) -> u32 {
+        let mut tried = Lents {
+            words: Lent::new(lents.words.words()),
+            first: Lent::new(lents.first.words()),
+            second: Lent::new(lents.second.words()),
+        };
+        let refusal = TESTED.replay(arrays, &mut tried);
+        if refusal != 0 {
+            if self == Fault::ReplayRefusalWrites {
+                lents.words.words_mut().iter_mut().take(1).for_each(|word| *word = 0);
+            }
+            return refusal;
+        }
+        for i in 0..arrays.operations.len() {
+            let q = arrays.question(i);
+            let mut lent = Lent::new(&lents.words.words()[..q.lent as usize]);
+            let sheet = TESTED.fill(q.operation, q.x, q.y, &mut lent);
+            if self != Fault::NoFillPast65 {
+                lents.words.words_mut()[..q.lent as usize].copy_from_slice(lent.words());
+            }
+            self.give(q, &sheet, lents.first.words_mut(), lents.second.words_mut());
+        }
+        0
+    }
+}
+
+/// What is tested, with one fault in lists.
+pub struct Planted(pub Fault);
+
+impl Subject for Planted {
+    fn fill(&self, operation: u32, x: u32, y: u32, lent: &mut Lent) -> Sheet {
+        TESTED.fill(operation, x, y, lent)
+    }
+
+    fn replay(&self, arrays: &Arrays, lents: &mut Lents) -> u32 {
+        self.0.replay(arrays, lents)
+    }
+
+    fn give(&self, q: Question, sheet: &Sheet, totals: &mut [Lent; 2]) -> u32 {
+        let [first, second] = totals;
+        self.0.give(q, sheet, first.words_mut(), second.words_mut())
+    }
+}

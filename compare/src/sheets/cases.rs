@@ -1,0 +1,73 @@
+//! What the model has to give before it counts as a reference: document 01's example and cases, and the steps of
+//! the processor; and the table of branches has to have every way that questions take.
+use super::files::branches;
+use super::{model, steps};
+use crate::processor::Processor;
+use crate::questions::{question, SHAPES};
+use crate::random::Random;
+use crate::step::{Question, Step, STEPS};
+
+const QUESTION: &str = "sum\t3F800001\t33800000\n";
+
+const ANSWER: &str = "ask\t1\tsum\t3F800001\t33800000
+step\t1\tadd\t3F800001\t33800000\t-\t3F800002
+step\t2\tsub\t3F800002\t3F800001\t-\t34000000
+step\t3\tsub\t33800000\t34000000\t-\tB3800000
+step\t4\tmul\t3F7FFFFF\t3F800002\t-\t3F800001
+step\t5\tsub\t3F800001\t3F800002\t-\tB4000000
+step\t6\tmul\t40000000\tB3800000\t-\tB4000000
+pair\t3F800001\t33800000\t-
+total\t3F800001\t33800000
+end\t1\t0
+";
+
+const EMPTY: &str = "total\t00000000\t00000000\nend\t0\t0\n";
+
+/// Questions with the `pair` line that document 01 lists.
+const CASES: [(&str, &str); 11] = [
+    ("sum\t3F800000\t33800000", "3F800000\t33800000\t-"),
+    ("sum\t7F7FFFFF\t73000000", "7F7FFFFF\t73000000\t-"),
+    ("sum\t7F7FFFFF\t73000001", "7F800000\t7F800000\tOX"),
+    ("sum\t80000000\t80000000", "80000000\t80000000\t-"),
+    ("sum\tBF800000\t3F800000", "00000000\t00000000\t-"),
+    ("sum\t7F800000\tFF800000", "7FC00000\t7FC00000\tI"),
+    ("mul\t41F80000\t7D042108", "7F7FFFFF\t73000000\t-"),
+    ("mul\t00000003\t3F000000", "00000001\t00000000\tUX"),
+    ("mul\t80000001\t3F000000", "80000000\t80000000\tUX"),
+    ("mul\t3F800001\t00800001", "00800002\t00000000\tUX"),
+    ("mul\t3F800001\t3F800001", "3F800002\t28800000\t-"),
+];
+
+/// The first thing that the model does not give.
+pub fn distrusted(processor: Processor, seed: u64) -> Option<String> {
+    let texts = [("the example", QUESTION, ANSWER), ("empty input", "", EMPTY)];
+    let text = texts.iter().find(|(_, input, right)| model::printed(input.as_bytes()) != *right);
+    text.map(|text| text.0.to_string()).or_else(wrong_pair).or_else(|| wrong_step(processor, seed)).or_else(
+        || branches::missing(seed, WAYS).map(|asked| format!("a way without a row: {}", asked.shown())),
+    )
+}
+
+fn wrong_pair() -> Option<String> {
+    let wrong = |(question, pair): &&(&str, &str)| {
+        let printed = model::printed(question.as_bytes());
+        printed.lines().find_map(|line| line.strip_prefix("pair\t")) != Some(*pair)
+    };
+    CASES.iter().find(wrong).map(|case| case.0.to_string())
+}
+
+/// Random questions a step and shape, and random questions for ways.
+const QUESTIONS: u64 = 20_000;
+const WAYS: u64 = 300_000;
+
+fn wrong_step(processor: Processor, seed: u64) -> Option<String> {
+    let wrong = |step: Step, q: Question| {
+        let (model, right) = (steps::answer(step, q), processor.answer(step, q));
+        (model != right).then(|| format!("{} {}: {model:08X}, not {right:08X}", step.name(), q.shown(step)))
+    };
+    STEPS.into_iter().find_map(|step| {
+        SHAPES.into_iter().find_map(|shape| {
+            let mut r = Random::stream(seed, &[511, step as u64, shape as u64]);
+            (0..QUESTIONS).find_map(|_| wrong(step, question(step, shape, &mut r)))
+        })
+    })
+}

@@ -1,0 +1,97 @@
+//! The reference for a sheet's steps: exact numbers, rounded to the nearest pattern, a tie to the even last bit.
+//!
+//! It has the exact numbers and the search of the pairs' model, and nothing of the processor's floats.
+use crate::pairs::model::largest_not_above;
+use crate::pairs::number::{Magnitude, Number, ONE};
+use crate::pattern::{is_finite, is_nan, magnitude, INFINITY, LARGEST, NAN, SIGN};
+use crate::step::{Question, Step};
+use std::cmp::Ordering;
+
+pub fn answer(step: Step, q: Question) -> u32 {
+    match step {
+        Step::Add => add(q.x, q.y),
+        Step::Sub => add(q.x, q.y ^ SIGN),
+        Step::Mul => mul(q.x, q.y),
+        Step::Fma => fma(q.x, q.y, q.z),
+    }
+}
+
+fn add(x: u32, y: u32) -> u32 {
+    if is_nan(x) || is_nan(y) {
+        return NAN;
+    }
+    match (is_finite(x), is_finite(y)) {
+        (true, true) => rounded(&Number::of(x).sum(&Number::of(y)), x & y & SIGN),
+        (true, false) => y,
+        (false, true) => x,
+        (false, false) => same_infinity(x, y),
+    }
+}
+
+fn mul(x: u32, y: u32) -> u32 {
+    if let Some(special) = special_product(x, y) {
+        return special;
+    }
+    rounded(&Number::product(x, y), (x ^ y) & SIGN)
+}
+
+/// One rounding of the product plus the third operand.
+fn fma(x: u32, y: u32, z: u32) -> u32 {
+    let product = special_product(x, y);
+    if is_nan(z) || product == Some(NAN) {
+        return NAN;
+    }
+    match (product, is_finite(z)) {
+        (None, true) => rounded(&Number::product(x, y).sum(&Number::of(z)), (x ^ y) & z & SIGN),
+        (None, false) => z,
+        (Some(infinity), true) => infinity,
+        (Some(infinity), false) => same_infinity(infinity, z),
+    }
+}
+
+/// The NaN or infinity that a product is, unless both factors are finite.
+fn special_product(x: u32, y: u32) -> Option<u32> {
+    if is_nan(x) || is_nan(y) {
+        return Some(NAN);
+    }
+    if is_finite(x) && is_finite(y) {
+        return None;
+    }
+    let invalid = magnitude(x) == 0 || magnitude(y) == 0;
+    Some(if invalid { NAN } else { (x ^ y) & SIGN | INFINITY })
+}
+
+fn same_infinity(x: u32, y: u32) -> u32 {
+    if x == y {
+        x
+    } else {
+        NAN
+    }
+}
+
+/// An exact zero has the sign that the caller says; what is rounded to zero keeps its own.
+fn rounded(exact: &Number, sign_of_zero: u32) -> u32 {
+    if exact.magnitude == Magnitude::ZERO {
+        return sign_of_zero;
+    }
+    let sign = if exact.negative { SIGN } else { 0 };
+    sign | nearest(&exact.magnitude)
+}
+
+/// RNe: 2^128 - 2^103 itself is infinite.
+fn nearest(t: &Magnitude) -> u32 {
+    if *t >= Magnitude::at((1 << 25) - 1, ONE + 103) {
+        return INFINITY;
+    }
+    let below = largest_not_above(t);
+    if below == LARGEST {
+        return LARGEST;
+    }
+    let from_below = t.minus(&Number::of(below).magnitude);
+    let to_above = Number::of(below + 1).magnitude.minus(t);
+    match from_below.cmp(&to_above) {
+        Ordering::Less => below,
+        Ordering::Greater => below + 1,
+        Ordering::Equal => below + (below & 1),
+    }
+}

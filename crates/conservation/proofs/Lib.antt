@@ -4,5 +4,6 @@ pub mod Conservation
 pub mod Events
 pub mod Misfits
 pub mod Settled
+pub mod Refusals
 pub mod Theorems
 pub mod Outcome

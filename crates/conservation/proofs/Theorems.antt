@@ -24,9 +24,10 @@ use Rattle.totals.proofs.Columns.{cleared-is}
 use Rattle.totals.proofs.ReadTotal.{read-fit}
 use Rattle.conservation.specs.Lists.{Question, answer, operation, direct, finitePair, enters, oneSum, oneProduct, Totals, Event, asks, reads, adds, run, book, questions, enteringSums, enteringProducts}
 use Rattle.conservation.specs.Replay.{eventsOf, totalsAfter}
-use Rattle.conservation.specs.Theorems.{Allowed, Met, cleared, Holds, Conserved, EntersExactly, Replayed, All}
+use Rattle.conservation.specs.Theorems.{Allowed, Met, cleared, Holds, Conserved, EntersExactly, Replayed, ReplayRefused, ReplayUnchanged, All}
 use Rattle.conservation.proofs.Operands.{both}
 use Rattle.conservation.proofs.Entering.{not-true}
+use Rattle.conservation.proofs.Refusals as refusals
 use Rattle.conservation.proofs.Conservation.{holding, firstTerms, otherTerms, kept}
 use Rattle.conservation.proofs.Events.{questions-of, allowed-of}
 use Rattle.conservation.proofs.Misfits.{cleared-already, fits}
@@ -136,5 +137,11 @@ replayed os xs ys counts words first second v w e =
       n,
     )
 
+pub replay-refused : ReplayRefused
+replay-refused = refusals.replay-refused
+
+pub replay-unchanged : ReplayUnchanged
+replay-unchanged = refusals.replay-unchanged
+
 pub all : All
-all = (conserved, enters-exactly, replayed)
+all = (conserved, enters-exactly, replayed, replay-refused, replay-unchanged)

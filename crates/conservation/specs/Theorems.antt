@@ -2,10 +2,10 @@
 -- What demand 3 says of one sheet, its lines, line count, foot and flags, stands in emulation's Theorems (`EachLine` to `FilledPair`).
 use Prim.Native.Nat.{ℕ, _+_, _*_, _^_, _≤_, _<_}
 use mathlib.Core.Path.{_≡_}
-use mathlib.Core.Logic.{_⊎_, _↔_}
+use mathlib.Core.Logic.{_⊎_, _≢_, _↔_}
 use mathlib.Core.Bool.{true, false}
 use mathlib.Core.List.{List, [], _∷_}
-use lib.ListN.{length, take}
+use lib.ListN.{length, take, getD, replicate}
 use Rattle.rounding.specs.Format.{binary32}
 use Rattle.rounding.specs.Value.{decode, isFinite}
 use Rattle.augmented.specs.Pairs.{pairOf}
@@ -13,7 +13,7 @@ use Rattle.totals.specs.Totals.{number, count, totalOf, finiteOperands, refused
 use Rattle.totals.specs.Columns.{Accepted}
 use Rattle.words.specs.Words.{Words}
 use Rattle.conservation.specs.Lists.{Question, answer, operation, direct, enters, footTerms, setTerms, Totals, totalOn, Event, asks, reads, adds, after, run, book, questions, enteringSums, enteringProducts}
-use Rattle.conservation.specs.Replay.{eventsOf, Answer, refused, done, replaying, totalsAfter}
+use Rattle.conservation.specs.Replay.{eventsOf, Answer, refused, done, replaying, totalsAfter, wordsLeft}
 
 -- ---- which lists: questions on patterns, readings, "and adding calls with an infinite or NaN operand (7) or to a total whose count is 65,536 (8)"
 abbrev pub AllowedNow : Totals → Event → Type 0
@@ -82,10 +82,27 @@ Replayed =
     → let es = eventsOf operations xs ys counts words in
     Holds (totalsAfter operations xs ys counts words first second) es × Met (record { first = first; other = second }) es × (questions es ≡ length operations)
 
+-- its refusals, "in the order written" in Replay.antt: 21 to 24, and no other
+abbrev pub ReplayRefused : Type 0
+ReplayRefused =
+    (operations xs ys counts words first second : List ℕ) → let n = length operations in let answer = replaying operations xs ys counts words first second in
+    ((length xs ≢ n) ⊎ (length ys ≢ n) ⊎ (length counts ≢ n) → answer ≡ refused 21)
+    × (length xs ≡ n → length ys ≡ n → length counts ≡ n
+    → (32768 < n → answer ≡ refused 22)
+    × (n ≤ 32768 → (first ≢ replicate 21 0) ⊎ (second ≢ replicate 21 0) → answer ≡ refused 23)
+    × (n ≤ 32768 → first ≡ replicate 21 0 → second ≡ replicate 21 0
+    → ((i : ℕ) → length words < getD counts i 0 → answer ≡ refused 24) × (((i : ℕ) → getD counts i 0 ≤ length words) → answer ≡ done)))
+
+-- a refusal leaves the totals and the words as they were
+abbrev pub ReplayUnchanged : Type 0
+ReplayUnchanged =
+    (operations xs ys counts words first second : List ℕ) (m : ℕ) → replaying operations xs ys counts words first second ≡ refused m
+    → (totalsAfter operations xs ys counts words first second ≡ record { first = first; other = second }) × (wordsLeft operations xs ys counts words first second ≡ words)
+
 -- what the call's contract says of its answer, the totals that it was lent and left, and its questions: the claim, where it was carried out
 abbrev pub Conserves : Answer → Totals → Totals → List Event → Type 0
 Conserves (refused n) start t es = Unit {0}
 Conserves done start t es = Holds t es × Met start es
 
 abbrev pub All : Type 0
-All = Conserved × EntersExactly × Replayed
+All = Conserved × EntersExactly × Replayed × ReplayRefused × ReplayUnchanged

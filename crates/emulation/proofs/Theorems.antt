@@ -15,7 +15,7 @@ use Rattle.augmented.specs.Direct.{sum, difference, product}
 use Rattle.emulation.specs.Constants.{psi, two, half, kappa, twoTo24, twoTo48, twoToMinus24, plusZero, smallest, twoTo127, twoTo102, twoToMinus102, twoToMinus126}
 use Rattle.emulation.specs.Lines.{Line, line, add, value, minus, equal, zero}
 use Rattle.emulation.specs.Sheets.{sumInOrder, swaps, sumSheet, productSheet, sheetOf}
-use Rattle.emulation.specs.Theorems.{patternOf, ConstantPatterns, EachLine, Derived, FirstLine, operations, sumOperations, ProductOperations, InOrder, AtMost13, FootIsPair, FillingRefused, SheetFilled, FilledPair, All}
+use Rattle.emulation.specs.Theorems.{patternOf, ConstantPatterns, EachLine, Derived, FirstLine, operations, sumOperations, ProductOperations, InOrder, AtMost13, FootIsPair, OperationNumbers, FillingRefused, SheetFilled, FilledPair, All}
 use Rattle.emulation.proofs.Patterns.{Pattern, pattern-of}
 use Rattle.emulation.proofs.EachLine as lines
 use Rattle.emulation.proofs.Derived as derivation
@@ -135,6 +135,9 @@ pub foot-is-pair : FootIsPair
 foot-is-pair = feet.foot-is-pair
 
 -- ---- filling
+pub operation-numbers : OperationNumbers
+operation-numbers = (refl, refl, refl, refl, refl, refl)
+
 pub filling-refused : FillingRefused
 filling-refused = answers.filling-refused
 
@@ -145,4 +148,4 @@ pub filled-pair : FilledPair
 filled-pair = answers.filled-pair
 
 pub all : All
-all = (constant-patterns, each-line, derived, first-line, in-order, at-most-13, foot-is-pair, filling-refused, sheet-filled, filled-pair)
+all = (constant-patterns, each-line, derived, first-line, in-order, at-most-13, foot-is-pair, operation-numbers, filling-refused, sheet-filled, filled-pair)

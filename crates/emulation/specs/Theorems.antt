@@ -13,7 +13,7 @@ use Rattle.errorfree.specs.Comparisons.{lessMagnitude}
 use Rattle.emulation.specs.Constants.{psi, two, minusTwo, half, kappa, twoTo24, twoTo48, twoToMinus24, plusZero, smallest, twoTo127, twoTo102, twoToMinus102, twoToMinus126}
 use Rattle.emulation.specs.Lines.{Step, add, subtract, multiply, fused, number, Line, line, value, minus, equal, zero}
 use Rattle.emulation.specs.Sheets.{sheetOf}
-use Rattle.emulation.specs.Filling.{operationNumber, refused, filled, filling, afterFilling, HasDirectPair}
+use Rattle.emulation.specs.Filling.{operationNumber, operationOf, refused, filled, filling, afterFilling, HasDirectPair}
 
 -- ---- the constants: each is the pattern of its number. Magnitudes count u = 2^-149, so 1 is 2 ^ 149 of them.
 abbrev pub patternOf : ℕ → ℕ
@@ -120,6 +120,11 @@ abbrev pub FootIsPair : Type 0
 FootIsPair = (o : Operation) (x y : ℕ) → (sheetOf o x y .first ≡ directPair o binary32 x y .first) × (sheetOf o x y .second ≡ directPair o binary32 x y .second)
 
 -- ---- filling
+-- "(sum, difference, product)": 1, 2 and 3
+abbrev pub OperationNumbers : Type 0
+OperationNumbers =
+    (operationOf 1 ≡ sum) × (operationOf 2 ≡ difference) × (operationOf 3 ≡ product) × (operationNumber sum ≡ 1) × (operationNumber difference ≡ 2) × (operationNumber product ≡ 3)
+
 -- "10 operation number outside 1 to 3 (sum, difference, product); 9 fewer than 65 words lent", in this order; "every lent word .. is unchanged"
 abbrev pub FillingRefused : Type 0
 FillingRefused =
@@ -143,4 +148,4 @@ FilledPair = (o x y : ℕ) (words : List ℕ) → HasDirectPair o x y (filling o
 
 -- ---- all of them
 abbrev pub All : Type 0
-All = ConstantPatterns × EachLine × Derived × FirstLine × InOrder × AtMost13 × FootIsPair × FillingRefused × SheetFilled × FilledPair
+All = ConstantPatterns × EachLine × Derived × FirstLine × InOrder × AtMost13 × FootIsPair × OperationNumbers × FillingRefused × SheetFilled × FilledPair

@@ -6,9 +6,10 @@ use Rattle.totals.specs.Totals.{Answer, pair, reading}
 use Rattle.totals.specs.Columns.{zeros, column, AllFinite, columnSum}
 use Rattle.totals.proofs.Columns.{exact-column}
 use Rattle.totals.proofs.ReadTotal.{read-zero}
-use Rattle.transcript.specs.Texts.{endText}
-use Rattle.printer.specs.Printed.{linesFrom, afterLines, linesText, readText, closingText, output}
-use Rattle.printer.specs.Theorems.{ByteByByte, AnyReads, NothingAfterStop, NeverRefused, TotalTakesAll, EmptyInput, All}
+use Rattle.question.specs.Questions as questions
+use Rattle.transcript.specs.Texts.{decimalUpTo, badText, endText}
+use Rattle.printer.specs.Printed.{linesFrom, lineText, afterLine, afterLines, linesText, readText, closingText, output}
+use Rattle.printer.specs.Theorems.{ByteByByte, AnyReads, NothingAfterStop, NeverRefused, LineTerms, TotalTakesAll, EmptyInput, TwoBadLines, All}
 use Rattle.printer.proofs.Bytes as bytes
 use Rattle.printer.proofs.Totals as totals
 
@@ -36,5 +37,12 @@ pub empty-input : EmptyInput
 unfolding output linesFrom linesText afterLines closingText
 empty-input = ap (λ (a : Answer). readText a ++ endText 0 0) cleared
 
+pub two-bad-lines : TwoBadLines
+unfolding output linesFrom linesText lineText afterLines afterLine closingText questions.reading column badText decimalUpTo
+two-bad-lines = ap (λ (a : Answer). badText 1 1 ++ (badText 2 1 ++ (readText a ++ endText 0 2))) cleared
+
+pub line-terms : LineTerms
+line-terms = totals.line-terms
+
 pub all : All
-all = (byte-by-byte, any-reads, nothing-after-stop, never-refused, total-takes-all, empty-input)
+all = (byte-by-byte, any-reads, nothing-after-stop, never-refused, line-terms, total-takes-all, empty-input, two-bad-lines)

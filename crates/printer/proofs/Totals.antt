@@ -1,5 +1,6 @@
 -- The program's total accepts every term of its lines. Assumes nothing.
 use mathlib.Core.Path.{_≡_, refl, sym, ap, _∙_, subst}
+use mathlib.Core.Logic.{_⊎_, inl, inr}
 use mathlib.Core.Bool.{Bool, true, false, cond, _&&_}
 use mathlib.Core.List.{List, [], _∷_, _++_}
 use Prim.Native.Nat.{ℕ, _*_, _≤_}
@@ -9,9 +10,11 @@ use borrow.Author.Tests.{le-leb}
 use lib.ListN.{length, length-append}
 use Rattle.rounding.specs.Format.{binary32}
 use Rattle.rounding.specs.Value.{decode, isFinite}
-use Rattle.emulation.specs.Filling.{filled, answerOf, filling, isFilled}
+use Rattle.augmented.specs.declared.Pair.{Pair}
+use Rattle.augmented.specs.Direct.{directPair}
+use Rattle.emulation.specs.Filling.{isOperation, operationOf, filled, answerOf, filling, isFilled}
 use Rattle.emulation.specs.Filling.{Answer as Filling·Answer, refused as filling·refused}
-use Rattle.emulation.proofs.Filling.{fills}
+use Rattle.emulation.proofs.Filling.{fills, answer-is}
 use Rattle.question.specs.Questions.{Answer, asked, refused, reading}
 use Rattle.question.proofs.Theorems.{only-text}
 use Rattle.totals.specs.Totals.{number, Term, ofPattern, afterAdding}
@@ -19,7 +22,7 @@ use Rattle.totals.specs.Columns.{column, AllFinite}
 use Rattle.totals.specs.Theorems.{FitTotal}
 use Rattle.totals.proofs.Columns.{exact-column}
 use Rattle.printer.specs.Printed.{blank, pairTerms, lineTerms, Progress, start, afterLine, afterLines}
-use Rattle.printer.specs.Theorems.{NeverRefused, termsOf, TotalTakesAll}
+use Rattle.printer.specs.Theorems.{NeverRefused, LineTerms, termsOf, TotalTakesAll}
 
 -- ---- the terms of a line: none, or two that are finite
 pair-terms : (f : Filling·Answer) → AllFinite (pairTerms f) × (length (pairTerms f) ≤ 2)
@@ -33,10 +36,10 @@ pair-terms (filled n p) = go (isFinite (decode binary32 (p .first))) (isFinite (
     go true false e f = (tt, omega arith)
     go false c e f = (tt, omega arith)
 
-line-terms : (a : Answer) → AllFinite (lineTerms a) × (length (lineTerms a) ≤ 2)
+terms-of : (a : Answer) → AllFinite (lineTerms a) × (length (lineTerms a) ≤ 2)
 unfolding AllFinite
-line-terms (asked o x y) = pair-terms (filling o x y blank)
-line-terms (refused n) = (tt, omega arith)
+terms-of (asked o x y) = pair-terms (filling o x y blank)
+terms-of (refused n) = (tt, omega arith)
 
 finite-append : (xs ys : List Term) → AllFinite xs → AllFinite ys → AllFinite (xs ++ ys)
 unfolding AllFinite
@@ -47,7 +50,7 @@ all-terms : (ls : List (List ℕ)) → AllFinite (termsOf ls) × (length (termsO
 unfolding termsOf AllFinite
 all-terms [] = (tt, omega arith)
 all-terms (l ∷ ls) =
-    let t = line-terms (reading l) in
+    let t = terms-of (reading l) in
     let r = all-terms ls in
     (finite-append (lineTerms (reading l)) (termsOf ls) (t .0) (r .0), le-trans (le-of-eq (length-append (lineTerms (reading l)) (termsOf ls))) (omega (arith, t .1, r .1)))
 
@@ -75,3 +78,33 @@ unfolding answerOf
 never-refused line o x y e =
     let t = only-text line o x y e in
     ap isFilled (fills o x y blank (rw (le-leb 1 o (t .1), le-leb o 3 (t .2))) (le-refl 65))
+
+-- ---- the terms of a line, by its question's pair
+module _ (o x y : ℕ) (known : isOperation o ≡ true) where
+  abbrev direct : Pair
+  direct = directPair (operationOf o) binary32 x y
+
+  pair-is : pairTerms (filling o x y blank)
+      ≡ cond (isFinite (decode binary32 (direct .first)) && isFinite (decode binary32 (direct .second))) (ofPattern (direct .first) ∷ ofPattern (direct .second) ∷ []) []
+  pair-is = ap pairTerms (fills o x y blank known (le-refl 65) ∙ answer-is (operationOf o) x y)
+
+  both-terms : isFinite (decode binary32 (direct .first)) ≡ true → isFinite (decode binary32 (direct .second)) ≡ true
+      → pairTerms (filling o x y blank) ≡ ofPattern (direct .first) ∷ ofPattern (direct .second) ∷ []
+  both-terms e f = pair-is ∙ rw (e, f)
+
+  no-terms : (isFinite (decode binary32 (direct .first)) ≡ false) ⊎ (isFinite (decode binary32 (direct .second)) ≡ false) → pairTerms (filling o x y blank) ≡ []
+  no-terms (inl e) = pair-is ∙ rw e
+  no-terms (inr e) = pair-is ∙ go (isFinite (decode binary32 (direct .first)))
+    where
+      go : (b : Bool) → cond (b && isFinite (decode binary32 (direct .second))) (ofPattern (direct .first) ∷ ofPattern (direct .second) ∷ []) [] ≡ []
+      go true = rw e
+      go false = refl
+
+pub line-terms : LineTerms
+line-terms = (
+  λ line o x y e. let t = only-text line o x y e in let known : isOperation o ≡ true = rw (le-leb 1 o (t .1), le-leb o 3 (t .2)) in (
+    λ f g. ap lineTerms e ∙ both-terms o x y known f g,
+    λ n. ap lineTerms e ∙ no-terms o x y known n,
+  ),
+  λ line n e. ap lineTerms e,
+)

@@ -15,7 +15,7 @@ use Rattle.printer.specs.declared.Fed.{Fed}
 unfoldable pub sound : Place → Bool
 sound p = leb (p .good) (p .lines) && (leb (p .length) 22 && (ltb (p .lines) 32768 || (eqb (p .lines) 32768 && eqb (p .length) 0)))
 
--- The state that they stand for. Counts that no run can have stand for a run that has stopped, so that nothing is asked of a caller.
+-- The state that they stand for. A lent total that is not fit is kept as it is: it takes no term, and no `total` line is printed of it. Counts that no run can have stand for a run that has stopped, so that nothing is asked of a caller.
 unfoldable pub stateOf : Place → List ℕ → List ℕ → State
 stateOf p line total =
     record { progress = record { lines = p .lines; good = p .good; total = total }; begun = take (p .length) line; stopped = p .stopped || not (sound p) }
@@ -36,7 +36,8 @@ lineRoom = 680
 abbrev pub lastRoom : ℕ
 lastRoom = 740
 
--- Some of the bytes are taken, from the first on: all of them, unless the run has stopped or there is no room for another line's text.
+-- Some of the bytes are taken, from the first on: all of them, unless the run has stopped or there is no room for another line's text. Free is how
+-- many are taken once the run has stopped, and what the lent line holds behind the open line's bytes.
 pub record Feeds (bytes : List ℕ) (s : State) (out : List ℕ) (r : Fed) (after : State) (out' : List ℕ) : Type 0 where
   pub within : r .taken ≤ length bytes
   pub state : after ≡ takeBytes s (take (r .taken) bytes)

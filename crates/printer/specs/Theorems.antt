@@ -1,13 +1,17 @@
 -- What holds of what is printed. Each name is a statement; proofs/Theorems.antt has its proof. Assumes nothing.
 use Prim.Native.Nat.{ℕ, _≤_}
 use mathlib.Core.Path.{_≡_}
-use mathlib.Core.Bool.{true}
+use mathlib.Core.Logic.{_⊎_}
+use mathlib.Core.Bool.{true, false}
 use mathlib.Core.List.{List, [], _∷_, _++_}
 use lib.ListN.{length}
-use Rattle.emulation.specs.Filling.{isFilled, filling}
-use Rattle.question.specs.Questions.{asked, reading}
-use Rattle.transcript.specs.Texts.{totalText, endText}
-use Rattle.totals.specs.Totals.{number, Term}
+use Rattle.rounding.specs.Format.{binary32}
+use Rattle.rounding.specs.Value.{decode, isFinite}
+use Rattle.augmented.specs.Direct.{directPair}
+use Rattle.emulation.specs.Filling.{operationOf, isFilled, filling}
+use Rattle.question.specs.Questions.{asked, refused, reading}
+use Rattle.transcript.specs.Texts.{badText, totalText, endText}
+use Rattle.totals.specs.Totals.{number, Term, ofPattern}
 use Rattle.totals.specs.Columns.{zeros, column, Accepted, columnSum}
 use Rattle.totals.specs.Theorems.{FitTotal}
 use Rattle.printer.specs.Printed.{blank, lineTerms, start, afterLines, output}
@@ -43,6 +47,14 @@ unfoldable pub termsOf : List (List ℕ) → List Term
 termsOf [] = []
 termsOf (l ∷ ls) = lineTerms (reading l) ++ termsOf ls
 
+-- a line's terms are both halves of its question's pair, where both are finite, with X or without; a bad line has none
+abbrev pub LineTerms : Type 0
+LineTerms =
+    ((line : List ℕ) (o x y : ℕ) → reading line ≡ asked o x y → let p = directPair (operationOf o) binary32 x y in
+    (isFinite (decode binary32 (p .first)) ≡ true → isFinite (decode binary32 (p .second)) ≡ true → lineTerms (reading line) ≡ ofPattern (p .first) ∷ ofPattern (p .second) ∷ [])
+    × ((isFinite (decode binary32 (p .first)) ≡ false) ⊎ (isFinite (decode binary32 (p .second)) ≡ false) → lineTerms (reading line) ≡ []))
+    × ((line : List ℕ) (n : ℕ) → reading line ≡ refused n → lineTerms (reading line) ≡ [])
+
 -- every one of them is accepted, and the total is theirs
 abbrev pub TotalTakesAll : Type 0
 TotalTakesAll =
@@ -54,5 +66,9 @@ TotalTakesAll =
 abbrev pub EmptyInput : Type 0
 EmptyInput = output [] ≡ totalText 0 0 ++ endText 0 0
 
+-- "a last line without newline counts"; lines are numbered from 1; "`end` gives good and bad lines"; "work goes on": bytes 120, newline, 120
+abbrev pub TwoBadLines : Type 0
+TwoBadLines = output (120 ∷ 10 ∷ 120 ∷ []) ≡ badText 1 1 ++ (badText 2 1 ++ (totalText 0 0 ++ endText 0 2))
+
 abbrev pub All : Type 0
-All = ByteByByte × AnyReads × NothingAfterStop × NeverRefused × TotalTakesAll × EmptyInput
+All = ByteByByte × AnyReads × NothingAfterStop × NeverRefused × LineTerms × TotalTakesAll × EmptyInput × TwoBadLines

@@ -58,7 +58,7 @@ pub fn feed(
     }
 }
 
-// The open line, if it has a byte, and the last two lines. Without room for them nothing is done.
+// The open line, if it has a byte, and the last two lines. Without room for them, or after `stop`, nothing is done.
 pub fn finish(place: Place, line: &[u8; 22], total: &mut [u32], out: &mut [u8]) -> usize
     ensures { λ r. ⌜ Ends (stateOf place (now (line .entry)) (now (total .entry))) (now (out .entry)) r (now (total .exit)) (now (out .exit)) ⌝ }
 {

@@ -3,7 +3,7 @@ use Prim.Native.Nat.{ℕ, suc, min, _≤_, _<_}
 use mathlib.Core.Path.{refl, sym}
 use native.Mathlib.Omega.{arith}
 use Rattle.question.specs.Questions.{letters, questionText}
-use Rattle.transcript.specs.Texts.{decimalUpTo, flagsText, askText, stepText, pairText, badText, totalText, endText, answeredText}
+use Rattle.transcript.specs.Texts.{decimalUpTo, stepLetters, thirdText, flagsText, askText, stepText, pairText, badText, totalText, endText, answeredText}
 use Rattle.transcript.specs.Theorems.{Decimals, FlagTexts, WrittenWhole, AtMost, Example, NoneEmpty, All}
 use Rattle.transcript.proofs.Buffers.{too-short, text-first}
 use Rattle.transcript.proofs.DecimalLaws.{decimal-most, decimal-least}
@@ -30,8 +30,8 @@ at-most number operation x y words lines pair =
     omega (arith, answered-length number operation x y words lines pair, decimal-most number, steps-most (min lines 13) words (at-most-13 lines), flags-most (pair .flags))
 
 pub example : Example
-unfolding askText questionText letters decimalUpTo endText
-example = (refl, refl)
+unfolding askText questionText letters decimalUpTo stepText stepLetters thirdText pairText flagsText totalText endText badText
+example = (refl, refl, refl, refl, refl, refl, refl, refl, refl, refl, refl, refl)
 
 pub none-empty : NoneEmpty
 unfolding askText stepText pairText badText totalText endText answeredText

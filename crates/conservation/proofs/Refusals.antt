@@ -1,15 +1,13 @@
 -- The refusals of `replay`, as they are stated, and that they change nothing. Assumes nothing.
-use mathlib.Core.Path.{_≡_, refl, sym, ap, _∙_, subst}
+use mathlib.Core.Path.{_≡_, refl, sym, ap, _∙_}
 use mathlib.Core.Logic.{_⊎_, _≢_, inl, inr}
-use mathlib.Core.Bool.{true≢false, Bool, true, false, _&&_}
+use mathlib.Core.Bool.{Bool, true, false, _&&_}
 use mathlib.Core.List.{List, [], _∷_}
 use Prim.Native.Nat.{ℕ, zero, suc, _≤_, _<_}
-use native.Mathlib.Decide.{decLe}
 use native.Mathlib.Omega.{arith}
-use borrow.Author.Tests.{eq-eqb, ne-eqb, eqb-true, le-leb, leb-true}
-use lib.Dec.{eqb, leb}
+use borrow.Author.Tests.{eq-eqb, ne-eqb, le-leb}
+use lib.Dec.{eqb}
 use lib.ListN.{length, getD, replicate}
-use Rattle.totals.specs.Totals.{afterClearing}
 use Rattle.totals.proofs.Answers.{clearing-done}
 use Rattle.conservation.specs.Replay.{allZero, isCleared, allWithin, refused, replaying, totalsAfter, wordsLeft}
 use Rattle.conservation.specs.Theorems.{ReplayRefused, ReplayUnchanged}

@@ -1,8 +1,9 @@
-// Reads questions to the input's end and writes their model sheets. Of all crates only this one reads and writes; the text is `printer`'s,
-// and no contract can say of these calls what was read or written.
+// Reads questions to the input's end and writes their model sheets. Of all crates only this one reads and writes; the text is `printer`'s.
+// No contract can say what a call read or wrote; what is done with the bytes of a read, `take` says.
 use printer::Place;
-ghost use Prim.Native.Nat.{_≤_};
 ghost use lib.ListN.{length};
+ghost use Rattle.printer.specs.Places.{stateOf};
+ghost use Rattle.stream.specs.Reads.{Takes, TakesAll};
 
 // The place in the input; whether there may be more of it to take; and whether every call has done its work so far.
 pub struct Turn {
@@ -75,7 +76,9 @@ fn take(
     line: &mut [u8; 22],
     total: &mut [u32],
     out: &mut [u8],
-) -> Turn {
+) -> Turn
+    ensures { λ r. ⌜ TakesAll (now (bytes .entry)) (length (now (out .entry))) (stateOf place (now (line .entry)) (now (total .entry))) r (stateOf (r .place) (now (line .exit)) (now (total .exit))) ⌝ }
+{
     let mut here = Turn {
         place,
         reading: true,
@@ -103,19 +106,28 @@ fn some(
     total: &mut [u32],
     out: &mut [u8],
 ) -> Moved
-    ensures { λ r. ⌜ r .taken ≤ length (now (bytes .entry)) ⌝ }
+    ensures { λ r. ⌜ Takes (now (bytes .entry)) (length (now (out .entry))) (stateOf place (now (line .entry)) (now (total .entry))) r (stateOf (r .turn .place) (now (line .exit)) (now (total .exit))) ⌝ }
 {
     let fed = printer::feed(bytes, place, line, total, out);
     let n = fed.written;
     let whole = io::write_all(output, &out[..n]);
     let taken = fed.taken;
     let next = fed.place;
-    let reading = whole && !next.stopped;
+    if !whole {
+        return Moved {
+            turn: Turn {
+                place: next,
+                reading: false,
+                whole: false,
+            },
+            taken,
+        };
+    }
     Moved {
         turn: Turn {
             place: next,
-            reading,
-            whole,
+            reading: !next.stopped,
+            whole: true,
         },
         taken,
     }

@@ -1,6 +1,8 @@
 use mathlib.Core.Path.{sym}
+use mathlib.Core.Bool.{true≢false, true, false, not}
 use lib.Seq.{length-take-le}
 use Rattle.stream.proofs.Within.{fed-within}
+use Rattle.stream.proofs.Taking.{not-false, takes}
 use borrow.Author.Needs.{needs}
 use Rattle.stream.proofs.some.Statement.{statement}
 use Rattle.stream.proofs.some.Tie as tie
@@ -28,7 +30,7 @@ same-length-2 : tie.Need-same-length-2
 same-length-2 c = search needs
 
 returns : tie.Need-returns
-returns c = search needs
+returns c = let f = c .before .before .before .before .before .before .before .before .feed in takes _ _ _ (f .result) _ _ _ (f .ensures) false false (λ w r. absurd (true≢false (sym w)))
 
 same-length-3 : tie.Need-same-length-3
 same-length-3 c = search needs
@@ -37,7 +39,7 @@ same-length-4 : tie.Need-same-length-4
 same-length-4 c = search needs
 
 returns-2 : tie.Need-returns-2
-returns-2 c = search needs
+returns-2 c = let f = c .before .before .before .before .before .before .before .before .before .feed in takes _ _ _ (f .result) _ _ _ (f .ensures) true (not (f .result .place .stopped)) (λ w r. not-false _ r)
 
 pub some-spec : {M : Type 1} → statement M
 some-spec =

@@ -1,7 +1,7 @@
 -- The steps on binary32 patterns are those of lib.Ieee: the theorems of `specs/Agreement.antt`. Assumes nothing.
 use mathlib.Core.Path.{_∙_}
 use lib.Ieee.{binary32}
-use Rattle.binary32.proofs.Result.{add-step, sub-step, mul-step}
+use Rattle.steps.proofs.Result.{add-step, sub-step, mul-step}
 use Rattle.agreement.specs.Agreement.{AddAgrees, SubAgrees, MulAgrees}
 use Rattle.agreement.proofs.Same.{same-bits}
 use Rattle.agreement.proofs.Decode.{decode-same}

@@ -5,7 +5,7 @@ use lib.Ieee.{Float, nan as not-number, inf, Format as Standard, unlike, up, mul
 use lib.Ieee.Fits.{up-pos}
 use Rattle.rounding.specs.declared.Ties.the-variants.{ToEven}
 use Rattle.rounding.specs.Value.{Value, nan, infinite, round}
-use Rattle.binary32.specs.Steps.{mulValue}
+use Rattle.steps.specs.Steps.{mulValue}
 use Rattle.agreement.proofs.Fraction.{counts-mul, counts-zero}
 use Rattle.agreement.proofs.Same.{ours, both-nan, both-inf, both-fin, Agree}
 use Rattle.agreement.proofs.Round.{round-agrees}

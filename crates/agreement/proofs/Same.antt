@@ -10,7 +10,7 @@ use lib.Ieee.Digits.{odd-val}
 use lib.Ieee.Fits.{down-pos}
 use Rattle.rounding.specs.Format.{Format, low, signBit}
 use Rattle.rounding.specs.Value.{Value, nan, infinite, finite, encode}
-use Rattle.binary32.specs.Exact.{negate}
+use Rattle.steps.specs.Exact.{negate}
 use Rattle.agreement.proofs.Fraction.{Counts}
 
 -- a format of lib.Ieee, by our numbers

@@ -12,8 +12,8 @@ use Rattle.rounding.specs.declared.Ties.the-variants.{ToEven}
 use Rattle.rounding.specs.Format.{low}
 use Rattle.rounding.specs.Value.{Value, nan, infinite, roundFinite, round}
 use Rattle.rounding.proofs.Compare.{tri}
-use Rattle.binary32.specs.Exact.{plusFinite, finer}
-use Rattle.binary32.specs.Steps.{addValue, subValue}
+use Rattle.steps.specs.Exact.{plusFinite, finer}
+use Rattle.steps.specs.Steps.{addValue, subValue}
 use Rattle.agreement.proofs.Fraction.{Counts, counts-add, counts-sub, counts-lt, counts-eq, counts-over, counts-finer}
 use Rattle.agreement.proofs.Same.{ours, low-is, both-nan, both-inf, both-fin, Agree, neg-same}
 use Rattle.agreement.proofs.Round.{round-agrees}

@@ -3,7 +3,7 @@
 use mathlib.Core.Path.{_≡_}
 use Prim.Native.Nat.{ℕ}
 use lib.Ieee.{binary32, ofBits, toBits, add, sub, mul}
-use Rattle.binary32.specs.Steps.{addStep, subStep, mulStep}
+use Rattle.steps.specs.Steps.{addStep, subStep, mulStep}
 
 abbrev pub AddAgrees : Type 0
 AddAgrees = (x y : ℕ) → addStep x y ≡ toBits binary32 (add binary32 (ofBits binary32 x) (ofBits binary32 y))

@@ -1,48 +1,59 @@
 // Direct pairs of two binary32 patterns: the result rounded to nearest with ties to zero, RN0 of what that left over, and the flags.
-pub mod half;
-mod parts;
-mod products;
-mod raised;
-mod sums;
-
-use binary32::class::flipped;
+use operands::flipped;
+pub use pairs::Flags;
+pub use pairs::Pair;
+use parts::is_finite;
+use parts::raised;
 ghost use mathlib.Core.Path.{_≡_};
+ghost use mathlib.Core.Bool.{true, false};
 ghost use Rattle.rounding.specs.Format.{binary32};
-ghost use Rattle.augmented.specs.Pairs.{sumPair, differencePair, productPair};
-
-// Document 01's I, O, U and X.
-#[repr(C)]
-pub struct Flags {
-    pub invalid: bool,
-    pub overflow: bool,
-    pub underflow: bool,
-    pub inexact: bool,
-}
-
-#[repr(C)]
-pub struct Pair {
-    pub first: u32,
-    pub second: u32,
-    pub flags: Flags,
-}
+ghost use Rattle.rounding.specs.Value.{decode, isFinite};
+ghost use Rattle.pairs.specs.Pairs.{invalid, overflowed, flagsOf, sumPair, differencePair, productPair};
+ghost use Rattle.pairs.specs.Direct.{none};
 
 pub fn sum(x: u32, y: u32) -> Pair
     ensures { λ r. ⌜ r ≡ sumPair binary32 x y ⌝ }
 {
-    let both = sums::halves(x, y);
-    sums::pair(x, y, parts::first(both), parts::second(both))
+    let both = sum_halves::of_patterns(x, y);
+    pair(x, y, parts::first(both), parts::second(both))
 }
 
 pub fn difference(x: u32, y: u32) -> Pair
     ensures { λ r. ⌜ r ≡ differencePair binary32 x y ⌝ }
 {
     let z = flipped(y);
-    let both = sums::halves(x, z);
-    sums::pair(x, z, parts::first(both), parts::second(both))
+    let both = sum_halves::of_patterns(x, z);
+    pair(x, z, parts::first(both), parts::second(both))
 }
 
 pub fn product(x: u32, y: u32) -> Pair
     ensures { λ r. ⌜ r ≡ productPair binary32 x y ⌝ }
 {
-    products::of_patterns(x, y)
+    product_pairs::of_patterns(x, y)
+}
+
+// A finite first comes from finite operands, and no sum is inexact.
+fn pair(x: u32, y: u32, first: u32, second: u32) -> Pair
+    requires { ⌜ (isFinite (decode binary32 first) ≡ true → flagsOf (invalid binary32 x y (decode binary32 first)) (overflowed binary32 x y (decode binary32 first)) false ≡ none) ⌝ }
+    ensures { λ r. ⌜ r ≡ record { first = first; second = second; flags = flagsOf (invalid binary32 x y (decode binary32 first)) (overflowed binary32 x y (decode binary32 first)) false } ⌝ }
+{
+    if is_finite(first) {
+        let flags = Flags {
+            invalid: false,
+            overflow: false,
+            underflow: false,
+            inexact: false,
+        };
+        return Pair {
+            first,
+            second,
+            flags,
+        };
+    }
+    let flags = raised::of_special(x, y, first);
+    Pair {
+        first,
+        second,
+        flags,
+    }
 }

@@ -1,33 +1,50 @@
 // The four rounding steps on binary32 patterns: the exact result on integers, and one rounding.
-pub mod class;
-pub mod exact;
-mod fused;
-mod product;
-mod sum;
-
+use operands::infinity;
+use rounding::Ties;
+use steps::Class;
+use steps::NAN;
 ghost use mathlib.Core.Path.{_≡_};
-ghost use Rattle.binary32.specs.Steps.{addStep, subStep, mulStep, fmaStep};
+ghost use Rattle.rounding.specs.declared.Ties.the-variants.{ToEven};
+ghost use Rattle.rounding.specs.Format.{binary32};
+ghost use Rattle.rounding.specs.Value.{encode, round};
+ghost use Rattle.steps.specs.Classes.{valueOf};
+ghost use Rattle.steps.specs.Steps.{addStep, subStep, mulStep, fmaStep};
 
 pub fn add(x: u32, y: u32) -> u32
     ensures { λ r. ⌜ r ≡ addStep x y ⌝ }
 {
-    sum::of_patterns(x, y)
+    addition::of_patterns(x, y)
 }
 
 pub fn sub(x: u32, y: u32) -> u32
     ensures { λ r. ⌜ r ≡ subStep x y ⌝ }
 {
-    sum::of_patterns(x, class::flipped(y))
+    addition::of_patterns(x, operands::flipped(y))
 }
 
 pub fn mul(x: u32, y: u32) -> u32
     ensures { λ r. ⌜ r ≡ mulStep x y ⌝ }
 {
-    product::rounded(exact::product(x, y))
+    rounded(exact::product(x, y))
 }
 
 pub fn fma(x: u32, y: u32, z: u32) -> u32
     ensures { λ r. ⌜ r ≡ fmaStep x y z ⌝ }
 {
-    fused::product_plus(exact::product(x, y), class::classify(z))
+    fused::of_patterns(x, y, z)
+}
+
+// A product with no third operand: the only rounding of `mul`.
+fn rounded(p: Class) -> u32
+    ensures { λ r. ⌜ r ≡ encode binary32 (round ToEven binary32 (valueOf p)) ⌝ }
+{
+    match p {
+        Class::NotANumber => NAN,
+        Class::Infinite(s) => infinity(s),
+        Class::Finite {
+            sign: s,
+            sig: m,
+            exp: e,
+        } => nearest::round(Ties::ToEven, s, m, e),
+    }
 }

@@ -6,9 +6,9 @@ use native.Mathlib.Omega.{arith}
 use lib.Dec.{T, leb}
 use Rattle.rounding.specs.Format.{binary32, low, signBit}
 use Rattle.rounding.specs.Value.{Value, nan, infinite, finite, isZero, isFinite, round}
-use Rattle.binary32.specs.Exact.{negate, plus, times, finer}
-use Rattle.binary32.specs.Steps.{addValue, subValue, mulValue, subStep, mulStep}
-use Rattle.binary32.proofs.Theorems.{sub-decodes, mul-decodes}
+use Rattle.steps.specs.Exact.{negate, plus, times, finer}
+use Rattle.steps.specs.Steps.{addValue, subValue, mulValue, subStep, mulStep}
+use Rattle.steps.proofs.Theorems.{sub-decodes, mul-decodes}
 use Rattle.errorfree.specs.Comparisons.{same}
 use Rattle.errorfree.specs.Constants as factor
 use Rattle.errorfree.proofs.Factors as factors

@@ -4,7 +4,7 @@ use mathlib.Core.Logic.{_⊎_, inl, inr}
 use mathlib.Core.Bool.{Bool, true, false, cond}
 use mathlib.Core.List.{List, [], _∷_, _++_}
 use Prim.Native.Nat.{ℕ}
-use Rattle.binary32.specs.Steps.{subStep, mulStep}
+use Rattle.steps.specs.Steps.{subStep, mulStep}
 use Rattle.emulation.specs.Constants.{psi, two, minusTwo, half, kappa, twoTo24, twoTo48, twoToMinus24, plusZero, smallest}
 use Rattle.emulation.specs.Lines.{add, subtract, multiply, Line, line, fusedLine, Sheet, before, ends, minus, equal, zero}
 use Rattle.emulation.specs.Sheets.{recomposition, zeroFinish, recomposedFinished, atEdge, edgeFinish}

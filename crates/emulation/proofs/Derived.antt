@@ -4,8 +4,8 @@ use mathlib.Core.List.{List, [], _∷_}
 use Prim.Native.Nat.{ℕ}
 use lib.Dec.{leb}
 use Rattle.rounding.specs.Format.{binary32, signBit}
-use Rattle.binary32.specs.Steps.{addStep, subStep, mulStep, fmaStep}
-use Rattle.augmented.specs.Direct.{Operation, sum, difference, product}
+use Rattle.steps.specs.Steps.{addStep, subStep, mulStep, fmaStep}
+use Rattle.pairs.specs.Direct.{Operation, sum, difference, product}
 use Rattle.emulation.specs.Constants.{half, twoTo24, twoTo48, twoToMinus24, plusZero, smallest}
 use Rattle.emulation.specs.Lines.{multiply, line, Sheet, before, ends, value, minus, copySign}
 use Rattle.emulation.specs.Sheets.{Branch, whenInfinite, whenZero, whenTiny, whenMiddle, otherwise, recomposition, zeroFinish, recomposedFinished, halvedSum, overflows, sumInOrder, swaps, sumSheet, infiniteProduct, lowered, lowering, tinyProduct, restTie, scaledDown, middleProduct, otherProduct, branchOf, productBy, productSheet, sheetOf}

@@ -3,8 +3,8 @@ use mathlib.Core.Path.{refl}
 use mathlib.Core.Bool.{Bool, true, false, cond}
 use mathlib.Core.List.{List, [], _∷_, _++_}
 use Prim.Native.Nat.{ℕ}
-use Rattle.binary32.specs.Steps.{addStep, subStep, mulStep, fmaStep}
-use Rattle.augmented.specs.Direct.{sum, difference, product}
+use Rattle.steps.specs.Steps.{addStep, subStep, mulStep, fmaStep}
+use Rattle.pairs.specs.Direct.{sum, difference, product}
 use Rattle.emulation.specs.Lines.{add, subtract, multiply, Line, line, fusedLine, Sheet, before, ends, value, minus, copySign, zero}
 use Rattle.emulation.specs.Constants.{psi, two, minusTwo, half, kappa, twoTo24, twoTo48, twoToMinus24, plusZero, smallest}
 use Rattle.emulation.specs.Sheets.{Branch, whenInfinite, whenZero, whenTiny, whenMiddle, otherwise, recomposition, zeroFinish, recomposedFinished, atEdge, edgeFinish, halvedSum, overflows, sumInOrder, swaps, sumSheet, infiniteProduct, lowered, lowering, tinyProduct, restTie, scaledDown, middleProduct, otherProduct, branchOf, productBy, productSheet, sheetOf}

@@ -10,8 +10,8 @@ use lib.Dec.{ltb}
 use lib.ListN.{length, take, drop, replicate, length-append, length-replicate, length-drop}
 use lib.Seq.{take-at, drop-at}
 use Rattle.rounding.specs.Format.{binary32}
-use Rattle.augmented.specs.declared.Pair.{Pair}
-use Rattle.augmented.specs.Direct.{Operation, sum, difference, product, directPair}
+use Rattle.pairs.specs.declared.Pair.{Pair}
+use Rattle.pairs.specs.Direct.{Operation, sum, difference, product, directPair}
 use Rattle.emulation.specs.Lines.{Line}
 use Rattle.emulation.specs.Sheets.{sheetOf}
 use Rattle.emulation.specs.Filling.{isOperation, operationNumber, operationOf, lineWords, wordsOf, sheetWords, refused, filled, answerOf, filling, afterFilling, HasDirectPair}

@@ -1,8 +1,8 @@
 -- The foot of every sheet is the direct pair. Assumes nothing.
 use mathlib.Core.Path.{sym, _∙_}
 use Rattle.rounding.specs.Format.{binary32}
-use Rattle.augmented.specs.Direct.{sum, difference, product}
-use Rattle.augmented.proofs.Read.{first-pattern, second-pattern}
+use Rattle.pairs.specs.Direct.{sum, difference, product}
+use Rattle.pairs.proofs.Read.{first-pattern, second-pattern}
 use Rattle.emulation.specs.Lines.{minus}
 use Rattle.emulation.specs.Sheets.{sheetOf}
 use Rattle.emulation.specs.Theorems.{FootIsPair}

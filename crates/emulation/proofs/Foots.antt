@@ -8,8 +8,8 @@ use native.Mathlib.Omega.{arith}
 use lib.Dec.{T}
 use Rattle.rounding.specs.Format.{binary32, limit}
 use Rattle.rounding.specs.Value.{Value, nan, infinite, finite, isNaN, encode, round}
-use Rattle.augmented.specs.Pairs.{pairOf, secondOf}
-use Rattle.augmented.proofs.Second.{head, first-finite, pair-second, first-infinite, second-infinite}
+use Rattle.pairs.specs.Pairs.{pairOf, secondOf}
+use Rattle.pairs.proofs.Second.{head, first-finite, pair-second, first-infinite, second-infinite}
 use Rattle.emulation.specs.Lines.{Sheet, value}
 use Rattle.emulation.proofs.Patterns.{Pattern, pattern-of}
 

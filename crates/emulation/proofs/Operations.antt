@@ -9,10 +9,10 @@ use lib.Dec.{leb, eqb}
 use Rattle.rounding.specs.Format.{binary32, signBit}
 use Rattle.rounding.specs.Value.{Value, nan, infinite, finite, Fits, isFinite, isInfinite, isZero, RNe}
 use Rattle.rounding.proofs.Codec.{decode-fits}
-use Rattle.binary32.specs.Exact.{negate, finer}
-use Rattle.binary32.specs.Steps.{addValue, mulValue, addStep, subStep, mulStep}
-use Rattle.binary32.proofs.Theorems.{add-decodes, mul-decodes}
-use Rattle.binary32.proofs.Special.{plus-comm}
+use Rattle.steps.specs.Exact.{negate, finer}
+use Rattle.steps.specs.Steps.{addValue, mulValue, addStep, subStep, mulStep}
+use Rattle.steps.proofs.Theorems.{add-decodes, mul-decodes}
+use Rattle.steps.proofs.Special.{plus-comm}
 use Rattle.errorfree.specs.Comparisons.{same}
 use Rattle.errorfree.proofs.NoNumber.{not-both, none-zero, number-of, both-of}
 use Rattle.errorfree.proofs.Steps.{zero-times}

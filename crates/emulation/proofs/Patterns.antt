@@ -14,11 +14,11 @@ use Rattle.rounding.specs.Value.{Value, nan, finite, unsigned, decode, encode, 
 use Rattle.rounding.proofs.Codec.{unsigned-finite, unsigned-infinite, unsigned-nan, encode-decode}
 use Rattle.rounding.proofs.Compare.{tri}
 use Rattle.rounding.proofs.RoundValue.{round-fits}
-use Rattle.binary32.specs.Exact.{negate, plus, times, finer}
-use Rattle.binary32.specs.Steps.{addValue, subValue, mulValue, fmaValue, addStep, subStep, mulStep, fmaStep}
-use Rattle.binary32.proofs.Classified.{decode-flip}
-use Rattle.binary32.proofs.Result.{add-step, sub-step, mul-step, fma-step}
-use Rattle.augmented.proofs.Width.{encode-width}
+use Rattle.steps.specs.Exact.{negate, plus, times, finer}
+use Rattle.steps.specs.Steps.{addValue, subValue, mulValue, fmaValue, addStep, subStep, mulStep, fmaStep}
+use Rattle.steps.proofs.Classified.{decode-flip}
+use Rattle.steps.proofs.Result.{add-step, sub-step, mul-step, fma-step}
+use Rattle.pairs.proofs.Width.{encode-width}
 use Rattle.emulation.specs.Lines.{value, minus, copySign}
 
 -- ---- a pattern of 32 bits

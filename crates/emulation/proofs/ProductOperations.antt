@@ -16,8 +16,8 @@ use Rattle.rounding.specs.Value.{Value, nan, infinite, finite, Fits, isFinite, 
 use Rattle.rounding.proofs.Representable.{rep-lt}
 use Rattle.rounding.proofs.RoundValue.{round-finite}
 use Rattle.rounding.proofs.Codec.{decode-fits}
-use Rattle.binary32.specs.Steps.{subValue, fmaValue, subStep, mulStep, fmaStep}
-use Rattle.binary32.proofs.Theorems.{sub-decodes, mul-decodes, fma-decodes}
+use Rattle.steps.specs.Steps.{subValue, fmaValue, subStep, mulStep, fmaStep}
+use Rattle.steps.proofs.Theorems.{sub-decodes, mul-decodes, fma-decodes}
 use Rattle.errorfree.specs.Comparisons.{same}
 use Rattle.errorfree.proofs.NoNumber.{not-both, number-of, both-of, mul-none, fma-nan}
 use Rattle.errorfree.proofs.Signed.{Is, rel-own, same-eq}

@@ -15,10 +15,10 @@ use Rattle.rounding.specs.Nearest.{Rep}
 use Rattle.rounding.specs.Value.{Value, nan, infinite, finite, Fits, encode, isFinite, isZero}
 use Rattle.rounding.proofs.RoundValue.{round-above}
 use Rattle.rounding.proofs.Codec.{decode-fits}
-use Rattle.binary32.specs.Exact.{times}
-use Rattle.binary32.specs.Steps.{fmaValue, mulStep, fmaStep}
-use Rattle.binary32.proofs.Theorems.{mul-decodes, fma-decodes}
-use Rattle.binary32.proofs.Result.{mul-step, fma-step}
+use Rattle.steps.specs.Exact.{times}
+use Rattle.steps.specs.Steps.{fmaValue, mulStep, fmaStep}
+use Rattle.steps.proofs.Theorems.{mul-decodes, fma-decodes}
+use Rattle.steps.proofs.Result.{mul-step, fma-step}
 use Rattle.errorfree.proofs.Steps.{toEven}
 use Rattle.emulation.specs.Constants.{half}
 use Rattle.emulation.specs.Lines.{value, minus}

@@ -12,10 +12,10 @@ use Rattle.rounding.specs.Nearest.{Rep}
 use Rattle.rounding.specs.Value.{Value, infinite, finite, isFinite, isZero, roundFinite}
 use Rattle.rounding.proofs.RoundValue.{round-below, round-above}
 use Rattle.rounding.proofs.Rounded.{rounded-zero-le}
-use Rattle.binary32.specs.Exact.{negate}
-use Rattle.binary32.specs.Steps.{mulValue, fmaValue, subValue, subStep, mulStep, fmaStep}
-use Rattle.binary32.proofs.Theorems.{add-decodes, sub-decodes, mul-decodes, fma-decodes}
-use Rattle.augmented.proofs.Second.{first-finite}
+use Rattle.steps.specs.Exact.{negate}
+use Rattle.steps.specs.Steps.{mulValue, fmaValue, subValue, subStep, mulStep, fmaStep}
+use Rattle.steps.proofs.Theorems.{add-decodes, sub-decodes, mul-decodes, fma-decodes}
+use Rattle.pairs.proofs.Second.{first-finite}
 use Rattle.errorfree.specs.Comparisons.{same}
 use Rattle.errorfree.proofs.Factors as factors
 use Rattle.errorfree.proofs.Steps.{toEven, toZero, mul-finite}

@@ -14,12 +14,12 @@ use Rattle.rounding.specs.Value.{Value, nan, infinite, finite, Fits, encode, is
 use Rattle.rounding.proofs.NearLaws.{near-le}
 use Rattle.rounding.proofs.RoundValue.{round-below, round-above}
 use Rattle.rounding.proofs.Codec.{decode-fits}
-use Rattle.binary32.specs.Exact.{plus, finer}
-use Rattle.binary32.specs.Steps.{addValue, subValue, mulValue, addStep, subStep, mulStep}
-use Rattle.binary32.proofs.Theorems.{add-decodes, sub-decodes, mul-decodes}
-use Rattle.binary32.proofs.Result.{add-step, sub-step}
-use Rattle.binary32.proofs.Special.{plus-comm}
-use Rattle.binary32.proofs.Sums.{like?, like-eq, like-own, sum-same, sum-left, sum-none}
+use Rattle.steps.specs.Exact.{plus, finer}
+use Rattle.steps.specs.Steps.{addValue, subValue, mulValue, addStep, subStep, mulStep}
+use Rattle.steps.proofs.Theorems.{add-decodes, sub-decodes, mul-decodes}
+use Rattle.steps.proofs.Result.{add-step, sub-step}
+use Rattle.steps.proofs.Special.{plus-comm}
+use Rattle.steps.proofs.Sums.{like?, like-eq, like-own, sum-same, sum-left, sum-none}
 use Rattle.errorfree.specs.Comparisons.{lessMagnitude}
 use Rattle.errorfree.proofs.Factors as factors
 use Rattle.errorfree.proofs.Steps.{toEven, even-at}

@@ -10,8 +10,8 @@ use native.Mathlib.Omega.{arith}
 use lib.Dec.{T}
 use lib.ListN.{length, take}
 use Rattle.rounding.specs.Value.{Value, nan, infinite, finite, isNaN, isFinite, decode}
-use Rattle.binary32.specs.Steps.{addStep, mulStep}
-use Rattle.augmented.specs.Direct.{sum, difference, product}
+use Rattle.steps.specs.Steps.{addStep, mulStep}
+use Rattle.pairs.specs.Direct.{sum, difference, product}
 use Rattle.emulation.specs.Constants.{psi, two, half, kappa, twoTo24, twoTo48, twoToMinus24, plusZero, smallest, twoTo127, twoTo102, twoToMinus102, twoToMinus126}
 use Rattle.emulation.specs.Lines.{Line, line, add, value, minus, equal, zero}
 use Rattle.emulation.specs.Sheets.{sumInOrder, swaps, sumSheet, productSheet, sheetOf}

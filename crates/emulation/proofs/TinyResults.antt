@@ -1,7 +1,7 @@
 -- The results of a tiny product's lines, by the names that its rules have. Assumes nothing.
 use mathlib.Core.Bool.{Bool, cond}
 use Prim.Native.Nat.{ℕ}
-use Rattle.binary32.specs.Steps.{addStep, subStep, mulStep, fmaStep}
+use Rattle.steps.specs.Steps.{addStep, subStep, mulStep, fmaStep}
 use Rattle.emulation.specs.Constants.{twoTo24, twoTo48}
 use Rattle.emulation.specs.Lines.{minus}
 use Rattle.emulation.specs.Sheets.{lowered, tinyTie}

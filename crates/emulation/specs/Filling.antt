@@ -6,8 +6,8 @@ use mathlib.Core.List.{List, [], _∷_, _++_}
 use lib.Dec.{eqb, leb, ltb}
 use lib.ListN.{length, drop, replicate}
 use Rattle.rounding.specs.Format.{binary32}
-use Rattle.augmented.specs.declared.Pair.{Pair}
-use Rattle.augmented.specs.Direct.{Operation, sum, difference, product, directPair}
+use Rattle.pairs.specs.declared.Pair.{Pair}
+use Rattle.pairs.specs.Direct.{Operation, sum, difference, product, directPair}
 use Rattle.emulation.specs.Lines.{number, Line}
 use Rattle.emulation.specs.Sheets.{sheetOf}
 

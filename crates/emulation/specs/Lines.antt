@@ -5,7 +5,7 @@ use mathlib.Core.List.{List, [], _++_}
 use lib.Dec.{leb}
 use Rattle.rounding.specs.Format.{binary32, signBit}
 use Rattle.rounding.specs.Value.{Value, decode, isZero}
-use Rattle.binary32.specs.Classes.{flip}
+use Rattle.steps.specs.Classes.{flip}
 use Rattle.errorfree.specs.Comparisons.{same}
 
 -- ---- a line

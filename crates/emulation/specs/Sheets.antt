@@ -6,8 +6,8 @@ use mathlib.Core.Bool.{Bool, not, cond, _&&_}
 use mathlib.Core.List.{[], _∷_}
 use lib.Dec.{ltb, leb, eqb}
 use Rattle.rounding.specs.Value.{Value, nan, infinite, finite, isInfinite}
-use Rattle.binary32.specs.Steps.{addStep, subStep, mulStep, fmaStep}
-use Rattle.augmented.specs.Direct.{Operation, sum, difference, product}
+use Rattle.steps.specs.Steps.{addStep, subStep, mulStep, fmaStep}
+use Rattle.pairs.specs.Direct.{Operation, sum, difference, product}
 use Rattle.errorfree.specs.Comparisons.{lessMagnitude}
 use Rattle.emulation.specs.Constants.{psi, two, minusTwo, half, kappa, twoTo24, twoTo48, twoToMinus24, plusZero, smallest, twoTo127, twoTo102, twoToMinus102, twoToMinus126}
 use Rattle.emulation.specs.Lines.{add, subtract, multiply, Line, line, fusedLine, Sheet, before, ends, value, minus, equal, copySign, zero}

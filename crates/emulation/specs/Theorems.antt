@@ -7,8 +7,8 @@ use Prim.Native.Nat.{ℕ, _-_, _*_, _^_, _≤_, _<_}
 use lib.ListN.{length, take, drop, replicate}
 use Rattle.rounding.specs.Format.{binary32}
 use Rattle.rounding.specs.Value.{Value, nan, infinite, finite, isFinite, encode}
-use Rattle.binary32.specs.Steps.{addStep, subStep, mulStep, fmaStep}
-use Rattle.augmented.specs.Direct.{Operation, sum, difference, product, directPair}
+use Rattle.steps.specs.Steps.{addStep, subStep, mulStep, fmaStep}
+use Rattle.pairs.specs.Direct.{Operation, sum, difference, product, directPair}
 use Rattle.errorfree.specs.Comparisons.{lessMagnitude}
 use Rattle.emulation.specs.Constants.{psi, two, minusTwo, half, kappa, twoTo24, twoTo48, twoToMinus24, plusZero, smallest, twoTo127, twoTo102, twoToMinus102, twoToMinus126}
 use Rattle.emulation.specs.Lines.{Step, add, subtract, multiply, fused, number, Line, line, value, minus, equal, zero}

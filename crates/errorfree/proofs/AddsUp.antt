@@ -9,8 +9,8 @@ use lib.Dec.{T}
 use lib.Pow.{pow-pos}
 use Rattle.rounding.specs.Format.{Format, low}
 use Rattle.rounding.specs.Value.{Value, nan, infinite, finite, isZero, isFinite}
-use Rattle.binary32.specs.Exact.{negate, plus, finer}
-use Rattle.augmented.specs.Pairs.{rest, addsUp}
+use Rattle.steps.specs.Exact.{negate, plus, finer}
+use Rattle.pairs.specs.Pairs.{rest, addsUp}
 use Rattle.errorfree.proofs.Signed.{Rel, Is, rel-own, rel-dist, is-negate, is-plus, is-shift}
 
 -- ---- in the finer unit

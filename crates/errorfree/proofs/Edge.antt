@@ -19,9 +19,9 @@ use Rattle.rounding.proofs.Representable.{rep-le, rep-pow}
 use Rattle.rounding.proofs.Predecessor.{Upper, below-best}
 use Rattle.rounding.proofs.RoundValue.{under-edge, over-edge, zero-at-edge}
 use Rattle.rounding.proofs.Halfway.{even-up}
-use Rattle.binary32.specs.Steps.{mulValue}
-use Rattle.augmented.specs.Pairs.{pairOf}
-use Rattle.augmented.proofs.Second.{first-infinite, second-infinite}
+use Rattle.steps.specs.Steps.{mulValue}
+use Rattle.pairs.specs.Pairs.{pairOf}
+use Rattle.pairs.proofs.Second.{first-infinite, second-infinite}
 use Rattle.errorfree.specs.Comparisons.{same}
 use Rattle.errorfree.specs.Constants.{Roomy}
 use Rattle.errorfree.proofs.Factors.{kappa, minusTwo}

@@ -15,9 +15,9 @@ use Rattle.rounding.proofs.Representable.{rep-zero}
 use Rattle.rounding.proofs.SumError.{sum-error, difference-error}
 use Rattle.rounding.proofs.Sterbenz.{dist-ge, add-ge, add-v, sub-le, sub-v}
 use Rattle.rounding.proofs.TieDown.{error-le}
-use Rattle.binary32.specs.Exact.{plus, finer}
-use Rattle.binary32.specs.Steps.{addValue, subValue}
-use Rattle.binary32.proofs.Sums.{like?, like-eq, unlike-eq, sum-same, sum-left, sum-none}
+use Rattle.steps.specs.Exact.{plus, finer}
+use Rattle.steps.specs.Steps.{addValue, subValue}
+use Rattle.steps.proofs.Sums.{like?, like-eq, unlike-eq, sum-same, sum-left, sum-none}
 use Rattle.errorfree.proofs.Signed.{Is, rel-own, is-shift, dist-shift, rel-other}
 use Rattle.errorfree.proofs.Steps.{toEven, even-at, is-sub}
 use Rattle.errorfree.proofs.Split.{Split}

@@ -16,11 +16,11 @@ use Rattle.rounding.proofs.Representable.{rep-half}
 use Rattle.rounding.proofs.NearLaws.{near-ge}
 use Rattle.rounding.proofs.RoundValue.{round-below, round-above}
 use Rattle.rounding.proofs.Sterbenz.{add-le}
-use Rattle.binary32.specs.Exact.{negate, plus}
-use Rattle.binary32.specs.Steps.{addValue, subValue, mulValue, fmaValue}
-use Rattle.binary32.proofs.Sums.{like-own, sum-same}
-use Rattle.augmented.specs.Pairs.{pairOf}
-use Rattle.augmented.proofs.Second.{first-infinite, second-infinite}
+use Rattle.steps.specs.Exact.{negate, plus}
+use Rattle.steps.specs.Steps.{addValue, subValue, mulValue, fmaValue}
+use Rattle.steps.proofs.Sums.{like-own, sum-same}
+use Rattle.pairs.specs.Pairs.{pairOf}
+use Rattle.pairs.proofs.Second.{first-infinite, second-infinite}
 use Rattle.errorfree.specs.Comparisons.{same}
 use Rattle.errorfree.specs.Constants.{Roomy}
 use Rattle.errorfree.proofs.Factors.{half, kappa, minusTwo}

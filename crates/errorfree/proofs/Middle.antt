@@ -21,10 +21,10 @@ use Rattle.rounding.proofs.RoundValue.{round-below}
 use Rattle.rounding.proofs.Scaled.{rep-up, rounded-rep, rep-shift}
 use Rattle.rounding.proofs.Rescaled.{dist-mul, near0-up, near0-raise}
 use Rattle.rounding.proofs.TieDown.{error-le}
-use Rattle.binary32.specs.Exact.{negate}
-use Rattle.binary32.specs.Steps.{subValue, mulValue, fmaValue}
-use Rattle.augmented.specs.Pairs.{pairOf}
-use Rattle.augmented.proofs.Second.{tail, first-finite}
+use Rattle.steps.specs.Exact.{negate}
+use Rattle.steps.specs.Steps.{subValue, mulValue, fmaValue}
+use Rattle.pairs.specs.Pairs.{pairOf}
+use Rattle.pairs.proofs.Second.{tail, first-finite}
 use Rattle.errorfree.specs.Comparisons.{same}
 use Rattle.errorfree.specs.Constants.{Roomy}
 use Rattle.errorfree.proofs.Factors.{scale, unscale, zero}

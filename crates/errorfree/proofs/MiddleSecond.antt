@@ -22,7 +22,7 @@ use Rattle.rounding.proofs.Even.{half-to-even}
 use Rattle.rounding.proofs.Scaled.{rep-down}
 use Rattle.rounding.proofs.SmallProducts.{rest-down, rest-keep}
 use Rattle.rounding.proofs.TieDown.{dbl}
-use Rattle.binary32.specs.Steps.{subValue, mulValue}
+use Rattle.steps.specs.Steps.{subValue, mulValue}
 use Rattle.errorfree.specs.Comparisons.{same}
 use Rattle.errorfree.proofs.Factors.{scale, unscale}
 use Rattle.errorfree.proofs.Signed.{and-both, Is, rel-own, rel-dist, is-shift, same-eq, eq-same}

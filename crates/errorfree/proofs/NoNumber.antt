@@ -7,9 +7,9 @@ use lib.Dec.{T, eqb}
 use lib.Ieee.{unlike}
 use Rattle.rounding.specs.Format.{Format}
 use Rattle.rounding.specs.Value.{Value, nan, infinite, finite, isFinite, isZero, round, RNe}
-use Rattle.binary32.specs.Exact.{negate, plus, times, finer}
-use Rattle.binary32.specs.Steps.{addValue, subValue, mulValue, fmaValue}
-use Rattle.binary32.proofs.Special.{plus-comm}
+use Rattle.steps.specs.Exact.{negate, plus, times, finer}
+use Rattle.steps.specs.Steps.{addValue, subValue, mulValue, fmaValue}
+use Rattle.steps.proofs.Special.{plus-comm}
 
 -- "is finite" does not hold of a value that is not
 pub not-both : {P : Type 0} → true ≡ false → P

@@ -14,7 +14,7 @@ use Rattle.rounding.proofs.Multiple.{joined}
 use Rattle.rounding.proofs.Rounded.{rounded-near}
 use Rattle.rounding.proofs.Bounds.{rounded-le, rounded-ge}
 use Rattle.rounding.proofs.Rescaled.{near-down}
-use Rattle.binary32.specs.Steps.{mulValue}
+use Rattle.steps.specs.Steps.{mulValue}
 use Rattle.errorfree.proofs.Factors.{unscale}
 use Rattle.errorfree.proofs.Steps.{toEven, round-whole, mul-positive}
 

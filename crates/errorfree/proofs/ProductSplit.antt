@@ -16,8 +16,8 @@ use Rattle.rounding.proofs.Scaled.{rep-down}
 use Rattle.rounding.proofs.Rescaled.{dist-mul, near-up}
 use Rattle.rounding.proofs.ProductError.{product-error}
 use Rattle.rounding.proofs.TieDown.{error-le}
-use Rattle.binary32.specs.Exact.{negate, plus, times, finer}
-use Rattle.binary32.specs.Steps.{fmaValue}
+use Rattle.steps.specs.Exact.{negate, plus, times, finer}
+use Rattle.steps.specs.Steps.{fmaValue}
 use Rattle.errorfree.proofs.Signed.{Rel, Is, rel-own, rel-dist, is-plus, is-shift, rel-other}
 use Rattle.errorfree.proofs.Steps.{toEven, even-at, round-whole}
 use Rattle.errorfree.proofs.Split.{Split}

@@ -18,8 +18,8 @@ use Rattle.rounding.proofs.Rescaled.{near-down}
 use Rattle.rounding.proofs.Sterbenz.{rep-double}
 use Rattle.rounding.proofs.Chosen.{choose-z, choose-a, z-le, z-diff}
 use Rattle.rounding.proofs.TieDown.{error-le}
-use Rattle.binary32.specs.Exact.{negate}
-use Rattle.binary32.specs.Steps.{subValue, mulValue}
+use Rattle.steps.specs.Exact.{negate}
+use Rattle.steps.specs.Steps.{subValue, mulValue}
 use Rattle.errorfree.specs.Comparisons.{same}
 use Rattle.errorfree.specs.Constants.{Roomy, psi, two}
 use Rattle.errorfree.proofs.Signed.{Rel, Is, rel-own, rel-dist, is-negate, is-shift, same-eq, eq-same}

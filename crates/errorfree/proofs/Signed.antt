@@ -9,8 +9,8 @@ use lib.Dec.{T, eqb, eqb→eq, eqb-refl}
 use Rattle.rounding.specs.Nearest.{dist}
 use Rattle.rounding.specs.Value.{Value, nan, infinite, finite}
 use Rattle.rounding.proofs.Compare.{tri}
-use Rattle.binary32.specs.Exact.{negate, plusFinite, plus}
-use Rattle.binary32.proofs.Sums.{like?, like-eq, unlike-eq, sum-same, sum-left, sum-right, sum-none}
+use Rattle.steps.specs.Exact.{negate, plusFinite, plus}
+use Rattle.steps.proofs.Sums.{like?, like-eq, unlike-eq, sum-same, sum-left, sum-right, sum-none}
 use Rattle.errorfree.specs.Comparisons.{same}
 
 -- ---- s * m is the number p - n, where the sign r counts as plus

@@ -16,9 +16,9 @@ use Rattle.rounding.specs.Nearest.{dist, Rep, Near, Near0}
 use Rattle.rounding.specs.Value.{Value, nan, infinite, finite, isZero}
 use Rattle.rounding.proofs.NearLaws.{near-exact, near0-one}
 use Rattle.rounding.proofs.Rescaled.{dist-mul, whole-near}
-use Rattle.binary32.specs.Steps.{mulValue}
-use Rattle.augmented.specs.Pairs.{pairOf}
-use Rattle.augmented.proofs.Second.{head, tail, up, unlike-true, unlike-false, first-finite, pair-second}
+use Rattle.steps.specs.Steps.{mulValue}
+use Rattle.pairs.specs.Pairs.{pairOf}
+use Rattle.pairs.proofs.Second.{head, tail, up, unlike-true, unlike-false, first-finite, pair-second}
 use Rattle.errorfree.proofs.Factors.{zero}
 use Rattle.errorfree.proofs.Signed.{Rel, Is, rel-dist, other-side}
 use Rattle.errorfree.proofs.Steps.{toZero, zero-at, zero-times}

@@ -15,8 +15,8 @@ use Rattle.rounding.proofs.NearLaws.{near-exact}
 use Rattle.rounding.proofs.Representable.{rep-zero}
 use Rattle.rounding.proofs.RoundValue.{round-below}
 use Rattle.rounding.proofs.Rescaled.{whole-near, whole-near0}
-use Rattle.binary32.specs.Exact.{negate, plus, times, finer}
-use Rattle.binary32.specs.Steps.{addValue, subValue, mulValue}
+use Rattle.steps.specs.Exact.{negate, plus, times, finer}
+use Rattle.steps.specs.Steps.{addValue, subValue, mulValue}
 use Rattle.errorfree.proofs.Signed.{Is, rel-dist, is-negate, is-plus}
 
 -- N units of u * u, rounded to the nearest number of the format, in units of u

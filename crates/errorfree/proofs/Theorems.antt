@@ -22,11 +22,11 @@ use Rattle.rounding.proofs.Rescaled.{dist-mul, whole-near}
 use Rattle.rounding.proofs.SumError.{sum-error, difference-error}
 use Rattle.rounding.proofs.Predecessor.{upper, below-add, below-rep, below-best}
 use Rattle.rounding.proofs.Predecessor as predecessor
-use Rattle.binary32.specs.Exact.{negate, plus, times, finer, int}
-use Rattle.binary32.specs.Steps.{addValue, subValue, mulValue, fmaValue}
-use Rattle.binary32.proofs.Integers.{plus-exact}
-use Rattle.augmented.specs.Pairs.{rest, addsUp}
-use Rattle.augmented.proofs.Distance.{int-size}
+use Rattle.steps.specs.Exact.{negate, plus, times, finer, int}
+use Rattle.steps.specs.Steps.{addValue, subValue, mulValue, fmaValue}
+use Rattle.steps.proofs.Integers.{plus-exact}
+use Rattle.pairs.specs.Pairs.{rest, addsUp}
+use Rattle.pairs.proofs.Distance.{int-size}
 use Rattle.errorfree.specs.Comparisons.{same, lessMagnitude}
 use Rattle.errorfree.specs.Constants.{psi}
 use Rattle.errorfree.specs.Theorems as specs

@@ -19,10 +19,10 @@ use Rattle.rounding.proofs.Rounded.{rounded-near, rounded-zero-le}
 use Rattle.rounding.proofs.RoundValue.{round-below}
 use Rattle.rounding.proofs.Scaled.{rounded-rep, rep-shift}
 use Rattle.rounding.proofs.TieDown.{error-le}
-use Rattle.binary32.specs.Exact.{negate, plus, finer}
-use Rattle.binary32.specs.Steps.{addValue, subValue, mulValue, fmaValue}
-use Rattle.binary32.proofs.Sums.{not-like, sum-left}
-use Rattle.augmented.specs.Pairs.{pairOf}
+use Rattle.steps.specs.Exact.{negate, plus, finer}
+use Rattle.steps.specs.Steps.{addValue, subValue, mulValue, fmaValue}
+use Rattle.steps.proofs.Sums.{not-like, sum-left}
+use Rattle.pairs.specs.Pairs.{pairOf}
 use Rattle.errorfree.specs.Comparisons.{same}
 use Rattle.errorfree.specs.Constants.{Roomy}
 use Rattle.errorfree.proofs.Factors.{scale, scaleTwice, zero}

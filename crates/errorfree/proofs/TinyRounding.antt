@@ -21,8 +21,8 @@ use Rattle.rounding.proofs.ProductError.{near-half}
 use Rattle.rounding.proofs.Representable.{rep-zero}
 use Rattle.rounding.proofs.Rounded.{rounded-near, rounded-near0, rounded-zero-le}
 use Rattle.rounding.proofs.TieDown.{dbl, keep-above, keep-below, go-down}
-use Rattle.augmented.specs.Pairs.{pairOf}
-use Rattle.augmented.proofs.Second.{head, tail, up, first-finite, pair-second}
+use Rattle.pairs.specs.Pairs.{pairOf}
+use Rattle.pairs.proofs.Second.{head, tail, up, first-finite, pair-second}
 use Rattle.errorfree.proofs.Steps.{toEven, toZero}
 use Rattle.errorfree.proofs.Powers.{pow-ge-of}
 

@@ -16,8 +16,8 @@ use Rattle.rounding.proofs.Representable.{rep-zero}
 use Rattle.rounding.proofs.RoundValue.{round-below}
 use Rattle.rounding.proofs.SmallProducts.{difference-rep, difference-none, rounded-rest}
 use Rattle.rounding.proofs.Sterbenz.{dist-le}
-use Rattle.binary32.specs.Exact.{plus, finer}
-use Rattle.binary32.specs.Steps.{addValue, subValue}
+use Rattle.steps.specs.Exact.{plus, finer}
+use Rattle.steps.specs.Steps.{addValue, subValue}
 use Rattle.errorfree.specs.Comparisons.{same}
 use Rattle.errorfree.proofs.Signed.{and-both, and-make, Rel, Is, rel-own, rel-dist, is-plus, is-shift, same-eq, eq-same, dist-shift, rel-other, other-side}
 use Rattle.errorfree.proofs.Steps.{toEven, even-at, is-sub}

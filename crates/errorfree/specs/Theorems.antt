@@ -9,9 +9,9 @@ use Rattle.rounding.specs.Format.{Format, binary32, low}
 use Rattle.rounding.specs.Round.{leftOver}
 use Rattle.rounding.specs.Nearest.{dist, Rep}
 use Rattle.rounding.specs.Value.{Value, nan, infinite, finite, Fits, isFinite, RNe, RN0}
-use Rattle.binary32.specs.Exact.{negate, plus, times, finer, int}
-use Rattle.binary32.specs.Steps.{addValue, subValue, mulValue, fmaValue}
-use Rattle.augmented.specs.Pairs.{addsUp}
+use Rattle.steps.specs.Exact.{negate, plus, times, finer, int}
+use Rattle.steps.specs.Steps.{addValue, subValue, mulValue, fmaValue}
+use Rattle.pairs.specs.Pairs.{addsUp}
 use Rattle.errorfree.specs.Comparisons.{same, lessMagnitude}
 use Rattle.errorfree.specs.Constants.{Roomy, psi, two}
 

@@ -1,4 +1,4 @@
--- What the crate's inner functions promise. No public contract cites it. Assumes nothing.
+-- What the inner functions of `nearest` promise. No public contract cites it. Assumes nothing.
 use Prim.Native.Nat.{ℕ, _%_}
 use Rattle.rounding.specs.declared.Ties.{Ties}
 use Rattle.rounding.specs.declared.Ties.the-variants.{ToEven, ToZero}

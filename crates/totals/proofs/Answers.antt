@@ -7,7 +7,7 @@ use borrow.Author.Tests.{eq-eqb, ne-eqb}
 use lib.ListN.{length, replicate}
 use lib.IntN.{_+ℤ_}
 use Rattle.rounding.specs.Format.{binary32}
-use Rattle.augmented.specs.Pairs.{pairOf}
+use Rattle.pairs.specs.Pairs.{pairOf}
 use Rattle.totals.specs.Theorems.{RefusedTerm, AddingRefused, ReadingRefused, Clears}
 use Rattle.totals.specs.Totals.{number, count, totalOf, fit, Term, finiteOperands, exactTerm, whole, refused, done, adding, afterAdding, clearing, afterClearing, exact, pairAnswer, reading}
 

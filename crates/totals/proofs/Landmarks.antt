@@ -6,9 +6,9 @@ use Prim.Native.Nat.{_^_}
 use lib.IntN.{pos, negsuc}
 use Rattle.rounding.specs.Format.{binary32}
 use Rattle.rounding.specs.Value.{Value, fields, magnitude, unsigned, decode}
-use Rattle.binary32.specs.Exact.{times, finer}
-use Rattle.binary32.proofs.Integers.{times-exact, int-scale}
-use Rattle.augmented.proofs.Patterns.{finite-is}
+use Rattle.steps.specs.Exact.{times, finer}
+use Rattle.steps.proofs.Integers.{times-exact, int-scale}
+use Rattle.pairs.proofs.Patterns.{finite-is}
 use Rattle.words.specs.Words.{wordsOf, wordsOfInteger}
 use Rattle.totals.specs.Totals.{whole}
 use Rattle.totals.specs.Theorems.{TotalLandmarks, TermLandmarks, FiniteOperandsAre, PatternTerm, ProductTerm, ExactBack}

@@ -18,7 +18,7 @@ use Rattle.rounding.specs.Format.{binary32}
 use Rattle.rounding.specs.Round.{rounded}
 use Rattle.rounding.specs.Value.{roundFinite}
 use Rattle.rounding.proofs.Sticky.{odd}
-use Rattle.binary32.specs.Inner.{Odd, Jammed}
+use Rattle.steps.specs.Inner.{Odd, Jammed}
 use Rattle.words.specs.Words.{Words, natural}
 use Rattle.totals.specs.Inner.{Leading}
 

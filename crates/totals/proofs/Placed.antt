@@ -9,7 +9,7 @@ use lib.IntN.{pos, _+ℤ_}
 use lib.ListN.{length, take, drop, getD, set, drop-of-length-le, length-append}
 use lib.Pow.{pow-add}
 use lib.Seq.{take-all, take-at, drop-cons, set-split}
-use Rattle.binary32.specs.Exact.{int}
+use Rattle.steps.specs.Exact.{int}
 use Rattle.words.specs.Words.{Words, natural, integer, wordsOfInteger}
 use Rattle.words.proofs.Parts.{part-added}
 use Rattle.words.proofs.TwosComplement.{formed}

@@ -12,13 +12,13 @@ use Rattle.rounding.specs.declared.Ties.the-variants.{ToZero}
 use Rattle.rounding.specs.Format.{binary32, edge}
 use Rattle.rounding.specs.Value.{Value, nan, infinite, finite, decode, isFinite, encode}
 use Rattle.rounding.proofs.RoundValue.{over-edge}
-use Rattle.binary32.specs.Exact.{int, plus, times, finer}
-use Rattle.binary32.specs.Steps.{result}
-use Rattle.binary32.proofs.Integers.{plus-exact}
-use Rattle.binary32.proofs.Result.{result-encode}
-use Rattle.binary32.proofs.Sums.{finer-sum}
-use Rattle.augmented.specs.Pairs.{Halves, pairOf, answer, exactSum, exactProduct, sumPair, productPair}
-use Rattle.augmented.proofs.Second.{first-infinite, second-infinite}
+use Rattle.steps.specs.Exact.{int, plus, times, finer}
+use Rattle.steps.specs.Steps.{result}
+use Rattle.steps.proofs.Integers.{plus-exact}
+use Rattle.steps.proofs.Result.{result-encode}
+use Rattle.steps.proofs.Sums.{finer-sum}
+use Rattle.pairs.specs.Pairs.{Halves, pairOf, answer, exactSum, exactProduct, sumPair, productPair}
+use Rattle.pairs.proofs.Second.{first-infinite, second-infinite}
 use Rattle.totals.specs.Totals.{ofPattern, ofProduct, whole, pair, exact, pairAnswer}
 use Rattle.totals.specs.Columns.{AllFinite, columnSum}
 use Rattle.totals.specs.Theorems.{ReadOverflow, ReadSum, ReadProduct}

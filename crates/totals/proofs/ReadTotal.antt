@@ -14,9 +14,9 @@ use Rattle.rounding.specs.Round.{keep, lastPlace, rounded}
 use Rattle.rounding.specs.Value.{Value, finite, bits, encode, round}
 use Rattle.rounding.proofs.Rounded.{rounded-none, rounded-mono}
 use Rattle.rounding.proofs.RoundValue.{round-fits}
-use Rattle.binary32.specs.Exact.{int}
-use Rattle.augmented.specs.Pairs.{zeroTakes, secondOf, pairOf}
-use Rattle.augmented.proofs.Second.{head, tail, up, tail-le, first-finite, pair-second}
+use Rattle.steps.specs.Exact.{int}
+use Rattle.pairs.specs.Pairs.{zeroTakes, secondOf, pairOf}
+use Rattle.pairs.proofs.Second.{head, tail, up, tail-le, first-finite, pair-second}
 use Rattle.totals.specs.Totals.{number, pair, exact, pairAnswer}
 use Rattle.totals.specs.Columns.{zeros, column}
 use Rattle.totals.specs.Theorems.{ReadFit, ReadColumn, ReadZero, ReadRoundedToZero, ReadFinite}

@@ -15,10 +15,10 @@ use Rattle.rounding.specs.Value.{finite, round, roundFinite, RN0}
 use Rattle.rounding.proofs.Representable.{rep-zero}
 use Rattle.rounding.proofs.Rounded.{rounded-near}
 use Rattle.rounding.proofs.RoundValue.{round-below, round-above, round-finite}
-use Rattle.binary32.specs.Exact.{negate, plus, finer, int}
-use Rattle.binary32.proofs.Integers.{plus-exact}
-use Rattle.binary32.proofs.Sums.{sum-same}
-use Rattle.augmented.specs.Pairs.{rest}
+use Rattle.steps.specs.Exact.{negate, plus, finer, int}
+use Rattle.steps.proofs.Integers.{plus-exact}
+use Rattle.steps.proofs.Sums.{sum-same}
+use Rattle.pairs.specs.Pairs.{rest}
 use Rattle.totals.specs.Totals.{exact}
 
 -- ---- the rest as a whole number

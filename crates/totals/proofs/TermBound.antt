@@ -10,7 +10,7 @@ use lib.Pow.{shl-lt, pow-mono}
 use Rattle.rounding.specs.Format.{binary32, limit}
 use Rattle.rounding.specs.Value.{Value, nan, infinite, finite, Fits, decode, isFinite}
 use Rattle.rounding.proofs.Codec.{decode-fits}
-use Rattle.binary32.specs.Exact.{int, times, finer}
+use Rattle.steps.specs.Exact.{int, times, finer}
 use Rattle.totals.specs.Totals.{Term, ofPattern, ofProduct, finiteOperands, exactTerm, whole}
 
 int-magnitude : (s : Bool) (a : ℕ) → natAbs (int s a) ≡ a

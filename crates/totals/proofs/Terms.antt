@@ -10,7 +10,7 @@ use lib.IntN.{_+ℤ_}
 use lib.ListN.{length}
 use Rattle.rounding.specs.Format.{binary32}
 use Rattle.rounding.specs.Value.{Value, nan, infinite, finite, decode, isFinite}
-use Rattle.binary32.specs.Exact.{int, times, finer}
+use Rattle.steps.specs.Exact.{int, times, finer}
 use Rattle.totals.specs.Totals.{number, count, totalOf, fit, Term, ofPattern, ofProduct, finiteOperands, exactTerm, whole, Answer, refused, done, adding, afterAdding}
 use Rattle.totals.proofs.Answers.{adding-special, adding-full, adding-done, after-refused, after-done}
 

@@ -1,4 +1,4 @@
--- The two patterns of a total's number, by the class of the first: what `of_number` gives. Assumes nothing.
+-- The two patterns of a total's number, by the class of the first: what `halves::of_number` gives. Assumes nothing.
 use mathlib.Core.Path.{_≡_, refl, sym, ap, ap₂, _∙_}
 use mathlib.Core.Bool.{Bool, true, false, not, true≢false}
 use mathlib.Core.List.{List}
@@ -12,14 +12,14 @@ use Rattle.rounding.specs.Format.{binary32}
 use Rattle.rounding.specs.Value.{Value, nan, infinite, finite, Fits, decode, encode, round, isFinite, RN0}
 use Rattle.rounding.proofs.Codec.{decode-encode}
 use Rattle.rounding.proofs.RoundValue.{round-fits}
-use Rattle.binary32.specs.declared.class.Class.{Class}
-use Rattle.binary32.specs.declared.class.Class.the-variants.{Finite}
-use Rattle.binary32.specs.Classes.{classOf, valueOf}
-use Rattle.binary32.specs.Exact.{int}
-use Rattle.binary32.proofs.Classified.{class-value}
-use Rattle.augmented.specs.Half.{zeroPattern}
-use Rattle.augmented.specs.Pairs.{rest, zeroTakes, secondOf, pairOf}
-use Rattle.augmented.proofs.Patterns.{zero-pattern}
+use Rattle.steps.specs.declared.Class.{Class}
+use Rattle.steps.specs.declared.Class.the-variants.{Finite}
+use Rattle.steps.specs.Classes.{classOf, valueOf}
+use Rattle.steps.specs.Exact.{int}
+use Rattle.steps.proofs.Classified.{class-value}
+use Rattle.pairs.specs.Half.{zeroPattern}
+use Rattle.pairs.specs.Pairs.{rest, zeroTakes, secondOf, pairOf}
+use Rattle.pairs.proofs.Patterns.{zero-pattern}
 use Rattle.words.specs.Words.{integer, wordsOfInteger}
 use Rattle.words.proofs.TwosComplement.{held}
 use Rattle.totals.specs.Totals.{pair, exact, pairAnswer}

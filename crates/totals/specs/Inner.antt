@@ -1,8 +1,8 @@
--- What an inner function of `accumulator` promises of a number's digits. No public contract cites it. Assumes nothing.
+-- What `leading::first_digits` promises of a number's digits. No contract of `accumulator` cites it. Assumes nothing.
 use Prim.Native.Nat.{ℕ, _*_, _^_, _≤_}
 use mathlib.Core.Path.{_≡_}
 use mathlib.Core.Logic.{_⊎_}
-use Rattle.binary32.specs.Inner.{Odd}
+use Rattle.steps.specs.Inner.{Odd}
 
 -- The digits sig * 2 ^ exp stand for N: they are N itself, or 33 or more leading digits of it, the last one set to 1 since others follow.
 abbrev pub Leading : ℕ → ℕ → ℕ → Type 0

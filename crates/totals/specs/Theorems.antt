@@ -10,9 +10,9 @@ use lib.ListN.{length, replicate}
 use lib.IntN.{ℤ, pos, negsuc, natAbs, negℤ, _+ℤ_, _*ℤ_}
 use Rattle.rounding.specs.Format.{binary32, edge}
 use Rattle.rounding.specs.Value.{infinite, finite, decode, encode, RN0}
-use Rattle.binary32.specs.Exact.{int}
-use Rattle.augmented.specs.Half.{zeroPattern}
-use Rattle.augmented.specs.Pairs.{pairOf, sumPair, productPair}
+use Rattle.steps.specs.Exact.{int}
+use Rattle.pairs.specs.Half.{zeroPattern}
+use Rattle.pairs.specs.Pairs.{pairOf, sumPair, productPair}
 use Rattle.words.specs.Words.{Words, integer}
 use Rattle.totals.specs.Totals.{number, count, totalOf, fit, Term, ofPattern, ofProduct, finiteOperands, exactTerm, whole, refused, done, pair, adding, afterAdding, clearing, afterClearing, exact, pairAnswer, reading}
 use Rattle.totals.specs.Columns.{zeros, column, Accepted, AllFinite, columnSum}

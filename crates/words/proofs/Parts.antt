@@ -9,7 +9,7 @@ use lib.Dec.{lit<}
 use lib.IntN.{pos, _+ℤ_}
 use lib.ListN.{length, take, drop}
 use lib.Seq.{take-take, drop-drop, getD-drop, length-take-le}
-use Rattle.binary32.specs.Exact.{int}
+use Rattle.steps.specs.Exact.{int}
 use Rattle.words.specs.Words.{Words, natural, integer, wordsOfInteger}
 use Rattle.words.proofs.Carry.{walk, walk-from}
 use Rattle.words.proofs.Signed.{walk-integer}

@@ -7,7 +7,7 @@ use native.Mathlib.Decide.{decLe}
 use native.Mathlib.Omega.{arith}
 use lib.IntN.{ℤ, pos, negsuc, negℤ, subℕ, _+ℤ_}
 use borrow.Author.Tests.{lt-ltb, le-ltb}
-use Rattle.binary32.specs.Exact.{int}
+use Rattle.steps.specs.Exact.{int}
 use Rattle.words.specs.Words.{wordsOf, wordsOfInteger, complement}
 use Rattle.words.proofs.Complements.{words-words, complement-back}
 use Rattle.words.proofs.Carry.{walk}

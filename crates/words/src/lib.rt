@@ -1,10 +1,10 @@
 // The carrying add: a shifted significand goes into words of 32 bits, lowest first.
-use rounding::pick::pick_pattern;
+use pick::pick_pattern;
 ghost use mathlib.Core.Path.{_≡_};
 ghost use Prim.Native.Nat.{_*_, _%_, _^_};
 ghost use lib.ListN.{length};
 ghost use lib.IntN.{pos, _+ℤ_};
-ghost use Rattle.binary32.specs.Exact.{int};
+ghost use Rattle.steps.specs.Exact.{int};
 ghost use Rattle.words.specs.Words.{natural, wordsOfInteger};
 
 // Adds sig * 2^shift to the words' number, or takes it away, the shift taken modulo 32. What goes beyond the last word is lost.

@@ -1,16 +1,16 @@
 use borrow.Author.Needs.{needs}
 use mathlib.Core.Path.{ap, _∙_}
 use Rattle.rounding.specs.Format.{binary32}
-use Rattle.augmented.specs.Pairs.{sumPair, differencePair}
-use Rattle.augmented.proofs.Answered.{none-raised, sum-answer}
+use Rattle.pairs.specs.Pairs.{sumPair, differencePair}
+use Rattle.pairs.proofs.Answered.{none-raised, sum-answer}
 use Rattle.augmented.proofs.difference.Statement.{statement}
 use Rattle.augmented.proofs.difference.Tie as tie
 
 flipped-requires : tie.Need-flipped-requires
 flipped-requires c κs = search needs
 
-halves-requires : tie.Need-halves-requires
-halves-requires c κs = search needs
+of-patterns-requires : tie.Need-of-patterns-requires
+of-patterns-requires c κs = search needs
 
 first-requires : tie.Need-first-requires
 first-requires c κs = search needs
@@ -23,7 +23,7 @@ pair-requires c κs =
     let f = c .before in
     let h = f .before in
     let z = h .before in
-    rw (f .first .ensures) (none-raised (z .before .args .x) (z .flipped .result) _ (h .halves .ensures))
+    rw (f .first .ensures) (none-raised (z .before .args .x) (z .flipped .result) _ (h .of-patterns .ensures))
 
 returns : tie.Need-returns
 unfolding differencePair
@@ -31,7 +31,7 @@ returns c =
     let f = c .before .before in
     let h = f .before in
     let z = h .before in
-    sum-answer (z .before .args .x) (z .flipped .result) _ (h .halves .ensures) _ (c .pair .ensures ∙ rw (f .first .ensures, c .before .second .ensures))
+    sum-answer (z .before .args .x) (z .flipped .result) _ (h .of-patterns .ensures) _ (c .pair .ensures ∙ rw (f .first .ensures, c .before .second .ensures))
     ∙ ap (sumPair binary32 (z .before .args .x)) (z .flipped .ensures)
 
 pub difference-spec : {M : Type 1} → statement M
@@ -39,7 +39,7 @@ difference-spec =
     tie.close
     (tie.spec
     flipped-requires
-    halves-requires
+    of-patterns-requires
     first-requires
     second-requires
     pair-requires

@@ -1,30 +1,12 @@
 use borrow.Author.Needs.{needs}
-use mathlib.Core.Path.{sym, ap₂, _∙_}
-use Rattle.rounding.specs.declared.Ties.the-variants.{ToEven}
-use Rattle.rounding.specs.Format.{binary32}
-use Rattle.rounding.specs.Value.{Value, encode, round}
-use Rattle.binary32.specs.Exact.{plus, finer}
-use Rattle.binary32.specs.Steps.{fmaValue}
-use Rattle.binary32.proofs.Classified.{class-value, class-operand}
-use Rattle.binary32.proofs.Result.{fma-step}
 use Rattle.binary32.proofs.fma.Statement.{statement}
 use Rattle.binary32.proofs.fma.Tie as tie
 
-product-requires : tie.Need-product-requires
-product-requires c κs = search needs
-
-classify-requires : tie.Need-classify-requires
-classify-requires c κs = search needs
-
-product-plus-requires : tie.Need-product-plus-requires
-product-plus-requires c κs = (c .before .product .ensures .bounded, class-operand _ _ (c .classify .ensures))
+of-patterns-requires : tie.Need-of-patterns-requires
+of-patterns-requires c κs = search needs
 
 returns : tie.Need-returns
-unfolding fmaValue
-returns c =
-    c .product-plus .ensures
-    ∙ ap₂ (λ (u v : Value). encode binary32 (round ToEven binary32 (plus u (finer binary32 v)))) (sym (c .before .before .product .ensures .is)) (class-value _ _ (c .before .classify .ensures))
-    ∙ sym (fma-step _ _ _)
+returns c = c .of-patterns .ensures
 
 pub fma-spec : {M : Type 1} → statement M
-fma-spec = tie.close (tie.spec product-requires classify-requires product-plus-requires returns)
+fma-spec = tie.close (tie.spec of-patterns-requires returns)

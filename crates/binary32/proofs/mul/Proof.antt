@@ -3,8 +3,8 @@ use mathlib.Core.Path.{sym, ap, _∙_}
 use Rattle.rounding.specs.declared.Ties.the-variants.{ToEven}
 use Rattle.rounding.specs.Format.{binary32}
 use Rattle.rounding.specs.Value.{Value, encode, round}
-use Rattle.binary32.specs.Steps.{mulValue}
-use Rattle.binary32.proofs.Result.{mul-step}
+use Rattle.steps.specs.Steps.{mulValue}
+use Rattle.steps.proofs.Result.{mul-step}
 use Rattle.binary32.proofs.mul.Statement.{statement}
 use Rattle.binary32.proofs.mul.Tie as tie
 

@@ -2,9 +2,9 @@ use borrow.Author.Needs.{needs}
 use mathlib.Core.Path.{sym, ap, _∙_}
 use Rattle.rounding.specs.Format.{binary32}
 use Rattle.rounding.specs.Value.{Value, encode, decode}
-use Rattle.binary32.specs.Steps.{addValue, subValue}
-use Rattle.binary32.proofs.Classified.{decode-flip}
-use Rattle.binary32.proofs.Result.{sub-step}
+use Rattle.steps.specs.Steps.{addValue, subValue}
+use Rattle.steps.proofs.Classified.{decode-flip}
+use Rattle.steps.proofs.Result.{sub-step}
 use Rattle.binary32.proofs.sub.Statement.{statement}
 use Rattle.binary32.proofs.sub.Tie as tie
 

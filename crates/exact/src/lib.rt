@@ -1,0 +1,49 @@
+// Exact sums and products, before any rounding.
+mod factors;
+
+use operands::classify;
+use pick::pick;
+use pick::pick_sign;
+use steps::Class;
+ghost use mathlib.Core.Path.{_≡_};
+ghost use Prim.Native.Nat.{_*_, _%_, _^_, _<_};
+ghost use Rattle.rounding.specs.Format.{binary32};
+ghost use Rattle.rounding.specs.Value.{finite, decode};
+ghost use Rattle.steps.specs.Exact.{plusFinite, times};
+ghost use Rattle.steps.specs.Unrounded.{ProductIs};
+
+// An exact sum, whose zero has its sign already.
+pub struct Signed {
+    pub sign: bool,
+    pub sig: u64,
+}
+
+// ±m * 2^gap ± n, the gap taken modulo 32. An exact zero has its sign already.
+pub fn sum(s: bool, m: u32, gap: u16, t: bool, n: u32) -> Signed
+    ensures { λ r. ⌜ plusFinite s (m * 2 ^ (gap % 32)) t n ≡ finite (r .sign) (r .sig) ⌝ }
+{
+    signed_sum(s, (m as u64) << (gap % 32), t, n as u64)
+}
+
+// ±a ± b, exactly. Signs are as good as random, so nothing branches on them.
+pub fn signed_sum(s: bool, a: u64, t: bool, b: u64) -> Signed
+    requires { ⌜ (a < 2 ^ 63) × (b < 2 ^ 63) ⌝ }
+    ensures { λ r. ⌜ plusFinite s a t b ≡ finite (r .sign) (r .sig) ⌝ }
+{
+    let above = b < a;
+    let high = pick(above, a, b);
+    let low = pick(above, b, a);
+    // An exact zero is minus only where both addends are.
+    let common = pick_sign(s, t, false);
+    Signed {
+        sign: pick_sign(above, s, pick_sign(a < b, t, common)),
+        sig: pick(s == t, high + low, high - low),
+    }
+}
+
+// The product of two patterns, in units of 2^-298. How significand and exponent share it is free within the bounds of `Product`.
+pub fn product(x: u32, y: u32) -> Class
+    ensures { λ r. ⌜ ProductIs (times (decode binary32 x) (decode binary32 y)) r ⌝ }
+{
+    factors::times(classify(x), classify(y))
+}

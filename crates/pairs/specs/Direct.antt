@@ -1,0 +1,32 @@
+-- The direct pair of any operation, and the flag sets that occur, for statements about all of them. Assumes nothing.
+use Prim.Native.Nat.{ℕ}
+use mathlib.Core.Bool.{true, false}
+use Rattle.rounding.specs.Format.{Format}
+use Rattle.pairs.specs.declared.Flags.{Flags}
+use Rattle.pairs.specs.declared.Pair.{Pair}
+use Rattle.pairs.specs.Pairs.{sumPair, differencePair, productPair}
+
+pub data Operation : Type 0 where
+  sum : Operation
+  difference : Operation
+  product : Operation
+
+-- document 01's "direct pair"
+unfoldable pub directPair : Operation → Format → ℕ → ℕ → Pair
+unfolding sumPair differencePair productPair
+directPair sum = sumPair
+directPair difference = differencePair
+directPair product = productPair
+
+-- `-` ("None otherwise."), I, OX and UX
+abbrev pub none : Flags
+none = record { invalid = false; overflow = false; underflow = false; inexact = false }
+
+abbrev pub I : Flags
+I = record { invalid = true; overflow = false; underflow = false; inexact = false }
+
+abbrev pub OX : Flags
+OX = record { invalid = false; overflow = true; underflow = false; inexact = true }
+
+abbrev pub UX : Flags
+UX = record { invalid = false; overflow = false; underflow = true; inexact = true }

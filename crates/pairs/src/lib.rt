@@ -1,0 +1,17 @@
+// A pair with its flags, as the code hands it back.
+
+// Document 01's I, O, U and X.
+#[repr(C)]
+pub struct Flags {
+    pub invalid: bool,
+    pub overflow: bool,
+    pub underflow: bool,
+    pub inexact: bool,
+}
+
+#[repr(C)]
+pub struct Pair {
+    pub first: u32,
+    pub second: u32,
+    pub flags: Flags,
+}

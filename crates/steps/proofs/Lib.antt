@@ -1,0 +1,13 @@
+pub mod Result
+pub mod Classified
+pub mod Sums
+pub mod Special
+pub mod Near
+pub mod Far
+pub mod Exacts
+pub mod Jam
+pub mod Products
+pub mod Picked
+pub mod Infinities
+pub mod Theorems
+pub mod Integers

@@ -1,15 +1,7 @@
 // Exact totals of up to 65,536 patterns and products of two patterns, in 21 lent words.
-mod fit;
-mod halves;
-mod term;
-
-use binary32::class::Class;
-use binary32::class::classify;
-use binary32::exact;
 ghost use mathlib.Core.Path.{_≡_};
-ghost use mathlib.Core.Bool.{cond};
-ghost use lib.Dec.{eqb};
-ghost use Rattle.totals.specs.Totals.{ofPattern, ofProduct, adding, afterAdding, clearing, afterClearing, reading, refused, done};
+ghost use Rattle.totals.specs.Totals.{ofPattern, ofProduct, adding, afterAdding, clearing, afterClearing, reading};
+ghost use Rattle.term.specs.Inner.{numbered};
 ghost use Rattle.accumulator.specs.Answers.{answerCleared, answerAdded, answerRead};
 
 pub enum Cleared {
@@ -49,59 +41,41 @@ pub fn clear(total: &mut [u32]) -> Cleared
 pub fn add_pattern(total: &mut [u32], x: u32) -> Added
     ensures { λ r. ⌜ (answerAdded r ≡ adding (now (total .entry)) (ofPattern x)) × (now (total .exit) ≡ afterAdding (now (total .entry)) (ofPattern x)) ⌝ }
 {
-    let refusal = fit::refusal(total);
-    if refusal != 0 {
-        return lent_refused(refusal);
-    }
-    let a = classify(x);
-    match a {
-        // A pattern counts 2^-149.
-        Class::Finite { sign, sig, exp } => tried(term::add(total, sign, sig, exp + 149)),
-        Class::Infinite(_) => Added::NotFinite,
-        Class::NotANumber => Added::NotFinite,
-    }
+    named(term::add_pattern(total, x))
 }
 
 pub fn add_product(total: &mut [u32], x: u32, y: u32) -> Added
     ensures { λ r. ⌜ (answerAdded r ≡ adding (now (total .entry)) (ofProduct x y)) × (now (total .exit) ≡ afterAdding (now (total .entry)) (ofProduct x y)) ⌝ }
 {
-    let refusal = fit::refusal(total);
-    if refusal != 0 {
-        return lent_refused(refusal);
-    }
-    let p = exact::product(x, y);
-    match p {
-        Class::Finite { sign, sig, exp } => tried(term::add(total, sign, sig, exp)),
-        Class::Infinite(_) => Added::NotFinite,
-        Class::NotANumber => Added::NotFinite,
-    }
+    named(term::add_product(total, x, y))
 }
 
 pub fn read(total: &[u32]) -> Reading
     ensures { λ r. ⌜ answerRead r ≡ reading (now (total .entry)) ⌝ }
 {
-    match fit::refusal(total) {
-        0 => halves::of_number(halves::copied(total)),
+    let reply = halves::read(total);
+    let refusal = reply.refusal;
+    match refusal {
+        0 => Reading::Pair {
+            first: reply.first,
+            second: reply.second,
+        },
         5 => Reading::Length,
         // 6
         _ => Reading::Unfit,
     }
 }
 
-// What is wrong with the lent words: 5, or else 6.
-fn lent_refused(refusal: u32) -> Added
-    ensures { λ r. ⌜ answerAdded r ≡ cond (eqb refusal 5) (refused 5) (refused 6) ⌝ }
+// The answer by its number.
+fn named(number: u32) -> Added
+    ensures { λ r. ⌜ answerAdded r ≡ numbered number ⌝ }
 {
-    if refusal == 5 {
-        Added::Length
-    } else {
-        Added::Unfit
+    match number {
+        0 => Added::Done,
+        5 => Added::Length,
+        6 => Added::Unfit,
+        7 => Added::NotFinite,
+        // 8
+        _ => Added::Full,
     }
-}
-
-// Whether there was room for a finite term.
-fn tried(room: bool) -> Added
-    ensures { λ r. ⌜ answerAdded r ≡ cond room done (refused 8) ⌝ }
-{
-    if room { Added::Done } else { Added::Full }
 }

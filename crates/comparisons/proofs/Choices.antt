@@ -7,7 +7,7 @@ use native.Mathlib.Omega.{arith}
 use lib.Dec.{leb, eqb}
 use borrow.Author.Tests.{le-leb, lt-leb}
 use Rattle.rounding.specs.Value.{isInfinite}
-use Rattle.augmented.proofs.Patterns.{picked-and}
+use Rattle.pairs.proofs.Patterns.{picked-and}
 use Rattle.emulation.specs.Constants.{twoTo127, twoTo102, twoToMinus102, twoToMinus126}
 use Rattle.emulation.specs.Lines.{value, minus, equal, copySign, zero}
 use Rattle.emulation.specs.Sheets.{atEdge, overflows, tinyTie, restTie}

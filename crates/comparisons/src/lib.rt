@@ -1,7 +1,7 @@
 // Comparisons and choices of the step sheet on binary32 patterns. They make no line. A comparison with NaN fails, and +0 equals -0.
-use binary32::class::flipped;
-use rounding::pick::pick_pattern;
-use rounding::pick::pick_sign;
+use operands::flipped;
+use pick::pick_pattern;
+use pick::pick_sign;
 ghost use mathlib.Core.Path.{_≡_};
 ghost use Rattle.rounding.specs.Value.{isInfinite};
 ghost use Rattle.emulation.specs.Lines.{value, equal, copySign, zero};
@@ -41,10 +41,10 @@ pub fn is_zero(x: u32) -> bool
     x % 0x8000_0000 == 0
 }
 
-pub fn is_infinite(x: u32) -> bool
-    ensures { λ r. ⌜ r ≡ isInfinite (value x) ⌝ }
+pub fn is_infinite(a: u32) -> bool
+    ensures { λ r. ⌜ r ≡ isInfinite (value a) ⌝ }
 {
-    x % 0x8000_0000 == 0x7f80_0000
+    a % 0x8000_0000 == 0x7f80_0000
 }
 
 // The positive constant c with the sign of a.

@@ -8,7 +8,7 @@ use borrow.Author.Tests.{eq-eqb, ne-eqb}
 use lib.ListN.{length, getD}
 use Rattle.question.specs.Questions.{operationOf, allDigits, patternFrom, firstPattern, secondPattern, asked, refused, reading}
 use Rattle.question.specs.declared.digits.Pattern.the-variants.{Value, NoDigit}
-use Rattle.question.specs.Inner.{patternOf}
+use Rattle.question.specs.Inner.{patternOf, patternsRead}
 
 all-digits : (b : Bool) (n x : ℕ) → cond b (Value n) NoDigit ≡ Value x → (b ≡ true) × (n ≡ x)
 all-digits true n x e = (refl, cc)
@@ -42,18 +42,22 @@ module _ (s : List ℕ) (op : ℕ) (full : length s ≡ 21) (is : op ≡ operati
         unfolding reading
         digits-refused b = rw (eq-eqb (length s) 21 full, ne-eqb (operationOf s) 0 (λ z. known (is ∙ z)), eq-eqb (getD s 3 0) 9 tab, eq-eqb (getD s 12 0) 9 tab2, b)
 
-        pub first-refused : patternOf (firstPattern s) ≡ NoDigit → refused 4 ≡ reading s
-        first-refused e = digits-refused (rw (no-digits (allDigits (firstPattern s)) (patternFrom 0 (firstPattern s)) e))
+        pub tabs-passed : patternsRead op s ≡ reading s
+        unfolding reading
+        tabs-passed = rw (eq-eqb (length s) 21 full, ne-eqb (operationOf s) 0 (λ z. known (is ∙ z)), eq-eqb (getD s 3 0) 9 tab, eq-eqb (getD s 12 0) 9 tab2, is)
 
-        module _ (x : ℕ) (first : patternOf (firstPattern s) ≡ Value x) where
-          pub second-refused : patternOf (secondPattern s) ≡ NoDigit → refused 4 ≡ reading s
-          second-refused e =
-              digits-refused
-              (rw (all-digits (allDigits (firstPattern s)) (patternFrom 0 (firstPattern s)) x first .0, no-digits (allDigits (secondPattern s)) (patternFrom 0 (secondPattern s)) e))
+-- ---- the patterns
+module _ (s : List ℕ) (op : ℕ) where
+  pub first-refused : patternOf (firstPattern s) ≡ NoDigit → refused 4 ≡ patternsRead op s
+  first-refused e = rw (no-digits (allDigits (firstPattern s)) (patternFrom 0 (firstPattern s)) e)
 
-          pub taken : (y : ℕ) → patternOf (secondPattern s) ≡ Value y → asked op x y ≡ reading s
-          unfolding reading
-          taken y second =
-              let a = all-digits (allDigits (firstPattern s)) (patternFrom 0 (firstPattern s)) x first in
-              let b = all-digits (allDigits (secondPattern s)) (patternFrom 0 (secondPattern s)) y second in
-              rw (eq-eqb (length s) 21 full, ne-eqb (operationOf s) 0 (λ z. known (is ∙ z)), eq-eqb (getD s 3 0) 9 tab, eq-eqb (getD s 12 0) 9 tab2, a .0, b .0, a .1, b .1, is)
+  module _ (x : ℕ) (first : patternOf (firstPattern s) ≡ Value x) where
+    pub second-refused : patternOf (secondPattern s) ≡ NoDigit → refused 4 ≡ patternsRead op s
+    second-refused e =
+        rw (all-digits (allDigits (firstPattern s)) (patternFrom 0 (firstPattern s)) x first .0, no-digits (allDigits (secondPattern s)) (patternFrom 0 (secondPattern s)) e)
+
+    pub taken : (y : ℕ) → patternOf (secondPattern s) ≡ Value y → asked op x y ≡ patternsRead op s
+    taken y second =
+        let a = all-digits (allDigits (firstPattern s)) (patternFrom 0 (firstPattern s)) x first in
+        let b = all-digits (allDigits (secondPattern s)) (patternFrom 0 (secondPattern s)) y second in
+        rw (a .0, b .0, a .1, b .1)

@@ -1,10 +1,10 @@
 -- What the crate's inner functions promise. No public contract cites it. Assumes nothing.
 use Prim.Native.Nat.{ℕ}
-use mathlib.Core.Bool.{cond}
+use mathlib.Core.Bool.{cond, not, _&&_}
 use mathlib.Core.List.{List}
 use Rattle.question.specs.declared.digits.Pattern.{Pattern}
 use Rattle.question.specs.declared.digits.Pattern.the-variants.{Value, NoDigit}
-use Rattle.question.specs.Questions.{isDigit, digitValue, allDigits, patternFrom}
+use Rattle.question.specs.Questions.{isDigit, digitValue, allDigits, patternFrom, firstPattern, secondPattern, Answer, asked, refused}
 
 -- a digit's value, 16 where the byte is none
 abbrev pub digitOr16 : ℕ → ℕ
@@ -12,3 +12,8 @@ digitOr16 c = cond (isDigit c) (digitValue c) 16
 
 abbrev pub patternOf : List ℕ → Pattern
 patternOf s = cond (allDigits s) (Value (patternFrom 0 s)) NoDigit
+
+-- what is answered where letters and tabs are right
+abbrev pub patternsRead : ℕ → List ℕ → Answer
+patternsRead operation line =
+    cond (not (allDigits (firstPattern line) && allDigits (secondPattern line))) (refused 4) (asked operation (patternFrom 0 (firstPattern line)) (patternFrom 0 (secondPattern line)))

@@ -4,8 +4,10 @@ mod letters;
 
 use digits::Pattern;
 ghost use mathlib.Core.Path.{_≡_};
+ghost use lib.ListN.{length};
 ghost use Rattle.question.specs.Questions.{reading};
 ghost use Rattle.question.specs.Answers.{answerOf};
+ghost use Rattle.question.specs.Inner.{patternsRead};
 
 pub enum Question {
     // 1 sum, 2 difference, 3 product.
@@ -32,6 +34,14 @@ pub fn read(line: &[u8]) -> Question
     if line[12] != 9 {
         return Question::Tab;
     }
+    patterns(operation, line)
+}
+
+// The two patterns of a line whose letters and tabs are right.
+fn patterns(operation: u32, line: &[u8]) -> Question
+    requires { ⌜ length (now line) ≡ 21 ⌝ }
+    ensures { λ r. ⌜ answerOf r ≡ patternsRead operation (now (line .entry)) ⌝ }
+{
     let Pattern::Value(x) = digits::value(&line[4..12]) else {
         return Question::Digit;
     };

@@ -3,15 +3,15 @@ use mathlib.Core.Path.{_≡_}
 use Prim.Native.Nat.{ℕ}
 use borrow.Author.Tests.{ne-eqb}
 use Rattle.rounding.specs.Format.{binary32}
-use Rattle.augmented.specs.declared.Pair.{Pair}
-use Rattle.augmented.specs.Pairs.{sumPair, differencePair, productPair}
-use Rattle.augmented.specs.Direct.{directPair}
+use Rattle.pairs.specs.declared.Pair.{Pair}
+use Rattle.pairs.specs.Pairs.{sumPair, differencePair, productPair}
+use Rattle.pairs.specs.Direct.{directPair}
 use Rattle.emulation.specs.Lines.{minus}
 use Rattle.emulation.specs.Sheets.{sumSheet, productSheet, sheetOf}
 use Rattle.emulation.specs.Filling.{operationOf}
-use Rattle.worksheet.specs.Inner.{Follows}
-use Rattle.worksheet.specs.declared.lines.Foot.{Foot}
-use Rattle.worksheet.proofs.Placed.{Places}
+use Rattle.sheet_lines.specs.Inner.{Follows}
+use Rattle.sheet_lines.specs.declared.Foot.{Foot}
+use Rattle.sheet_lines.proofs.Placed.{Places}
 
 module _ (o x y : ℕ) where
   -- ---- the sheet

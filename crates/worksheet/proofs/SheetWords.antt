@@ -9,17 +9,17 @@ use borrow.Author.Tests.{le-leb}
 use lib.ListN.{length, drop, replicate, length-append}
 use lib.Seq.{set-append-seam, append-snoc}
 use Rattle.rounding.specs.Format.{binary32}
-use Rattle.augmented.specs.declared.Flags.{Flags}
-use Rattle.augmented.specs.Direct.{Operation, directPair}
+use Rattle.pairs.specs.declared.Flags.{Flags}
+use Rattle.pairs.specs.Direct.{Operation, directPair}
 use Rattle.emulation.specs.Lines.{Line}
 use Rattle.emulation.specs.Sheets.{sheetOf}
 use Rattle.emulation.specs.Filling.{isOperation, operationOf, lineWords, wordsOf, sheetWords, Answer, refused, filled, answerOf, filling, afterFilling, HasDirectPair}
 use Rattle.emulation.proofs.Filling.{fills, filled-words}
 use Rattle.emulation.proofs.Theorems.{at-most-13, filling-refused, filled-pair}
-use Rattle.worksheet.specs.Inner.{placed, Follows, flat}
-use Rattle.worksheet.specs.declared.lines.Foot.{Foot}
-use Rattle.worksheet.proofs.Placed.{Places}
-use Rattle.worksheet.proofs.Copied.{flat-snoc}
+use Rattle.sheet_lines.specs.Inner.{placed, Follows, flat}
+use Rattle.sheet_lines.specs.declared.Foot.{Foot}
+use Rattle.sheet_lines.proofs.Placed.{Places}
+use Rattle.sheet_lines.proofs.Copied.{flat-snoc}
 
 -- ---- words
 abbrev pub blank : ℕ → Places

@@ -1,22 +1,18 @@
 // The step sheet of a question in 65 lent words. Each result on a line is a rounding step's.
-mod blocks;
-mod constants;
-mod lines;
-mod products;
-mod sums;
-
-use crate::lines::Foot;
-use crate::lines::Places;
-use augmented::Flags;
-use augmented::Pair;
-use binary32::class::flipped;
+use operands::flipped;
+use pairs::Flags;
+use pairs::Pair;
+use sheet_lines::Foot;
+use sheet_lines::Places;
 ghost use mathlib.Core.Path.{_≡_};
+ghost use Prim.Native.Nat.{_≤_};
+ghost use lib.ListN.{length};
 ghost use Rattle.rounding.specs.Format.{binary32};
-ghost use Rattle.augmented.specs.Direct.{directPair};
+ghost use Rattle.pairs.specs.Direct.{directPair};
 ghost use Rattle.emulation.specs.Sheets.{sheetOf};
 ghost use Rattle.emulation.specs.Filling.{operationOf, filling, afterFilling, HasDirectPair};
 ghost use Rattle.worksheet.specs.Answers.{answerFilled};
-ghost use Rattle.worksheet.specs.Inner.{Follows};
+ghost use Rattle.sheet_lines.specs.Inner.{Follows};
 
 pub enum Filled {
     Sheet { lines: u32, pair: Pair },
@@ -37,28 +33,44 @@ pub fn fill(operation: u32, x: u32, y: u32, words: &mut [u32]) -> Filled
     if words.len() < 65 {
         return Filled::Words;
     }
+    written(operation, x, y, words)
+}
+
+// The lines are made in places of their own, and copied when they are all there.
+fn written(operation: u32, x: u32, y: u32, words: &mut [u32]) -> Filled
+    requires { ⌜ (1 ≤ operation) × (operation ≤ 3) × (65 ≤ length (now words)) ⌝ }
+    ensures { λ r. ⌜ (answerFilled r ≡ filling operation x y (now (words .entry))) × (now (words .exit) ≡ afterFilling operation x y (now (words .entry))) × HasDirectPair operation x y (answerFilled r) ⌝ }
+{
     let mut lines = [[0u32; 5]; 13];
     let foot = sheet(&mut lines, operation, x, y);
-    lines::copy_out(lines, words);
+    sheet_lines::copy_out(lines, words);
     let pair = Pair {
         first: foot.first,
         second: foot.second,
         flags: flags(operation, x, y),
     };
     Filled::Sheet {
-        lines: foot.next as u32,
+        lines: counted(foot.next),
         pair,
     }
+}
+
+// A sheet has at most 13 lines.
+fn counted(next: usize) -> u32
+    requires { ⌜ next ≤ 13 ⌝ }
+    ensures { λ r. ⌜ r ≡ next ⌝ }
+{
+    next as u32
 }
 
 fn sheet(lines: &mut Places, operation: u32, x: u32, y: u32) -> Foot
     ensures { λ r. ⌜ Follows (now (lines .entry)) (now (lines .exit)) 0 (sheetOf (operationOf operation) x y) r ⌝ }
 {
     match operation {
-        1 => sums::sum(lines, x, y),
-        2 => sums::sum(lines, x, flipped(y)),
+        1 => sheet_sums::sum(lines, x, y),
+        2 => sheet_sums::sum(lines, x, flipped(y)),
         // 3
-        _ => products::product(lines, x, y),
+        _ => sheet_products::product(lines, x, y),
     }
 }
 

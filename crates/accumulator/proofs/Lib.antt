@@ -1,4 +1,0 @@
-pub mod Arrays
-pub mod Turned
-pub mod Scaled
-pub mod Lent

@@ -1,0 +1,14 @@
+-- The numbers that answers go by inside the library. No public contract of `accumulator` cites it. Assumes nothing.
+use Prim.Native.Nat.{ℕ}
+use mathlib.Core.Bool.{Bool, not, cond}
+use mathlib.Core.List.{List}
+use lib.Dec.{eqb}
+use Rattle.totals.specs.Totals.{count, Answer, refused, done}
+
+-- what a number says: 0 that the term was added, 5 to 8 a refusal
+abbrev pub numbered : ℕ → Answer
+numbered n = cond (eqb n 0) done (cond (eqb n 5) (refused 5) (cond (eqb n 6) (refused 6) (cond (eqb n 7) (refused 7) (refused 8))))
+
+-- one term more can be counted
+abbrev pub hasRoom : List ℕ → Bool
+hasRoom t = not (eqb (count t) 65536)

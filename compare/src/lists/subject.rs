@@ -95,7 +95,8 @@ pub struct Library;
 mod exported {
     use super::Sheet;
 
-    // The archive that `rt staticlib exports` makes defines these. A slice is its address and its length.
+    // The archive that `rt staticlib exports_sheets` makes defines these. A slice is its address
+    // and its length.
     extern "C" {
         pub fn jirmeklo_fill(operation: u32, x: u32, y: u32, words: *mut u32, length: usize) -> Sheet;
         pub fn jirmeklo_replay(

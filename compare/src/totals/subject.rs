@@ -4,7 +4,8 @@ use super::call::{Call, Reading};
 mod exported {
     use crate::totals::call::Reading;
 
-    // The archive that `rt staticlib exports` makes defines these. A slice is its address and its length.
+    // The archive that `rt staticlib exports_totals` makes defines these. A slice is its address
+    // and its length.
     extern "C" {
         pub fn jirmeklo_clear(total: *mut u32, length: usize) -> u32;
         pub fn jirmeklo_add_pattern(total: *mut u32, length: usize, x: u32) -> u32;

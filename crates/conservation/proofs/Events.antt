@@ -8,9 +8,9 @@ use lib.ListN.{length, take, drop, getD, drop-of-length-le}
 use lib.Seq.{drop-cons}
 use Rattle.words.specs.Words.{Words}
 use Rattle.emulation.specs.Filling.{afterFilling}
-use Rattle.conservation.specs.Lists.{Question, asked, Totals, run, questions}
+use Rattle.lists.specs.Lists.{Question, asked, Totals, run, questions}
 use Rattle.conservation.specs.Replay.{eventsOf, wordsAfter}
-use Rattle.conservation.specs.Theorems.{Allowed}
+use Rattle.lists.specs.Theorems.{Allowed}
 
 -- ---- as many questions as operation numbers
 pub questions-of : (os xs ys counts words : List ℕ) → length xs ≡ length os → length ys ≡ length os → length counts ≡ length os → questions (eventsOf os xs ys counts words) ≡ length os

@@ -1,9 +1,5 @@
-pub mod Operands
-pub mod Entering
-pub mod Conservation
 pub mod Events
 pub mod Misfits
-pub mod Settled
 pub mod Refusals
 pub mod Theorems
 pub mod Outcome

@@ -12,7 +12,7 @@ use lib.Seq.{drop-cons}
 use Rattle.totals.specs.Totals.{afterClearing}
 use Rattle.totals.proofs.Answers.{clearing-done}
 use Rattle.conservation.specs.Replay.{allZero, isCleared, allWithin, Answer, refused, done, replaying, isDone}
-use Rattle.conservation.proofs.Operands.{both}
+use Rattle.lists.proofs.Operands.{both}
 
 -- ---- zeros, word by word
 module _ (ws : List ℕ) (i : ℕ) (inside : i < length ws) where

@@ -5,9 +5,10 @@ use mathlib.Core.List.{List}
 use Prim.Native.Nat.{ℕ}
 use lib.ListN.{length}
 use Rattle.words.specs.Words.{Words}
-use Rattle.conservation.specs.Lists.{Totals, Event, run}
+use Rattle.lists.specs.Lists.{Totals, Event, run}
 use Rattle.conservation.specs.Replay.{eventsOf, wordsAfter, allWithin, Answer, refused, done, replaying, isDone, totalsAfter, wordsLeft}
-use Rattle.conservation.specs.Theorems.{Holds, Conserves}
+use Rattle.lists.specs.Theorems.{Holds}
+use Rattle.conservation.specs.Theorems.{Conserves}
 use Rattle.conservation.proofs.Misfits.{fits, is-done}
 use Rattle.conservation.proofs.Theorems.{replayed}
 

@@ -1,4 +1,3 @@
-pub mod Lists
 pub mod Replay
 pub mod Answers
 pub mod Theorems

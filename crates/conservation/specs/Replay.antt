@@ -6,7 +6,7 @@ use mathlib.Core.List.{List, [], _∷_, _++_}
 use lib.Dec.{eqb, leb, ltb}
 use lib.ListN.{length, take, drop}
 use Rattle.emulation.specs.Filling.{afterFilling}
-use Rattle.conservation.specs.Lists.{Totals, Event, asks, run}
+use Rattle.lists.specs.Lists.{Totals, Event, asks, run}
 
 -- ---- the questions: the ith has the ith operation number and patterns, and the first counts[i] of the lent words. These are as the last question
 -- left them, and each sheet is written over the one before it: of the words a question's answer depends on their number alone.

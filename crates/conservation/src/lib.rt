@@ -1,12 +1,11 @@
 // A list of questions over two totals: one is given the feet of their sheets, the other the terms set.
 mod fitting;
-mod question;
 
 ghost use mathlib.Core.Path.{_≡_};
 ghost use mathlib.Core.Bool.{true};
 ghost use lib.ListN.{length};
 ghost use Rattle.conservation.specs.Answers.{answerReplayed};
-ghost use Rattle.conservation.specs.Lists.{run};
+ghost use Rattle.lists.specs.Lists.{run};
 ghost use Rattle.conservation.specs.Replay.{eventsOf, wordsAfter, allWithin, replaying, totalsAfter, wordsLeft};
 ghost use Rattle.conservation.specs.Theorems.{Conserves};
 
@@ -62,11 +61,8 @@ fn ask_all(
 {
     let mut i: usize = 0;
     while i < operations.len() {
-        let operation = operations[i];
-        let x = xs[i];
-        let y = ys[i];
         let n = counts[i] as usize;
-        question::settle(operation, x, y, &mut words[..n], first, second);
+        settling::settle(operations[i], xs[i], ys[i], &mut words[..n], first, second);
         i += 1;
     }
 }

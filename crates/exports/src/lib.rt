@@ -1,12 +1,9 @@
-// The steps, pairs, totals and sheets for programs in C and Rust.
-pub mod columns;
-pub mod sheets;
-
-use augmented::Pair;
+// The steps and pairs for programs in C and Rust.
+use pairs::Pair;
 ghost use mathlib.Core.Path.{_≡_};
 ghost use Rattle.rounding.specs.Format.{binary32};
-ghost use Rattle.binary32.specs.Steps.{addStep, subStep, mulStep, fmaStep};
-ghost use Rattle.augmented.specs.Pairs.{sumPair, differencePair, productPair};
+ghost use Rattle.steps.specs.Steps.{addStep, subStep, mulStep, fmaStep};
+ghost use Rattle.pairs.specs.Pairs.{sumPair, differencePair, productPair};
 
 #[no_mangle]
 pub extern "C" fn jirmeklo_add(x: u32, y: u32) -> u32

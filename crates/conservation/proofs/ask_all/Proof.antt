@@ -4,7 +4,7 @@ use Prim.Native.Nat.{_-_, _≤_}
 use native.Mathlib.Omega.{arith}
 use lib.ListN.{getD, length}
 use lib.Seq.{length-take-le, length-front}
-use Rattle.conservation.specs.Lists.{Totals}
+use Rattle.lists.specs.Lists.{Totals}
 use Rattle.conservation.proofs.Events.{totalsFrom, wordsFrom, nothing-left, next-question}
 use Rattle.conservation.proofs.Misfits.{within-at}
 use Rattle.conservation.proofs.ask_all.Statement.{statement}
@@ -22,24 +22,6 @@ abbrev μ-loop : tie.MeasureT-loop
 loop-holds : tie.Need-loop-holds Inv-loop μ-loop
 loop-holds c = (omega arith, refl, refl, refl, refl, refl)
 
-mul-operation : tie.Need-mul-operation Inv-loop μ-loop
-mul-operation c = search needs
-
-shared-slice-read-operation : tie.Need-shared-slice-read-operation Inv-loop μ-loop
-shared-slice-read-operation c = search needs
-
-mul-x : tie.Need-mul-x Inv-loop μ-loop
-mul-x c = search needs
-
-shared-slice-read-x : tie.Need-shared-slice-read-x Inv-loop μ-loop
-shared-slice-read-x c = search needs
-
-mul-y : tie.Need-mul-y Inv-loop μ-loop
-mul-y c = search needs
-
-shared-slice-read-y : tie.Need-shared-slice-read-y Inv-loop μ-loop
-shared-slice-read-y c = search needs
-
 mul-n : tie.Need-mul-n Inv-loop μ-loop
 mul-n c = search needs
 
@@ -47,7 +29,25 @@ shared-slice-read-n : tie.Need-shared-slice-read-n Inv-loop μ-loop
 shared-slice-read-n c = search needs
 
 cast-n : tie.Need-cast-n Inv-loop μ-loop
-cast-n c = let w = c .shared-slice-known8 .given (c .before .before .before .before .before .loop .i) .fits in omega arith
+cast-n c = let w = c .shared-slice-known5 .given (c .before .before .loop .i) .fits in omega arith
+
+mul-settle : tie.Need-mul-settle Inv-loop μ-loop
+mul-settle c = search needs
+
+shared-slice-read-settle : tie.Need-shared-slice-read-settle Inv-loop μ-loop
+shared-slice-read-settle c = search needs
+
+mul-settle-2 : tie.Need-mul-settle-2 Inv-loop μ-loop
+mul-settle-2 c = search needs
+
+shared-slice-read-settle-2 : tie.Need-shared-slice-read-settle-2 Inv-loop μ-loop
+shared-slice-read-settle-2 c = search needs
+
+mul-settle-3 : tie.Need-mul-settle-3 Inv-loop μ-loop
+mul-settle-3 c = search needs
+
+shared-slice-read-settle-3 : tie.Need-shared-slice-read-settle-3 Inv-loop μ-loop
+shared-slice-read-settle-3 c = search needs
 
 slice-relend-prefix-settle : tie.Need-slice-relend-prefix-settle Inv-loop μ-loop
 slice-relend-prefix-settle c =
@@ -108,15 +108,15 @@ ask-all-spec =
     Inv-loop
     μ-loop
     loop-holds
-    mul-operation
-    shared-slice-read-operation
-    mul-x
-    shared-slice-read-x
-    mul-y
-    shared-slice-read-y
     mul-n
     shared-slice-read-n
     cast-n
+    mul-settle
+    shared-slice-read-settle
+    mul-settle-2
+    shared-slice-read-settle-2
+    mul-settle-3
+    shared-slice-read-settle-3
     slice-relend-prefix-settle
     slice-aggregate-settle
     settle-requires

@@ -1,0 +1,5 @@
+pub mod Operands
+pub mod Entering
+pub mod Conservation
+pub mod Settled
+pub mod Theorems

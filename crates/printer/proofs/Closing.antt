@@ -1,62 +1,65 @@
 -- The end of the input: the open line and the last two lines. Assumes nothing.
 use mathlib.Core.Path.{_≡_, refl, sym, ap, _∙_, subst}
-use mathlib.Core.Bool.{true≢false, Bool, true, false, not, cond, _||_}
-use mathlib.Core.List.{List, [], _++_}
+use mathlib.Core.Logic.{inl, inr}
+use mathlib.Core.Bool.{true≢false, Bool, true, false}
+use mathlib.Core.List.{List, [], _∷_, _++_}
 use Prim.Native.Nat.{ℕ, suc, _+_, _-_, _≤_, _<_}
 use native.Mathlib.Nat.{le-trans, le-of-eq}
 use native.Mathlib.Omega.{arith}
 use borrow.Author.Tests.{ne-eqb}
 use borrow.Rule.Slice.PartAt.{part-to-end}
+use denote.Enum.Declared.{tagOf}
+use types.Run.{OneOf, miss}
 use lib.Dec.{eqb}
 use lib.ListN.{length, take, drop, length-append, length-drop}
 use Rattle.question.specs.Questions.{reading}
-use Rattle.totals.specs.Totals.{Answer, refused, done, pair}
+use Rattle.totals.specs.Totals.{Answer, refused, pair}
 use Rattle.totals.specs.Totals.{reading as readTotal}
-use Rattle.transcript.specs.Texts.{totalText, endText, written, afterWriting}
-use Rattle.transcript.proofs.DecimalLaws.{decimal-most}
-use Rattle.transcript.proofs.TextLengths.{counts-length}
-use Rattle.printer.specs.Printed.{Progress, lineText, afterLine, readText, closingText}
-use Rattle.printer.specs.States.{State, lastLine, lastText, closeText}
-use Rattle.printer.specs.Places.{sound, stateOf, Starts, Ends}
-use Rattle.printer.specs.Inner.{Runs, progressOf, LineEnds, LastLine}
-use Rattle.printer.specs.declared.Place.{Place}
-use Rattle.printer.specs.declared.step.Step.{Step}
-use Rattle.printer.proofs.Answered.{line-most}
-use Rattle.printer.proofs.Bytes.{nothing-after-stop}
-use Rattle.printer.proofs.Placed.{going-on}
+use Rattle.accumulator.specs.Answers.{answerRead}
+use Rattle.accumulator.specs.declared.Reading.{Reading}
+use Rattle.accumulator.specs.declared.Reading.the-variants as the-reading
+use Rattle.accumulator.proofs.Reading as reading-type
+use Rattle.texts.specs.Texts.{totalText, endText, written, afterWriting}
+use Rattle.answers.specs.Answers.{Writes}
+use Rattle.answers.proofs.Answering.{nothing as writes-nothing}
+use Rattle.printed.specs.Printed.{Progress, lineText, afterLine, readText, closingText}
+use Rattle.printed.specs.States.{State, lastLine, lastText, closeText}
+use Rattle.places.specs.Places.{stateOf, readyFor, Runs, progressOf}
+use Rattle.printer.specs.Calls.{Starts, Ends}
+use Rattle.printer.specs.Inner.{LineEnds, LastLine}
+use Rattle.places.specs.declared.Place.{Place}
+use Rattle.printer.specs.declared.Next.{Next}
+use Rattle.printed.proofs.Lengths.{last-most, end-most, read-most, closing-most}
+use Rattle.printed.proofs.Bytes.{nothing-after-stop}
+use Rattle.places.proofs.Placed.{not-ready, halted, going-on}
 use Rattle.printer.proofs.Starting.{nothing, wrote, as-long, after-part}
 use Rattle.printer.proofs.Stepped.{ends-soundly}
 
 -- ---- the total
-pub total-written : (first second : ℕ) (a : Answer) (out : List ℕ) (n : ℕ) (out' : List ℕ) → pair first second ≡ a → 60 ≤ length out → n ≡ written out (totalText first second) → out' ≡ afterWriting out (totalText first second)
-    → (n ≤ 24) × Starts out (readText a) n out'
-unfolding totalText
-total-written first second a out n out' e h w v =
-    let s : Starts out (totalText first second) n out' = wrote out (totalText first second) n out' (omega arith) w v in
-    subst (λ (b : Answer). (n ≤ 24) × Starts out (readText b) n out') e (le-of-eq (s .0), s)
+not-read : (r : Reading) → OneOf (1 ∷ 2 ∷ []) (tagOf reading-type.the-type r) → (k : ℕ) × (answerRead r ≡ refused k)
+not-read (the-reading.Pair first second) h = absurd (miss (1 ∷ 2 ∷ []) 0 tt h)
+not-read the-reading.Length h = (5, refl)
+not-read the-reading.Unfit h = (6, refl)
 
-pub no-total : (k : ℕ) (a : Answer) (out : List ℕ) → refused k ≡ a → (0 ≤ 24) × Starts out (readText a) 0 out
-no-total k a out e = subst (λ (b : Answer). (0 ≤ 24) × Starts out (readText b) 0 out) e (omega arith, nothing out)
+pub total-written : (first second : ℕ) (a : Answer) (out : List ℕ) (n : ℕ) (out' : List ℕ) → pair first second ≡ a → Writes out (totalText first second) n out' → Writes out (readText a) n out'
+total-written first second a out n out' e w = subst (λ (b : Answer). Writes out (readText b) n out') e w
+
+pub no-total : (r : Reading) (a : Answer) (out : List ℕ) → OneOf (1 ∷ 2 ∷ []) (tagOf reading-type.the-type r) → answerRead r ≡ a → Writes out (readText a) 0 out
+no-total r a out h e = let k = not-read r h in subst (λ (b : Answer). Writes out (readText b) 0 out) (sym (k .1) ∙ e) (writes-nothing out)
 
 -- ---- the last two lines
-end-most : (good bad : ℕ) → length (endText good bad) ≤ 26
-unfolding endText
-end-most good bad = omega (arith, counts-length good bad, decimal-most good, decimal-most bad)
+module _ (p : Progress) (out : List ℕ) (n : ℕ) (out₁ : List ℕ) (total : Writes out (readText (readTotal (p .total))) n out₁) (room : 60 ≤ length out) where
+  first : (n ≤ 24) × Starts out (readText (readTotal (p .total))) n out₁
+  first =
+      let m : length (readText (readTotal (p .total))) ≤ 24 = read-most (readTotal (p .total)) in
+      let s = wrote out (readText (readTotal (p .total))) n out₁ (le-trans m (omega arith)) (total .0) (total .1) in
+      (le-trans (le-of-eq (s .0)) m, s)
 
-read-most : (a : Answer) → length (readText a) ≤ 24
-unfolding totalText
-read-most (pair first second) = omega arith
-read-most done = omega arith
-read-most (refused k) = omega arith
-
-closing-most : (p : Progress) → length (closingText p) ≤ 50
-unfolding closingText
-closing-most p =
-    omega (arith, length-append (readText (readTotal (p .total))) (endText (p .good) (p .lines - p .good)), read-most (readTotal (p .total)), end-most (p .good) (p .lines - p .good))
-
-module _ (p : Progress) (out : List ℕ) (n : ℕ) (out₁ : List ℕ) (first : (n ≤ 24) × Starts out (readText (readTotal (p .total))) n out₁) (room : 60 ≤ length out) where
   first-long : length out₁ ≡ length out
   first-long = as-long out (readText (readTotal (p .total))) n out₁ (first .1) (le-trans (le-of-eq (sym (first .1 .0))) (le-trans (first .0) (omega arith)))
+
+  pub total-short : n ≤ length out₁
+  total-short = omega (arith, first .0, first-long)
 
   module _ (m : ℕ) (part : List ℕ) (w : m ≡ written (take (length out₁ - n) (drop n out₁)) (endText (p .good) (p .lines - p .good)))
       (v : part ≡ afterWriting (take (length out₁ - n) (drop n out₁)) (endText (p .good) (p .lines - p .good))) where
@@ -90,7 +93,7 @@ module _ (p : Place) (line total : List ℕ) (r : Runs p) (out : List ℕ) where
       subst (λ (s : State). LastLine s out (progressOf p total) 0 out) (sym (going-on p line total r))
       (no-open-line (record { progress = progressOf p total; begun = take (p .length) line; stopped = false }) out (ap (λ (n : ℕ). take n line) e) (r .good))
 
-  pub one-open : (s : Step) (total' out' : List ℕ) → (p .length ≡ 0 → ⊥) → LineEnds p (take (p .length) line) total total' out s (suc (p .lines)) out' → LastLine (stateOf p line total) out (progressOf (s .place) total') (s .written) out'
+  pub one-open : (s : Next) (total' out' : List ℕ) → (p .length ≡ 0 → ⊥) → LineEnds p (take (p .length) line) total total' out s (suc (p .lines)) out' → LastLine (stateOf p line total) out (progressOf (s .place) total') (s .written) out'
   one-open s total' out' e h =
       subst (λ (q : State). LastLine q out (progressOf (s .place) total') (s .written) out') (sym (going-on p line total r))
       (
@@ -99,31 +102,32 @@ module _ (p : Place) (line total : List ℕ) (r : Runs p) (out : List ℕ) where
       )
 
 -- ---- the end of the input
-last-most : (s : State) → length (lastText s) ≤ 680
-last-most s = go (eqb (length (s .begun)) 0)
-  where
-    go : (b : Bool) → length (cond b [] (lineText (suc (s .progress .lines)) (reading (s .begun)))) ≤ 680
-    go true = omega arith
-    go false = line-most (suc (s .progress .lines)) (reading (s .begun))
+same-total : (p : Place) (line total : List ℕ) → total ≡ stateOf p line total .progress .total
+unfolding stateOf
+same-total p line total = refl
 
 module _ (p : Place) (line total : List ℕ) (out : List ℕ) where
-  pub ends-short : length out < 740 → Ends (stateOf p line total) out 0 total out
-  unfolding stateOf
-  ends-short h = record {
-    text = λ k. absurd (omega (arith, h, k));
-    total = λ k e. absurd (omega (arith, h, k));
-    short = λ k. (refl, refl, refl);
-    stopped = λ e. (refl, refl, refl);
-  }
+  abbrev same : total ≡ stateOf p line total .progress .total
+  same = same-total p line total
 
-  pub ends-stopped : p .stopped || not (sound p) ≡ true → Ends (stateOf p line total) out 0 total out
-  unfolding stateOf
-  ends-stopped e = record {
-    text = λ k. subst (λ (t : List ℕ). Starts out t 0 out) (sym (nothing-after-stop (stateOf p line total) [] e .2)) (nothing out);
-    total = λ k f. absurd (true≢false (sym e ∙ f));
-    short = λ k. (refl, refl, refl);
-    stopped = λ f. (refl, refl, refl);
-  }
+  pub ends-early : (r : Bool) → r ≡ readyFor p (length out) 740 → r ≡ false → Ends (stateOf p line total) out 0 total out
+  ends-early r is e = elim (not-ready p (length out) 740 r is e) [ inl a ↦ ends-short a | inr a ↦ ends-stopped (halted p line total a) ]
+    where
+      ends-short : length out < 740 → Ends (stateOf p line total) out 0 total out
+      ends-short h = record {
+        text = λ k. absurd (omega (arith, h, k));
+        total = λ k e. absurd (omega (arith, h, k));
+        short = λ k. (refl, refl, same);
+        stopped = λ e. (refl, refl, same);
+      }
+
+      ends-stopped : stateOf p line total .stopped ≡ true → Ends (stateOf p line total) out 0 total out
+      ends-stopped f = record {
+        text = λ k. subst (λ (t : List ℕ). Starts out t 0 out) (sym (nothing-after-stop (stateOf p line total) [] f .2)) (nothing out);
+        total = λ k g. absurd (true≢false (sym f ∙ g));
+        short = λ k. (refl, refl, same);
+        stopped = λ g. (refl, refl, same);
+      }
 
 closed : (s : State) → s .stopped ≡ false → closeText s ≡ lastText s ++ closingText (lastLine s)
 unfolding closeText

@@ -1,11 +1,4 @@
-pub mod Lines
-pub mod Bytes
-pub mod Totals
-pub mod Theorems
 pub mod Starting
-pub mod Extended
-pub mod Placed
-pub mod Answered
 pub mod Stepped
 pub mod Feeding
 pub mod Closing

@@ -7,8 +7,8 @@ use borrow.Author.Tests.{le-leb}
 use borrow.Rule.Slice.PartAt.{part-to-end}
 use lib.ListN.{length, take, drop, length-append, length-drop}
 use lib.Seq.{take-at, drop-at, drop-drop, drop-length}
-use Rattle.transcript.specs.Texts.{written, afterWriting}
-use Rattle.printer.specs.Places.{Starts}
+use Rattle.texts.specs.Texts.{written, afterWriting}
+use Rattle.printer.specs.Calls.{Starts}
 
 -- no text
 pub nothing : (out : List ℕ) → Starts out [] 0 out

@@ -5,66 +5,62 @@ use mathlib.Core.Bool.{Bool, true, false, cond}
 use mathlib.Core.List.{List, [], _∷_, _++_}
 use Prim.Native.Nat.{ℕ, suc, _+_, _≤_, _<_}
 use native.Mathlib.Decide.{decLe}
+use native.Mathlib.Nat.{le-trans}
 use native.Mathlib.Omega.{arith}
 use native.Mathlib.Numerals.{add-one}
-use lib.ListN.{length, take, set}
+use lib.ListN.{length, take}
 use lib.Seq.{length-take-le}
 use Rattle.question.specs.Questions.{Answer, reading}
-use Rattle.transcript.specs.Texts.{stopText}
-use Rattle.printer.specs.Printed.{Progress, lineText, isGood, afterLine}
-use Rattle.printer.specs.States.{State, stop, extend}
-use Rattle.printer.specs.Places.{stateOf, Starts}
-use Rattle.printer.specs.Inner.{Runs, progressOf, Answers, Steps, LineEnds}
-use Rattle.printer.specs.declared.Place.{Place}
-use Rattle.printer.specs.declared.line.Answered.{Answered}
-use Rattle.printer.specs.declared.step.Step.{Step}
-use Rattle.printer.proofs.Extended.{one-more-byte, byte-dropped}
-use Rattle.printer.proofs.Placed.{going-on, at-stop, at-end, at-other}
+use Rattle.texts.specs.Texts.{stopText}
+use Rattle.printed.specs.Printed.{Progress, lineText, isGood, afterLine}
+use Rattle.printed.specs.States.{State, longer, stop, extend}
+use Rattle.printed.proofs.Lengths.{line-most}
+use Rattle.answers.specs.Answers.{Answers}
+use Rattle.answers.specs.declared.Answered.{Answered}
+use Rattle.places.specs.Places.{stateOf, Runs, progressOf}
+use Rattle.printer.specs.Calls.{Starts}
+use Rattle.printer.specs.Inner.{Steps, LineEnds}
+use Rattle.places.specs.declared.Place.{Place}
+use Rattle.printer.specs.declared.Next.{Next}
+use Rattle.printer.proofs.Starting.{wrote}
+use Rattle.places.proofs.Placed.{going-on, at-stop, at-end, at-other}
 
 -- ---- the end of a line
 pub as-many : (line : List ℕ) (n : ℕ) → n ≤ 22 → length line ≡ 22 → n ≡ length (take n line)
 as-many line n h e = sym (length-take-le n line (omega arith))
 
+pub one-most : (number : ℕ) (a : Answer) (r : Answered) (total total' out out' : List ℕ) → Answers number a r total total' out out' → r .good ≤ 1
+one-most number a r total total' out out' h = go (isGood a) (h .good)
+  where
+    go : (b : Bool) → r .good ≡ cond b 1 0 → r .good ≤ 1
+    go true e = omega arith
+    go false e = omega arith
+
 progress-is : (m n g h : ℕ) (t u : List ℕ) → m ≡ n → g ≡ h → t ≡ u → _≡_ {A = Progress} (record { lines = m; good = g; total = t }) (record { lines = n; good = h; total = u })
 progress-is m n g h t u e f k = cc
 
-counted : (b : Bool) (c : Bool) (g : ℕ) → b ≡ c → c ≡ true → g + 1 ≡ cond b 1 0 + g
-counted b c g e f = rw (e, f) (omega arith)
-
-not-counted : (b : Bool) (c : Bool) (g : ℕ) → b ≡ c → c ≡ false → g ≡ cond b 1 0 + g
-not-counted b c g e f = rw (e, f) (omega arith)
-
-module _ (p : Place) (begun total total' out out' : List ℕ) (a : Answered) (answers : Answers (p .lines + 1) (reading begun) a total total' out out') (whole : length begun ≡ p .length) where
-  ended : (good : ℕ) → good ≡ cond (isGood (reading begun)) 1 0 + p .good
-      → LineEnds p begun total total' out (record { place = record { lines = p .lines + 1; good = good; length = 0; stopped = false }; written = a .written }) (suc (p .lines)) out'
-  unfolding afterLine
-  ended good e = record {
-    whole = whole;
-    progress = progress-is (p .lines + 1) (suc (p .lines)) good (cond (isGood (reading begun)) 1 0 + p .good) total' _ (add-one (p .lines)) e (answers .added);
-    length = refl;
-    going = refl;
-    text = subst (λ (n : ℕ). Starts out (lineText n (reading begun)) (a .written) out') (add-one (p .lines)) (answers .text);
-  }
-
-  pub good-line : a .good ≡ true → LineEnds p begun total total' out (record { place = record { lines = p .lines + 1; good = p .good + 1; length = 0; stopped = false }; written = a .written }) (suc (p .lines)) out'
-  good-line e = ended (p .good + 1) (counted (isGood (reading begun)) (a .good) (p .good) (sym (answers .good)) e)
-
-  pub bad-line : a .good ≡ false → LineEnds p begun total total' out (record { place = record { lines = p .lines + 1; good = p .good; length = 0; stopped = false }; written = a .written }) (suc (p .lines)) out'
-  bad-line e = ended (p .good) (not-counted (isGood (reading begun)) (a .good) (p .good) (sym (answers .good)) e)
+pub line-ended : (p : Place) (begun total total' out out' : List ℕ) (a : Answered) → Answers (p .lines + 1) (reading begun) a total total' out out' → length begun ≡ p .length → 680 ≤ length out
+    → LineEnds p begun total total' out (record { place = record { lines = p .lines + 1; good = p .good + a .good; length = 0; stopped = false }; written = a .written }) (suc (p .lines)) out'
+unfolding afterLine
+line-ended p begun total total' out out' a answers whole room = record {
+  whole = whole;
+  progress = progress-is (p .lines + 1) (suc (p .lines)) (p .good + a .good) (cond (isGood (reading begun)) 1 0 + p .good) total' _ (add-one (p .lines)) (counted (p .good) (a .good) _ (answers .good)) (answers .added);
+  length = refl;
+  going = refl;
+  text =
+      subst (λ (n : ℕ). Starts out (lineText n (reading begun)) (a .written) out') (add-one (p .lines))
+      (wrote out (lineText (p .lines + 1) (reading begun)) (a .written) out' (le-trans (line-most (p .lines + 1) (reading begun)) room) (answers .text .0) (answers .text .1));
+}
+  where
+    counted : (g m n : ℕ) → m ≡ n → g + m ≡ n + g
+    counted g m n e = omega arith
 
 -- ---- another byte of the line
-module _ (p : Place) (r : Runs p) (room : p .lines < 32768) (line : List ℕ) (b : ℕ) (size : length line ≡ 22) (total : List ℕ) where
-  extended : (n : ℕ) (line' : List ℕ) → n ≤ 22 → take n line' ≡ take 22 (take (p .length) line ++ (b ∷ []))
-      → stateOf (record { lines = p .lines; good = p .good; length = n; stopped = false }) line' total ≡ extend (stateOf p line total) b
-  extended n line' h e =
-      going-on (record { lines = p .lines; good = p .good; length = n; stopped = false }) line' total (record { going = refl; good = r .good; length = h; lines = inl room })
-      ∙ ap {B = State} (λ (l : List ℕ). record { progress = progressOf p total; begun = l; stopped = false }) e ∙ sym (ap (λ (s : State). extend s b) (going-on p line total r))
-
-  pub byte-kept : p .length < 22 → stateOf (record { lines = p .lines; good = p .good; length = p .length + 1; stopped = false }) (set line (p .length) b) total ≡ extend (stateOf p line total) b
-  byte-kept h = extended (p .length + 1) (set line (p .length) b) (omega arith) (one-more-byte line (p .length) b (omega arith) size)
-
-  pub none-kept : 22 ≤ p .length → stateOf (record { lines = p .lines; good = p .good; length = p .length; stopped = false }) line total ≡ extend (stateOf p line total) b
-  none-kept h = extended (p .length) line (r .length) (byte-dropped line (p .length) b h size)
+pub extended : (p : Place) → Runs p → p .lines < 32768 → (line line' : List ℕ) (b n : ℕ) → (n ≤ 22) × (take n line' ≡ longer (take (p .length) line) b) → (total : List ℕ)
+    → stateOf (record { lines = p .lines; good = p .good; length = n; stopped = false }) line' total ≡ extend (stateOf p line total) b
+extended p r room line line' b n h total =
+    going-on (record { lines = p .lines; good = p .good; length = n; stopped = false }) line' total (record { going = refl; good = r .good; length = h .0; lines = inl room })
+    ∙ ap {B = State} (λ (l : List ℕ). record { progress = progressOf p total; begun = l; stopped = false }) (h .1) ∙ sym (ap (λ (s : State). extend s b) (going-on p line total r))
 
 -- ---- each kind of byte
 good-most : (a : Answer) (g n : ℕ) → g ≤ n → cond (isGood a) 1 0 + g ≤ suc n
@@ -74,7 +70,7 @@ good-most a g n h = go (isGood a)
     go true = omega arith
     go false = omega arith
 
-module _ (p : Place) (line total : List ℕ) (r : Runs p) (out : List ℕ) (s : Step) where
+module _ (p : Place) (line total : List ℕ) (r : Runs p) (out : List ℕ) (s : Next) where
   -- counts after the line's end
   pub ends-soundly : (total' out' : List ℕ) → LineEnds p (take (p .length) line) total total' out s (suc (p .lines)) out' → (s .place .lines ≡ suc (p .lines)) × (s .place .good ≤ s .place .lines)
   unfolding afterLine
@@ -83,7 +79,7 @@ module _ (p : Place) (line total : List ℕ) (r : Runs p) (out : List ℕ) (s : 
       let g : s .place .good ≡ cond (isGood (reading (take (p .length) line))) 1 0 + p .good = ap (λ (q : Progress). q .good) (h .progress) in
       (l, omega (arith, l, g, good-most (reading (take (p .length) line)) (p .good) (p .lines) (r .good)))
 
-module _ (p : Place) (line total : List ℕ) (r : Runs p) (b : ℕ) (out : List ℕ) (s : Step) where
+module _ (p : Place) (line total : List ℕ) (r : Runs p) (b : ℕ) (out : List ℕ) (s : Next) where
   stopped-state : stateOf (record { lines = p .lines; good = p .good; length = 0; stopped = true }) line total ≡ stop (record { progress = progressOf p total; begun = take (p .length) line; stopped = false })
   unfolding stateOf
   stopped-state = refl

@@ -1,5 +1,2 @@
-pub mod Printed
-pub mod States
-pub mod Places
+pub mod Calls
 pub mod Inner
-pub mod Theorems

@@ -1,17 +1,11 @@
 // What the program prints, carried from byte to byte. Nothing is read or written here: the text goes into a lent buffer.
 mod last;
-mod line;
 mod step;
 
-ghost use Rattle.printer.specs.Places.{stateOf, Feeds, Ends, Begins};
-
-// Lines that have ended, good ones among them, bytes of the open line, and whether `stop` was printed.
-pub struct Place {
-    pub lines: u32,
-    pub good: u32,
-    pub length: usize,
-    pub stopped: bool,
-}
+pub use places::Place;
+pub use places::begin;
+ghost use Rattle.places.specs.Places.{stateOf};
+ghost use Rattle.printer.specs.Calls.{Feeds, Ends};
 
 pub struct Fed {
     pub place: Place,
@@ -19,16 +13,9 @@ pub struct Fed {
     pub written: usize,
 }
 
-// The state of a run begins with any line and a cleared total.
-pub fn begin() -> Place
-    ensures { λ r. ⌜ Begins r ⌝ }
-{
-    Place {
-        lines: 0,
-        good: 0,
-        length: 0,
-        stopped: false,
-    }
+struct Next {
+    place: Place,
+    written: usize,
 }
 
 // Bytes are taken as long as there is room for another line's text, so that the caller can write out in large pieces.
@@ -44,7 +31,7 @@ pub fn feed(
     let mut here = place;
     let mut at: usize = 0;
     let mut used: usize = 0;
-    while at < bytes.len() && step::goes_on(here) && step::has_room(out, used) {
+    while places::more(bytes.len() - at, here, out.len() - used) {
         let b = bytes[at];
         let next = step::byte(b, here, line, total, &mut out[used..]);
         here = next.place;
@@ -62,10 +49,7 @@ pub fn feed(
 pub fn finish(place: Place, line: &[u8; 22], total: &mut [u32], out: &mut [u8]) -> usize
     ensures { λ r. ⌜ Ends (stateOf place (now (line .entry)) (now (total .entry))) (now (out .entry)) r (now (total .exit)) (now (out .exit)) ⌝ }
 {
-    if out.len() < 740 {
-        return 0;
-    }
-    if !step::goes_on(place) {
+    if !places::ready(place, out.len(), 740) {
         return 0;
     }
     let here = last::open_line(place, line, total, out);

@@ -1,53 +1,18 @@
 // One byte of the input.
+use crate::Next;
 use crate::Place;
-use crate::line;
 ghost use mathlib.Core.Path.{_≡_};
-ghost use mathlib.Core.Bool.{true, not, _||_};
+ghost use mathlib.Core.Bool.{true};
 ghost use mathlib.Core.List.{List};
-ghost use Prim.Native.Nat.{ℕ, suc, _+_, _≤_, _<_};
-ghost use lib.Dec.{leb};
+ghost use Prim.Native.Nat.{ℕ, suc, _≤_, _<_};
 ghost use lib.ListN.{length, take};
-ghost use Rattle.transcript.specs.Texts.{stopText};
-ghost use Rattle.printer.specs.States.{extend};
-ghost use Rattle.printer.specs.Places.{sound, stateOf, lineRoom, Starts};
-ghost use Rattle.printer.specs.Inner.{Runs, Steps, LineEnds};
+ghost use Rattle.texts.specs.Texts.{stopText};
+ghost use Rattle.printed.specs.States.{extend};
+ghost use Rattle.places.specs.Places.{stateOf, lineRoom, Runs};
+ghost use Rattle.printer.specs.Calls.{Starts};
+ghost use Rattle.printer.specs.Inner.{Steps, LineEnds};
 
-pub struct Step {
-    pub place: Place,
-    pub written: usize,
-}
-
-pub fn goes_on(place: Place) -> bool
-    ensures { λ r. ⌜ r ≡ not (place .stopped || not (sound place)) ⌝ }
-{
-    if place.stopped {
-        return false;
-    }
-    if place.good > place.lines {
-        return false;
-    }
-    if place.length > 22 {
-        return false;
-    }
-    if place.lines < 32768 {
-        return true;
-    }
-    if place.lines > 32768 {
-        return false;
-    }
-    place.length == 0
-}
-
-pub fn has_room(out: &[u8], used: usize) -> bool
-    ensures { λ r. ⌜ r ≡ leb (used + lineRoom) (length (now (out .entry))) ⌝ }
-{
-    if out.len() < 680 {
-        return false;
-    }
-    used <= out.len() - 680
-}
-
-pub fn byte(b: u8, place: Place, line: &mut [u8; 22], total: &mut [u32], out: &mut [u8]) -> Step
+pub fn byte(b: u8, place: Place, line: &mut [u8; 22], total: &mut [u32], out: &mut [u8]) -> Next
     requires { ⌜ Runs place × (lineRoom ≤ length (now out)) ⌝ }
     ensures { λ r. ⌜ Steps (stateOf place (now (line .entry)) (now (total .entry))) b (now (out .entry)) r (stateOf (r .place) (now (line .exit)) (now (total .exit))) (now (out .exit)) ⌝ }
 {
@@ -60,7 +25,7 @@ pub fn byte(b: u8, place: Place, line: &mut [u8; 22], total: &mut [u32], out: &m
     extended(place, line, b)
 }
 
-fn stopped(place: Place, out: &mut [u8]) -> Step
+fn stopped(place: Place, out: &mut [u8]) -> Next
     requires { ⌜ lineRoom ≤ length (now out) ⌝ }
     ensures { λ r. ⌜ (r .place ≡ record { lines = place .lines; good = place .good; length = 0; stopped = true }) × Starts (now (out .entry)) stopText (r .written) (now (out .exit)) ⌝ }
 {
@@ -68,28 +33,24 @@ fn stopped(place: Place, out: &mut [u8]) -> Step
     let mut last = place;
     last.length = 0;
     last.stopped = true;
-    Step {
+    Next {
         place: last,
         written,
     }
 }
 
-pub fn end_line(place: Place, line: &[u8; 22], total: &mut [u32], out: &mut [u8]) -> Step
+pub fn end_line(place: Place, line: &[u8; 22], total: &mut [u32], out: &mut [u8]) -> Next
     requires { ⌜ Runs place × (lineRoom ≤ length (now out)) ⌝ }
     ensures { λ r. ⌜ LineEnds place (take (place .length) (now (line .entry))) (now (total .entry)) (now (total .exit)) (now (out .entry)) r (suc (place .lines)) (now (out .exit)) ⌝ }
 {
     let n = place.length;
     let number = place.lines + 1;
     let text = &line[..];
-    let answered = line::answer(&text[..n], number, total, out);
-    let mut good = place.good;
-    if answered.good {
-        good += 1;
-    }
-    Step {
+    let answered = answers::line(&text[..n], number, total, out);
+    Next {
         place: Place {
             lines: number,
-            good,
+            good: place.good + answered.good,
             length: 0,
             stopped: false,
         },
@@ -97,19 +58,12 @@ pub fn end_line(place: Place, line: &[u8; 22], total: &mut [u32], out: &mut [u8]
     }
 }
 
-// A line of more than 21 bytes is refused for its length, so that 22 are kept.
-fn extended(place: Place, line: &mut [u8; 22], b: u8) -> Step
+fn extended(place: Place, line: &mut [u8; 22], b: u8) -> Next
     requires { ⌜ Runs place × (place .lines < 32768) ⌝ }
     ensures { λ r. ⌜ (r .written ≡ 0) × ((total : List ℕ) → stateOf (r .place) (now (line .exit)) total ≡ extend (stateOf place (now (line .entry)) total) b) ⌝ }
 {
-    let n = place.length;
-    let mut length = n;
-    let text = &mut line[..];
-    if n < text.len() {
-        text[n] = b;
-        length = n + 1;
-    }
-    Step {
+    let length = places::kept(place.length, line, b);
+    Next {
         place: Place {
             lines: place.lines,
             good: place.good,

@@ -7,12 +7,13 @@ use Prim.Native.Nat.{ℕ, _+_, _-_, _≤_, _<_}
 use native.Mathlib.Omega.{arith}
 use lib.ListN.{length, take, drop, take-append-drop, length-drop}
 use lib.Seq.{take-add, take-all}
-use Rattle.printer.specs.States.{State, takeBytes, bytesText}
-use Rattle.printer.specs.Places.{sound, stateOf, lineRoom, Feeds}
-use Rattle.printer.specs.declared.Place.{Place}
+use Rattle.printed.specs.States.{State, takeBytes, bytesText}
+use Rattle.places.specs.Places.{sound, stateOf, lineRoom}
+use Rattle.printer.specs.Calls.{Feeds}
+use Rattle.places.specs.declared.Place.{Place}
 use Rattle.printer.specs.declared.Fed.{Fed}
-use Rattle.printer.proofs.Bytes.{states-join}
-use Rattle.printer.proofs.Theorems.{nothing-after-stop}
+use Rattle.printed.proofs.Bytes.{states-join}
+use Rattle.printed.proofs.Theorems.{nothing-after-stop}
 use Rattle.stream.specs.Reads.{Takes}
 use Rattle.stream.specs.declared.Moved.{Moved}
 

@@ -5,8 +5,8 @@ use Prim.Native.Nat.{ℕ, _≤_}
 use native.Mathlib.Decide.{decLe}
 use native.Mathlib.Omega.{arith}
 use lib.ListN.{length, take, drop, length-append, length-drop}
-use Rattle.printer.specs.States.{State, bytesText, closeText}
-use Rattle.printer.specs.Places.{Starts, lastRoom, Feeds, Ends}
+use Rattle.printed.specs.States.{State, bytesText, closeText}
+use Rattle.printer.specs.Calls.{Starts, lastRoom, Feeds, Ends}
 use Rattle.printer.specs.declared.Fed.{Fed}
 
 starts-within : (out text : List ℕ) (n : ℕ) (out' : List ℕ) → Starts out text n out' → length out' ≡ length out → n ≤ length out'

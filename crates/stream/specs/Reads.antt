@@ -5,8 +5,8 @@ use mathlib.Core.Path.{_≡_}
 use mathlib.Core.Bool.{true, false}
 use mathlib.Core.List.{List}
 use lib.ListN.{length, take}
-use Rattle.printer.specs.States.{State, takeBytes}
-use Rattle.printer.specs.Places.{lineRoom}
+use Rattle.printed.specs.States.{State, takeBytes}
+use Rattle.places.specs.Places.{lineRoom}
 use Rattle.stream.specs.declared.Moved.{Moved}
 use Rattle.stream.specs.declared.Turn.{Turn}
 

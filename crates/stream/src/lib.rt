@@ -2,7 +2,7 @@
 // No contract can say what a call read or wrote; what is done with the bytes of a read, `take` says.
 use printer::Place;
 ghost use lib.ListN.{length};
-ghost use Rattle.printer.specs.Places.{stateOf};
+ghost use Rattle.places.specs.Places.{stateOf};
 ghost use Rattle.stream.specs.Reads.{Takes, TakesAll};
 
 // The place in the input; whether there may be more of it to take; and whether every call has done its work so far.

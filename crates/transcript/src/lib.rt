@@ -1,14 +1,19 @@
 // The lines that are printed. Each function writes its text at the start of the lent buffer and answers its length; where the buffer is too
 // short, no byte is written and the answer is 0.
-mod bytes;
-mod fields;
-mod lengths;
-mod lines;
-
-use augmented::Pair;
+pub use notices::bad;
+pub use notices::end;
+pub use notices::stop;
+pub use notices::total;
+use pairs::Pair;
+use text_lines::lengths;
+use text_lines::put_answered;
+use text_lines::put_ask;
+use text_lines::put_pair;
+use text_lines::put_step;
 ghost use mathlib.Core.Path.{_≡_};
+ghost use Prim.Native.Nat.{min};
 ghost use lib.ListN.{getD};
-ghost use Rattle.transcript.specs.Texts.{askText, stepText, pairText, badText, totalText, endText, stopText, answeredText, written, afterWriting};
+ghost use Rattle.texts.specs.Texts.{askText, stepText, pairText, answeredText, written, afterWriting};
 
 pub fn ask(out: &mut [u8], number: u32, operation: u32, x: u32, y: u32) -> usize
     ensures { λ r. ⌜ (r ≡ written (now (out .entry)) (askText number operation x y)) × (now (out .exit) ≡ afterWriting (now (out .entry)) (askText number operation x y)) ⌝ }
@@ -16,7 +21,7 @@ pub fn ask(out: &mut [u8], number: u32, operation: u32, x: u32, y: u32) -> usize
     if out.len() < 27 + lengths::decimal(number) {
         return 0;
     }
-    lines::put_ask(out, 0, number, operation, x, y)
+    put_ask(out, 0, number, operation, x, y)
 }
 
 pub fn step(out: &mut [u8], number: u32, line: [u32; 5]) -> usize
@@ -25,7 +30,7 @@ pub fn step(out: &mut [u8], number: u32, line: [u32; 5]) -> usize
     if out.len() < lengths::step(number, line[0]) {
         return 0;
     }
-    lines::put_step(out, 0, number, line)
+    put_step(out, 0, number, line)
 }
 
 pub fn pair(out: &mut [u8], pair: Pair) -> usize
@@ -35,49 +40,14 @@ pub fn pair(out: &mut [u8], pair: Pair) -> usize
     if out.len() < 24 + lengths::flags(flags) {
         return 0;
     }
-    lines::put_pair(out, 0, pair)
+    put_pair(out, 0, pair)
 }
 
-pub fn bad(out: &mut [u8], number: u32, refusal: u32) -> usize
-    ensures { λ r. ⌜ (r ≡ written (now (out .entry)) (badText number refusal)) × (now (out .exit) ≡ afterWriting (now (out .entry)) (badText number refusal)) ⌝ }
+// "A sheet has at most 13 lines"
+fn shown(lines: u32) -> usize
+    ensures { λ r. ⌜ r ≡ min lines 13 ⌝ }
 {
-    if out.len() < 6 + lengths::decimal(number) + lengths::decimal(refusal) {
-        return 0;
-    }
-    let a = bytes::put_four(out, 0, b"bad\t");
-    lines::put_counts(out, a, number, refusal)
-}
-
-pub fn total(out: &mut [u8], first: u32, second: u32) -> usize
-    ensures { λ r. ⌜ (r ≡ written (now (out .entry)) (totalText first second)) × (now (out .exit) ≡ afterWriting (now (out .entry)) (totalText first second)) ⌝ }
-{
-    if out.len() < 24 {
-        return 0;
-    }
-    let a = bytes::put_five(out, 0, b"total");
-    let b = fields::put_pattern(out, a, first);
-    let c = fields::put_pattern(out, b, second);
-    bytes::put_byte(out, c, 10)
-}
-
-pub fn end(out: &mut [u8], good: u32, bad: u32) -> usize
-    ensures { λ r. ⌜ (r ≡ written (now (out .entry)) (endText good bad)) × (now (out .exit) ≡ afterWriting (now (out .entry)) (endText good bad)) ⌝ }
-{
-    if out.len() < 6 + lengths::decimal(good) + lengths::decimal(bad) {
-        return 0;
-    }
-    let a = bytes::put_four(out, 0, b"end\t");
-    lines::put_counts(out, a, good, bad)
-}
-
-pub fn stop(out: &mut [u8]) -> usize
-    ensures { λ r. ⌜ (r ≡ written (now (out .entry)) stopText) × (now (out .exit) ≡ afterWriting (now (out .entry)) stopText) ⌝ }
-{
-    if out.len() < 8 {
-        return 0;
-    }
-    let a = bytes::put_five(out, 0, b"stop\t");
-    bytes::put_three(out, a, b"11\n")
+    if lines < 13 { lines as usize } else { 13 }
 }
 
 // A question's `ask`, a `step` for each line of its sheet, and its `pair`.
@@ -93,14 +63,10 @@ pub fn answered(
 ) -> usize
     ensures { λ r. ⌜ (r ≡ written (now (out .entry)) (answeredText number operation x y (now (words .entry)) lines pair)) × (now (out .exit) ≡ afterWriting (now (out .entry)) (answeredText number operation x y (now (words .entry)) lines pair)) ⌝ }
 {
-    let shown = lengths::shown(lines);
+    let shown = shown(lines);
     let flags = pair.flags;
-    if out.len()
-        < 51 + lengths::decimal(number) + lengths::steps(words, shown) + lengths::flags(flags)
-    {
+    if out.len() < lengths::answered(number, words, shown, flags) {
         return 0;
     }
-    let a = lines::put_ask(out, 0, number, operation, x, y);
-    let b = lines::put_steps(out, a, words, shown);
-    lines::put_pair(out, b, pair)
+    put_answered(out, 0, number, operation, x, y, words, shown, pair)
 }

@@ -6,7 +6,7 @@ use Rattle.stream.proofs.run.Tie as tie
 use Rattle.stream.proofs.run.Reads as reads
 use Rattle.stream.proofs.run.Lts as lts
 use Rattle.io.proofs.large_buffer.Reads as large-buffer-reads
-use Rattle.printer.proofs.begin.Reads as begin-reads
+use Rattle.places.proofs.begin.Reads as begin-reads
 use Rattle.stream.proofs.close.Reads as close-reads
 use Rattle.stream.proofs.read_once.Reads as read-once-reads
 

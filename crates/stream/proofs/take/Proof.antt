@@ -5,8 +5,8 @@ use native.Mathlib.Nat.{le-trans, le-of-eq}
 use native.Mathlib.Omega.{arith}
 use lib.ListN.{length, take}
 use borrow.Author.Needs.{needs}
-use Rattle.printer.specs.States.{takeBytes}
-use Rattle.printer.specs.Places.{stateOf}
+use Rattle.printed.specs.States.{takeBytes}
+use Rattle.places.specs.Places.{stateOf}
 use Rattle.stream.proofs.Taking.{step-within, step-taken, none-taken, rest-after-stop, all-taken}
 use Rattle.stream.proofs.take.Statement.{statement}
 use Rattle.stream.proofs.take.Tie as tie

@@ -1,7 +1,8 @@
 use native.Mathlib.Omega.{arith}
-use Rattle.transcript.specs.Texts.{askText}
-use Rattle.transcript.proofs.TextLengths.{ask-length}
-use Rattle.transcript.proofs.Buffers.{whole, too-short}
+use Rattle.texts.specs.Texts.{askText}
+use Rattle.texts.proofs.TextLengths.{ask-length}
+use Rattle.texts.proofs.Buffers.{too-short}
+use Rattle.texts.proofs.Written.{whole}
 use borrow.Author.Needs.{needs}
 use Rattle.transcript.proofs.ask.Statement.{statement}
 use Rattle.transcript.proofs.ask.Tie as tie
@@ -18,7 +19,7 @@ returns c =
     too-short (s .args .out .now) (askText (s .args .number) (s .args .operation) (s .args .x) (s .args .y)) (omega (arith, ask-length (s .args .number) (s .args .operation) (s .args .x) (s .args .y)))
 
 put-ask-requires : tie.Need-put-ask-requires
-put-ask-requires c κs = let s = c .before .before .before .before in omega (arith, ask-length (s .args .number) (s .args .operation) (s .args .x) (s .args .y))
+put-ask-requires c κs = omega arith
 
 same-length : tie.Need-same-length
 same-length c = search needs

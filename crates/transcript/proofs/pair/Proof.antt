@@ -1,7 +1,8 @@
 use native.Mathlib.Omega.{arith}
-use Rattle.transcript.specs.Texts.{pairText}
-use Rattle.transcript.proofs.TextLengths.{pair-length}
-use Rattle.transcript.proofs.Buffers.{whole, too-short}
+use Rattle.texts.specs.Texts.{pairText}
+use Rattle.texts.proofs.TextLengths.{pair-length}
+use Rattle.texts.proofs.Buffers.{too-short}
+use Rattle.texts.proofs.Written.{whole}
 use borrow.Author.Needs.{needs}
 use Rattle.transcript.proofs.pair.Statement.{statement}
 use Rattle.transcript.proofs.pair.Tie as tie
@@ -18,7 +19,7 @@ returns c =
     too-short (s .args .out .now) (pairText (s .args .pair)) (omega (arith, pair-length (s .args .pair)))
 
 put-pair-requires : tie.Need-put-pair-requires
-put-pair-requires c κs = let s = c .before .before .before .before .before in omega (arith, pair-length (s .args .pair))
+put-pair-requires c κs = omega arith
 
 same-length : tie.Need-same-length
 same-length c = search needs

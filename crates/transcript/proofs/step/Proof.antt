@@ -1,7 +1,8 @@
 use native.Mathlib.Omega.{arith}
 use lib.ListN.{getD}
-use Rattle.transcript.specs.Texts.{stepText}
-use Rattle.transcript.proofs.Buffers.{whole, too-short}
+use Rattle.texts.specs.Texts.{stepText}
+use Rattle.texts.proofs.Buffers.{too-short}
+use Rattle.texts.proofs.Written.{whole}
 use borrow.Author.Needs.{needs}
 use Rattle.transcript.proofs.step.Statement.{statement}
 use Rattle.transcript.proofs.step.Tie as tie

@@ -1,5 +1,5 @@
 use borrow.Author.Needs.{needs}
-use Rattle.printer.proofs.Placed.{not-full}
+use Rattle.places.proofs.Placed.{not-full}
 use Rattle.printer.proofs.Stepped.{step-stops, step-ends, step-extends}
 use Rattle.printer.proofs.step.byte.Statement.{statement}
 use Rattle.printer.proofs.step.byte.Tie as tie

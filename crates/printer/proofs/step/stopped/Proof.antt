@@ -1,7 +1,7 @@
 use mathlib.Core.Path.{refl}
 use native.Mathlib.Omega.{arith}
 use borrow.Author.Needs.{needs}
-use Rattle.transcript.specs.Texts.{stopText}
+use Rattle.texts.specs.Texts.{stopText}
 use Rattle.printer.proofs.Starting.{wrote}
 use Rattle.printer.proofs.step.stopped.Statement.{statement}
 use Rattle.printer.proofs.step.stopped.Tie as tie

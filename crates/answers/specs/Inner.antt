@@ -1,0 +1,17 @@
+-- What the crate's inner functions promise. No public contract cites it. Assumes nothing.
+use Prim.Native.Nat.{ℕ}
+use mathlib.Core.Bool.{cond, _&&_}
+use mathlib.Core.List.{List, [], _∷_}
+use Rattle.rounding.specs.Format.{binary32}
+use Rattle.rounding.specs.Value.{decode, isFinite}
+use Rattle.totals.specs.Totals.{Term, ofPattern}
+use Rattle.question.specs.Questions.{Answer, asked, refused}
+
+-- the number of a refusal
+abbrev pub refusalOf : Answer → ℕ
+refusalOf (asked operation x y) = 0
+refusalOf (refused n) = n
+
+-- what the halves of a pair add
+abbrev pub halfTerms : ℕ → ℕ → List Term
+halfTerms first second = cond (isFinite (decode binary32 first) && isFinite (decode binary32 second)) (ofPattern first ∷ ofPattern second ∷ []) []

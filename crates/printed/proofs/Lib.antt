@@ -1,0 +1,5 @@
+pub mod Lines
+pub mod Bytes
+pub mod Totals
+pub mod Theorems
+pub mod Lengths

@@ -1,0 +1,48 @@
+-- The theorems of `specs/Theorems.antt`. Assumes nothing.
+use mathlib.Core.Path.{_≡_, ap}
+use mathlib.Core.List.{[], _++_}
+use native.Mathlib.Omega.{arith}
+use Rattle.totals.specs.Totals.{Answer, pair, reading}
+use Rattle.totals.specs.Columns.{zeros, column, AllFinite, columnSum}
+use Rattle.totals.proofs.Columns.{exact-column}
+use Rattle.totals.proofs.ReadTotal.{read-zero}
+use Rattle.question.specs.Questions as questions
+use Rattle.texts.specs.Texts.{decimalUpTo, badText, endText}
+use Rattle.printed.specs.Printed.{linesFrom, lineText, afterLine, afterLines, linesText, readText, closingText, output}
+use Rattle.printed.specs.Theorems.{ByteByByte, AnyReads, NothingAfterStop, NeverRefused, LineTerms, TotalTakesAll, EmptyInput, TwoBadLines, All}
+use Rattle.printed.proofs.Bytes as bytes
+use Rattle.printed.proofs.Totals as totals
+
+pub byte-by-byte : ByteByByte
+byte-by-byte = bytes.byte-by-byte
+
+pub any-reads : AnyReads
+any-reads = bytes.any-reads
+
+pub nothing-after-stop : NothingAfterStop
+nothing-after-stop = bytes.nothing-after-stop
+
+pub never-refused : NeverRefused
+never-refused = totals.never-refused
+
+pub total-takes-all : TotalTakesAll
+total-takes-all = totals.total-takes-all
+
+-- a cleared total reads two zeros
+cleared : reading zeros ≡ pair 0 0
+unfolding AllFinite column columnSum
+cleared = let c = exact-column [] (omega arith) tt in read-zero zeros (c .4) (c .2)
+
+pub empty-input : EmptyInput
+unfolding output linesFrom linesText afterLines closingText
+empty-input = ap (λ (a : Answer). readText a ++ endText 0 0) cleared
+
+pub two-bad-lines : TwoBadLines
+unfolding output linesFrom linesText lineText afterLines afterLine closingText questions.reading column badText decimalUpTo
+two-bad-lines = ap (λ (a : Answer). badText 1 1 ++ (badText 2 1 ++ (readText a ++ endText 0 2))) cleared
+
+pub line-terms : LineTerms
+line-terms = totals.line-terms
+
+pub all : All
+all = (byte-by-byte, any-reads, nothing-after-stop, never-refused, line-terms, total-takes-all, empty-input, two-bad-lines)

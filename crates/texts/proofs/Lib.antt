@@ -1,0 +1,10 @@
+pub mod DecimalLaws
+pub mod FieldLaws
+pub mod TextLengths
+pub mod WholeSteps
+pub mod Buffers
+pub mod Pasted
+pub mod Stored
+pub mod Written
+pub mod DecimalDigits
+pub mod Theorems

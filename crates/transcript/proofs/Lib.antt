@@ -1,9 +1,0 @@
-pub mod Pasted
-pub mod Stored
-pub mod DecimalLaws
-pub mod FieldLaws
-pub mod TextLengths
-pub mod WholeSteps
-pub mod Buffers
-pub mod DecimalDigits
-pub mod Theorems

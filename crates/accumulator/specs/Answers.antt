@@ -1,5 +1,5 @@
 -- The answers of the code's calls: document 01's number and values for each case of its enums. Assumes nothing.
-use Rattle.totals.specs.Totals.{Answer, refused, done, pair}
+use Rattle.accumulator_spec.specs.Totals.{Answer, refused, done, pair}
 use Rattle.accumulator.specs.declared.Cleared.{Cleared}
 use Rattle.accumulator.specs.declared.Added.{Added}
 use Rattle.accumulator.specs.declared.Reading.{Reading}

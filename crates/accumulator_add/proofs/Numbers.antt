@@ -3,11 +3,11 @@ use mathlib.Core.Path.{_≡_, refl}
 use mathlib.Core.Bool.{Bool, true, false, cond}
 use mathlib.Core.List.{List}
 use Prim.Native.Nat.{ℕ}
-use Rattle.totals.specs.Totals.{Term, refused, done, adding, afterAdding}
-use Rattle.totals.proofs.Answers.{adding-length, adding-unfit, refuses}
-use Rattle.fit.specs.Inner.{lent}
-use Rattle.fit.proofs.Lent.{by-number}
-use Rattle.term.specs.Inner.{numbered}
+use Rattle.accumulator_spec.specs.Totals.{Term, refused, done, adding, afterAdding}
+use Rattle.accumulator_spec.proofs.Answers.{adding-length, adding-unfit, refuses}
+use Rattle.accumulator_fit.specs.Inner.{lent}
+use Rattle.accumulator_fit.proofs.Lent.{by-number}
+use Rattle.accumulator_add.specs.Inner.{numbered}
 
 pub lent-adds : (t : List ℕ) → (lent t ≡ 0 → ⊥) → (x : Term) → (numbered (lent t) ≡ adding t x) × (t ≡ afterAdding t x)
 lent-adds t z x =

@@ -4,13 +4,13 @@ use mathlib.Core.Bool.{Bool}
 use Prim.Native.Nat.{ℕ, _+_, _*_, _^_}
 use native.Mathlib.Nat.{mul-assoc}
 use lib.Pow.{pow-add}
-use Rattle.rounding.specs.Format.{binary32}
-use Rattle.rounding.specs.Value.{finite}
-use Rattle.steps.specs.declared.Class.{Class}
-use Rattle.steps.specs.Exact.{finer}
-use Rattle.steps.specs.Classes.{classOf, valueOf}
-use Rattle.steps.proofs.Classified.{class-value}
-use Rattle.totals.specs.Totals.{ofPattern, exactTerm}
+use Rattle.rounding_spec.specs.Format.{binary32}
+use Rattle.rounding_spec.specs.Value.{finite}
+use Rattle.pattern_spec.specs.declared.Class.{Class}
+use Rattle.pattern_spec.specs.Exact.{finer}
+use Rattle.pattern_spec.specs.Classes.{classOf, valueOf}
+use Rattle.pattern_spec.proofs.Classified.{class-value}
+use Rattle.accumulator_spec.specs.Totals.{ofPattern, exactTerm}
 
 -- a pattern counts u
 module _ (x : ℕ) (c : Class) (is : c ≡ classOf x) where

@@ -3,7 +3,7 @@ use Prim.Native.Nat.{ℕ}
 use mathlib.Core.Bool.{Bool, not, cond}
 use mathlib.Core.List.{List}
 use lib.Dec.{eqb}
-use Rattle.totals.specs.Totals.{count, Answer, refused, done}
+use Rattle.accumulator_spec.specs.Totals.{count, Answer, refused, done}
 
 -- what a number says: 0 that the term was added, 5 to 8 a refusal
 abbrev pub numbered : ℕ → Answer

@@ -1,21 +1,21 @@
 // Terms of a total: patterns, and products of two. A call answers by document 01's number of the refusal, or by 0;
 // free is which number stands for 8 (`numbered`).
 use exact;
-use operands::classify;
-use steps::Class;
+use pattern::classify;
+use pattern_spec::Class;
 ghost use mathlib.Core.Path.{_≡_};
 ghost use mathlib.Core.Bool.{cond};
 ghost use Prim.Native.Nat.{suc, _*_, _^_, _≤_};
 ghost use lib.ListN.{length};
 ghost use lib.IntN.{_+ℤ_};
-ghost use Rattle.steps.specs.Exact.{int};
-ghost use Rattle.totals.specs.Totals.{number, count, totalOf, ofPattern, ofProduct, adding, afterAdding};
-ghost use Rattle.term.specs.Inner.{numbered, hasRoom};
+ghost use Rattle.pattern_spec.specs.Exact.{int};
+ghost use Rattle.accumulator_spec.specs.Totals.{number, count, totalOf, ofPattern, ofProduct, adding, afterAdding};
+ghost use Rattle.accumulator_add.specs.Inner.{numbered, hasRoom};
 
 pub fn add_pattern(total: &mut [u32], x: u32) -> u32
     ensures { λ r. ⌜ (numbered r ≡ adding (now (total .entry)) (ofPattern x)) × (now (total .exit) ≡ afterAdding (now (total .entry)) (ofPattern x)) ⌝ }
 {
-    let refusal = fit::refusal(total);
+    let refusal = accumulator_fit::refusal(total);
     if refusal != 0 {
         return refusal;
     }
@@ -31,7 +31,7 @@ pub fn add_pattern(total: &mut [u32], x: u32) -> u32
 pub fn add_product(total: &mut [u32], x: u32, y: u32) -> u32
     ensures { λ r. ⌜ (numbered r ≡ adding (now (total .entry)) (ofProduct x y)) × (now (total .exit) ≡ afterAdding (now (total .entry)) (ofProduct x y)) ⌝ }
 {
-    let refusal = fit::refusal(total);
+    let refusal = accumulator_fit::refusal(total);
     if refusal != 0 {
         return refusal;
     }
@@ -54,7 +54,7 @@ fn add(total: &mut [u32], minus: bool, sig: u64, exp: u16) -> u32
         return 8;
     }
     let w = (exp / 32) as usize;
-    words::add(&mut total[w..20], minus, sig, exp);
+    accumulator_words::add(&mut total[w..20], minus, sig, exp);
     total[20] = n + 1;
     0
 }

@@ -7,8 +7,8 @@ use native.Mathlib.Omega.{arith}
 use borrow.Author.Tests.{eqb-true, eqb-false}
 use lib.Dec.{eqb}
 use lib.ListN.{length}
-use Rattle.totals.specs.Totals.{fit}
-use Rattle.fit.specs.Inner.{lent}
+use Rattle.accumulator_spec.specs.Totals.{fit}
+use Rattle.accumulator_fit.specs.Inner.{lent}
 
 module _ (t : List ℕ) where
   abbrev pub Length : Type 0

@@ -6,10 +6,10 @@ use Prim.Native.Nat.{ℕ, _*_, _≤_}
 use borrow.Author.Tests.{ltb-true, ltb-false}
 use lib.Dec.{leb, ltb}
 use lib.ListN.{length, take, getD}
-use Rattle.words.specs.Words.{Words, complement}
-use Rattle.totals.specs.Totals.{fit, count}
-use Rattle.totals.proofs.Fitness.{inside, below, above, at-limit}
-use Rattle.fit.specs.Inner.{belowLimit}
+use Rattle.accumulator_spec.specs.Words.{Words, complement}
+use Rattle.accumulator_spec.specs.Totals.{fit, count}
+use Rattle.accumulator_spec.proofs.Fitness.{inside, below, above, at-limit}
+use Rattle.accumulator_fit.specs.Inner.{belowLimit}
 
 module _ (t : List ℕ) (full : length t ≡ 21) (words : Words t) (room : count t ≤ 65536) where
   abbrev limit : ℕ

@@ -4,8 +4,8 @@ use mathlib.Core.Bool.{Bool, true, false, not, cond}
 use mathlib.Core.List.{List}
 use lib.Dec.{eqb, ltb}
 use lib.ListN.{length}
-use Rattle.words.specs.Words.{natural}
-use Rattle.totals.specs.Totals.{fit}
+use Rattle.accumulator_spec.specs.Words.{natural}
+use Rattle.accumulator_spec.specs.Totals.{fit}
 
 -- the number of what is wrong with lent words, whatever the call: 0 for a fit total
 abbrev pub lent : List ℕ → ℕ

@@ -1,12 +1,12 @@
 // Whether a total is fit: its top words tell, but at the limit itself.
-use pick::pick_pattern;
+use choose::choose_pattern;
 ghost use mathlib.Core.Path.{_≡_};
 ghost use mathlib.Core.Bool.{cond};
 ghost use lib.Dec.{eqb};
 ghost use lib.ListN.{length};
-ghost use Rattle.words.specs.Words.{natural, complement};
-ghost use Rattle.totals.specs.Totals.{fit};
-ghost use Rattle.fit.specs.Inner.{lent, belowLimit};
+ghost use Rattle.accumulator_spec.specs.Words.{natural, complement};
+ghost use Rattle.accumulator_spec.specs.Totals.{fit};
+ghost use Rattle.accumulator_fit.specs.Inner.{lent, belowLimit};
 
 // What document 01 tries first of lent words, by its numbers: 5, 6, or 0 for a fit total.
 pub fn refusal(total: &[u32]) -> u32
@@ -62,7 +62,7 @@ fn within(low: &[u32], minus: bool, top: u32, limit: u32) -> bool
 fn turned(minus: bool, w: u32) -> u32
     ensures { λ r. ⌜ r ≡ cond minus (complement w) w ⌝ }
 {
-    pick_pattern(minus, 0xffff_ffff - w, w)
+    choose_pattern(minus, 0xffff_ffff - w, w)
 }
 
 fn is_zero(words: &[u32]) -> bool

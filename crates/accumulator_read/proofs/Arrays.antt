@@ -9,7 +9,7 @@ use denote.Array.{Array}
 use denote.Laws.{Is}
 use denote.Plain.{UInt}
 use borrow.Author.Needs.{elem-fits}
-use Rattle.words.specs.Words.{Words}
+use Rattle.accumulator_spec.specs.Words.{Words}
 
 module _ (n : ℕ) (ws : List ℕ) (vs : List Val) (known : Is (Array (UInt w32) n) ws vs) where
   pub array-length : length ws ≡ n

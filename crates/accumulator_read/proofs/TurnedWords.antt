@@ -8,8 +8,8 @@ use native.Mathlib.Omega.{arith}
 use lib.Bits.{bitXor}
 use lib.ListN.{length, take, drop, getD, set, length-map, drop-of-length-le}
 use lib.Seq.{drop-cons, take-suc, take-all, length-take-le, getD-at, set-at}
-use Rattle.words.specs.Words.{Words, complement}
-use Rattle.words.proofs.Carry.{turn, turn-xor}
+use Rattle.accumulator_spec.specs.Words.{Words, complement}
+use Rattle.accumulator_spec.proofs.Carry.{turn, turn-xor}
 
 module _ (s : Bool) (ws : List ℕ) where
   -- the words below i are turned

@@ -2,7 +2,7 @@
 use Prim.Native.Nat.{ℕ}
 use mathlib.Core.Bool.{cond}
 use lib.Dec.{eqb}
-use Rattle.totals.specs.Totals.{Answer, refused, pair}
+use Rattle.accumulator_spec.specs.Totals.{Answer, refused, pair}
 
 -- what a reply says: 0 that the pair was read, 5 or 6 a refusal
 abbrev pub replied : ℕ → ℕ → ℕ → Answer

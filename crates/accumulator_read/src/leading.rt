@@ -1,12 +1,12 @@
 // The magnitude of a number in 20 words, and its leading digits: what rounding asks of it.
-use pick::pick;
-use pick::pick_pattern;
+use choose::choose;
+use choose::choose_pattern;
 ghost use mathlib.Core.Path.{_≡_};
 ghost use mathlib.Core.Bool.{cond};
 ghost use mathlib.Core.List.{map};
 ghost use lib.IntN.{natAbs};
-ghost use Rattle.words.specs.Words.{natural, integer, complement};
-ghost use Rattle.totals.specs.Inner.{Leading};
+ghost use Rattle.accumulator_spec.specs.Words.{natural, integer, complement};
+ghost use Rattle.accumulator_spec.specs.Inner.{Leading};
 
 // The complement and one more, for a negative number. That of -2^639 has room too.
 pub fn magnitude(number: [u32; 20]) -> [u32; 20]
@@ -14,7 +14,7 @@ pub fn magnitude(number: [u32; 20]) -> [u32; 20]
 {
     let minus = number[19] >= 0x8000_0000;
     let mut words = turned(number, minus);
-    words::add(&mut words[0..20], false, pick(minus, 1, 0), 0);
+    accumulator_words::add(&mut words[0..20], false, choose(minus, 1, 0), 0);
     words
 }
 
@@ -22,7 +22,7 @@ pub fn magnitude(number: [u32; 20]) -> [u32; 20]
 fn turned(number: [u32; 20], minus: bool) -> [u32; 20]
     ensures { λ r. ⌜ r ≡ cond minus (map complement number) number ⌝ }
 {
-    let mask = pick_pattern(minus, 0xffff_ffff, 0);
+    let mask = choose_pattern(minus, 0xffff_ffff, 0);
     let mut words = number;
     let mut i: usize = 0;
     while i < 20 {
@@ -53,7 +53,7 @@ pub fn first_digits(words: [u32; 20]) -> Digits
             sig = sig * 0x1_0000_0000 + w;
             exp -= 32;
         } else {
-            sig = pick(w == 0, sig, sig - sig % 2 + 1);
+            sig = choose(w == 0, sig, sig - sig % 2 + 1);
         }
     }
     Digits { sig, exp }

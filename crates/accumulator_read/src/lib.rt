@@ -1,22 +1,24 @@
 // What a total reads: RN0 of its number, and RN0 of the number less that.
+mod leading;
+
 use leading::first_digits;
 use leading::magnitude;
-use operands::classify;
-use parts::zero_takes;
-use rounding::Ties;
-use steps::Class;
+use pattern::classify;
+use augmented_pack::zero_takes;
+use rounding_spec::Ties;
+use pattern_spec::Class;
 ghost use mathlib.Core.Path.{_≡_};
 ghost use Prim.Native.Nat.{_*_, _^_, _≤_, _<_};
 ghost use lib.ListN.{length, take};
 ghost use lib.IntN.{natAbs, _+ℤ_};
-ghost use Rattle.rounding.specs.declared.Ties.the-variants.{ToZero};
-ghost use Rattle.rounding.specs.Format.{binary32};
-ghost use Rattle.rounding.specs.Value.{encode, round};
-ghost use Rattle.steps.specs.Exact.{int};
-ghost use Rattle.pairs.specs.Pairs.{pairOf};
-ghost use Rattle.words.specs.Words.{integer, wordsOfInteger};
-ghost use Rattle.totals.specs.Totals.{exact, pairAnswer, reading};
-ghost use Rattle.halves.specs.Inner.{replied};
+ghost use Rattle.rounding_spec.specs.declared.Ties.the-variants.{ToZero};
+ghost use Rattle.rounding_spec.specs.Format.{binary32};
+ghost use Rattle.rounding_spec.specs.Value.{encode, round};
+ghost use Rattle.pattern_spec.specs.Exact.{int};
+ghost use Rattle.augmented_spec.specs.Pairs.{pairOf};
+ghost use Rattle.accumulator_spec.specs.Words.{integer, wordsOfInteger};
+ghost use Rattle.accumulator_spec.specs.Totals.{exact, pairAnswer, reading};
+ghost use Rattle.accumulator_read.specs.Inner.{replied};
 
 // Document 01's number of the refusal; or 0, and the pair. Free are the halves of a refusal, and which number stands for 6 (`replied`).
 pub struct Reply {
@@ -28,7 +30,7 @@ pub struct Reply {
 pub fn read(total: &[u32]) -> Reply
     ensures { λ r. ⌜ replied (r .refusal) (r .first) (r .second) ≡ reading (now (total .entry)) ⌝ }
 {
-    let refusal = fit::refusal(total);
+    let refusal = accumulator_fit::refusal(total);
     if refusal != 0 {
         return Reply {
             refusal,
@@ -89,7 +91,7 @@ fn moved(number: [u32; 20], minus: bool, sig: u64, exp: u16) -> [u32; 20]
 {
     let mut sum = number;
     let w = (exp / 32) as usize;
-    words::add(&mut sum[w..20], minus, sig, exp);
+    accumulator_words::add(&mut sum[w..20], minus, sig, exp);
     sum
 }
 
@@ -99,5 +101,5 @@ fn rounded(number: [u32; 20]) -> u32
 {
     let minus = number[19] >= 0x8000_0000;
     let top = first_digits(magnitude(number));
-    nearest::round(Ties::ToZero, minus, top.sig, top.exp)
+    rounding::round(Ties::ToZero, minus, top.sig, top.exp)
 }

@@ -10,13 +10,13 @@ use borrow.Author.Tests.{le-leb, leb-true, eqb-true, eqb-false}
 use lib.Dec.{eqb, leb, lit<}
 use lib.IntN.{ℤ, pos, negsuc, natAbs, subℕ, _+ℤ_}
 use lib.ListN.{length}
-use Rattle.words.specs.Words.{Words}
-use Rattle.totals.specs.Totals.{number, count, totalOf, fit, Term, finiteOperands, exactTerm, whole, Answer, refused, done, adding}
-use Rattle.totals.specs.Theorems.{FitTotal, FitIs, LowestUnfit, AcceptedTerm, ExactAdding}
-use Rattle.totals.proofs.Answers.{adding-done, after-done}
-use Rattle.totals.proofs.Held.{total-number, total-count, total-full, total-words}
-use Rattle.totals.proofs.Rest.{abs-sub}
-use Rattle.totals.proofs.TermBound.{term-bound}
+use Rattle.accumulator_spec.specs.Words.{Words}
+use Rattle.accumulator_spec.specs.Totals.{number, count, totalOf, fit, Term, finiteOperands, exactTerm, whole, Answer, refused, done, adding}
+use Rattle.accumulator_spec.specs.Theorems.{FitTotal, FitIs, LowestUnfit, AcceptedTerm, ExactAdding}
+use Rattle.accumulator_spec.proofs.Answers.{adding-done, after-done}
+use Rattle.accumulator_spec.proofs.Held.{total-number, total-count, total-full, total-words}
+use Rattle.accumulator_spec.proofs.Rest.{abs-sub}
+use Rattle.accumulator_spec.proofs.TermBound.{term-bound}
 
 -- ---- magnitudes
 sub-magnitude : (a b : ℕ) → natAbs (subℕ a b) ≤ a + b

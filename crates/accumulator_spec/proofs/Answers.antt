@@ -6,10 +6,10 @@ use Prim.Native.Nat.{ℕ, suc}
 use borrow.Author.Tests.{eq-eqb, ne-eqb}
 use lib.ListN.{length, replicate}
 use lib.IntN.{_+ℤ_}
-use Rattle.rounding.specs.Format.{binary32}
-use Rattle.pairs.specs.Pairs.{pairOf}
-use Rattle.totals.specs.Theorems.{RefusedTerm, AddingRefused, ReadingRefused, Clears}
-use Rattle.totals.specs.Totals.{number, count, totalOf, fit, Term, finiteOperands, exactTerm, whole, refused, done, adding, afterAdding, clearing, afterClearing, exact, pairAnswer, reading}
+use Rattle.rounding_spec.specs.Format.{binary32}
+use Rattle.augmented_spec.specs.Pairs.{pairOf}
+use Rattle.accumulator_spec.specs.Theorems.{RefusedTerm, AddingRefused, ReadingRefused, Clears}
+use Rattle.accumulator_spec.specs.Totals.{number, count, totalOf, fit, Term, finiteOperands, exactTerm, whole, refused, done, adding, afterAdding, clearing, afterClearing, exact, pairAnswer, reading}
 
 -- ---- clearing
 module _ (t : List ℕ) where

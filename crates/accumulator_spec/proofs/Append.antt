@@ -6,7 +6,7 @@ use native.Mathlib.Nat.{mul-suc, mul-assoc, add-comm, zero-add, one-mul}
 use native.Mathlib.Omega.{arith}
 use lib.ListN.{length}
 use lib.Pow.{pow-add}
-use Rattle.words.specs.Words.{natural}
+use Rattle.accumulator_spec.specs.Words.{natural}
 
 -- one word more, in the range
 pub base-suc : (k : ℕ) → 2 ^ (32 * suc k) ≡ 4294967296 * 2 ^ (32 * k)

@@ -9,8 +9,8 @@ use native.Mathlib.Omega.{arith}
 use lib.Bits.{bitXor, xor-zero-r, xor-add-and, and-mask}
 use lib.ListN.{length, take, drop, set, getD, drop-of-length-le}
 use lib.Seq.{drop-cons, take-suc-set, drop-set-lt, take-all}
-use Rattle.words.specs.Words.{Words, complement}
-use Rattle.words.proofs.Append.{base-suc}
+use Rattle.accumulator_spec.specs.Words.{Words, complement}
+use Rattle.accumulator_spec.proofs.Append.{base-suc}
 
 -- the word itself, or its complement
 abbrev pub turn : Bool → ℕ → ℕ

@@ -10,13 +10,13 @@ use native.Mathlib.Nat.{le-trans, le-of-eq, le-refl, add-zero, zero-add}
 use native.Mathlib.Omega.{arith}
 use lib.IntN.{ℤ, pos, natAbs, _+ℤ_, +ℤ-idl, +ℤ-idr, +ℤ-assoc, +ℤ-comm}
 use lib.ListN.{length}
-use Rattle.words.specs.Words.{wordsOf, wordsOfInteger}
-use Rattle.totals.specs.Totals.{number, count, totalOf, Term, finiteOperands, exactTerm, whole, done, adding, afterAdding}
-use Rattle.totals.specs.Columns.{zeros, column, Accepted, AllFinite, columnSum}
-use Rattle.totals.specs.Theorems.{FitTotal, ColumnNext, AcceptedEach, AllFiniteIs, ExactColumn, AnyOrder}
-use Rattle.totals.proofs.Held.{total-number, total-count}
-use Rattle.totals.proofs.Adding.{sum-room, one-more, total-fit, accepts}
-use Rattle.totals.proofs.Answers.{after-done}
+use Rattle.accumulator_spec.specs.Words.{wordsOf, wordsOfInteger}
+use Rattle.accumulator_spec.specs.Totals.{number, count, totalOf, Term, finiteOperands, exactTerm, whole, done, adding, afterAdding}
+use Rattle.accumulator_spec.specs.Columns.{zeros, column, Accepted, AllFinite, columnSum}
+use Rattle.accumulator_spec.specs.Theorems.{FitTotal, ColumnNext, AcceptedEach, AllFiniteIs, ExactColumn, AnyOrder}
+use Rattle.accumulator_spec.proofs.Held.{total-number, total-count}
+use Rattle.accumulator_spec.proofs.Adding.{sum-room, one-more, total-fit, accepts}
+use Rattle.accumulator_spec.proofs.Answers.{after-done}
 
 -- ---- one term on a total whose number and count are known
 module _ (z : ℤ) (n : ℕ) (x : Term) (few : n < 65536) (small : natAbs z ≤ n * 2 ^ 554) (finite : finiteOperands x ≡ true) where

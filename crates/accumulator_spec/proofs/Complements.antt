@@ -5,7 +5,7 @@ use Prim.Native.Nat.{ℕ, zero, suc, _-_, _/_, _<_}
 use native.Mathlib.Omega.{arith}
 use lib.Dec.{lit<}
 use lib.ListN.{length}
-use Rattle.words.specs.Words.{Words, wordsOf, complement}
+use Rattle.accumulator_spec.specs.Words.{Words, wordsOf, complement}
 
 pub words-length : (k n : ℕ) → length (wordsOf k n) ≡ k
 unfolding wordsOf

@@ -10,13 +10,13 @@ use lib.Dec.{leb, eqb}
 use lib.IntN.{natAbs}
 use lib.ListN.{length, length-map, drop, getD, take}
 use lib.Seq.{drop-cons, take-add, getD-take, length-take-le}
-use Rattle.words.specs.Words.{Words, natural, complement}
-use Rattle.words.proofs.Append.{natural-append}
-use Rattle.words.proofs.Parts.{take-words}
-use Rattle.words.proofs.TwosComplement.{natural-complement}
-use Rattle.totals.specs.Totals.{fit, count, number}
-use Rattle.totals.proofs.Top as by-top
-use Rattle.totals.proofs.Limit.{strictly-under, strictly-over, under, over, level}
+use Rattle.accumulator_spec.specs.Words.{Words, natural, complement}
+use Rattle.accumulator_spec.proofs.Append.{natural-append}
+use Rattle.accumulator_spec.proofs.Parts.{take-words}
+use Rattle.accumulator_spec.proofs.TwosComplement.{natural-complement}
+use Rattle.accumulator_spec.specs.Totals.{fit, count, number}
+use Rattle.accumulator_spec.proofs.Top as by-top
+use Rattle.accumulator_spec.proofs.Limit.{strictly-under, strictly-over, under, over, level}
 
 -- over a variable m, as a power of two is one for omega
 both-below : (x y m : ℕ) → x + y + 1 ≡ m → (y < m) × (x < m)

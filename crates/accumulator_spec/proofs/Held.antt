@@ -8,11 +8,11 @@ use lib.IntN.{ℤ, natAbs}
 use lib.ListN.{length, take, length-append}
 use lib.Pow.{pow-add}
 use lib.Seq.{take-all, take-at, take-suc, getD-at, length-take-le}
-use Rattle.words.specs.Words.{Words, integer, wordsOfInteger}
-use Rattle.words.proofs.Parts.{take-words}
-use Rattle.words.proofs.TwosComplement.{held, words-unique, formed}
-use Rattle.totals.specs.Totals.{number, count, totalOf}
-use Rattle.totals.specs.Theorems.{NumberAndCount, NumberHeld, TotalUnique}
+use Rattle.accumulator_spec.specs.Words.{Words, integer, wordsOfInteger}
+use Rattle.accumulator_spec.proofs.Parts.{take-words}
+use Rattle.accumulator_spec.proofs.TwosComplement.{held, words-unique, formed}
+use Rattle.accumulator_spec.specs.Totals.{number, count, totalOf}
+use Rattle.accumulator_spec.specs.Theorems.{NumberAndCount, NumberHeld, TotalUnique}
 
 -- half the range is 2 ^ 639
 room : (m : ℕ) → m < 2 ^ 639 → 2 * m < 2 ^ (32 * 20)

@@ -4,14 +4,14 @@ use mathlib.Core.Path.{refl, sym, ap, ap₂, _∙_}
 use mathlib.Core.Bool.{_&&_}
 use Prim.Native.Nat.{_^_}
 use lib.IntN.{pos, negsuc}
-use Rattle.rounding.specs.Format.{binary32}
-use Rattle.rounding.specs.Value.{Value, fields, magnitude, unsigned, decode}
-use Rattle.steps.specs.Exact.{times, finer}
-use Rattle.steps.proofs.Integers.{times-exact, int-scale}
-use Rattle.pairs.proofs.Patterns.{finite-is}
-use Rattle.words.specs.Words.{wordsOf, wordsOfInteger}
-use Rattle.totals.specs.Totals.{whole}
-use Rattle.totals.specs.Theorems.{TotalLandmarks, TermLandmarks, FiniteOperandsAre, PatternTerm, ProductTerm, ExactBack}
+use Rattle.rounding_spec.specs.Format.{binary32}
+use Rattle.rounding_spec.specs.Value.{Value, fields, magnitude, unsigned, decode}
+use Rattle.pattern_spec.specs.Exact.{times, finer}
+use Rattle.pattern_spec.proofs.Integers.{times-exact, int-scale}
+use Rattle.augmented_spec.proofs.Patterns.{finite-is}
+use Rattle.accumulator_spec.specs.Words.{wordsOf, wordsOfInteger}
+use Rattle.accumulator_spec.specs.Totals.{whole}
+use Rattle.accumulator_spec.specs.Theorems.{TotalLandmarks, TermLandmarks, FiniteOperandsAre, PatternTerm, ProductTerm, ExactBack}
 
 pub total-landmarks : TotalLandmarks
 unfolding wordsOf wordsOfInteger

@@ -13,14 +13,14 @@ use lib.Dec.{eqb}
 use lib.ListN.{length, drop, getD}
 use lib.Pow.{pow-add, pow-pos}
 use lib.Seq.{drop-cons}
-use Rattle.rounding.specs.declared.Ties.{Ties}
-use Rattle.rounding.specs.Format.{binary32}
-use Rattle.rounding.specs.Round.{rounded}
-use Rattle.rounding.specs.Value.{roundFinite}
-use Rattle.rounding.proofs.Sticky.{odd}
-use Rattle.steps.specs.Inner.{Odd, Jammed}
-use Rattle.words.specs.Words.{Words, natural}
-use Rattle.totals.specs.Inner.{Leading}
+use Rattle.rounding_spec.specs.declared.Ties.{Ties}
+use Rattle.rounding_spec.specs.Format.{binary32}
+use Rattle.rounding_spec.specs.Round.{rounded}
+use Rattle.rounding_spec.specs.Value.{roundFinite}
+use Rattle.rounding_spec.proofs.Sticky.{odd}
+use Rattle.pattern_spec.specs.Inner.{Odd, Jammed}
+use Rattle.accumulator_spec.specs.Words.{Words, natural}
+use Rattle.accumulator_spec.specs.Inner.{Leading}
 
 -- what stands for N, the number that the words from the i-th on hold: all of it, or its leading digits, of which the last counts 2 ^ exp
 pub data Digits (N i sig exp : ℕ) : Type 0 where

@@ -1,3 +1,9 @@
+pub mod Append
+pub mod Carry
+pub mod Complements
+pub mod Signed
+pub mod TwosComplement
+pub mod Parts
 pub mod Top
 pub mod Limit
 pub mod Fitness
@@ -16,11 +22,5 @@ pub mod ReadTotal
 pub mod Landmarks
 pub mod ReadPairs
 pub mod Theorems
-pub mod Append
-pub mod Signed
-pub mod Parts
-pub mod Complements
-pub mod TwosComplement
 pub mod Places
-pub mod Carry
 pub mod WordTheorems

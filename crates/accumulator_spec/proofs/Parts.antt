@@ -9,11 +9,11 @@ use lib.Dec.{lit<}
 use lib.IntN.{pos, _+ℤ_}
 use lib.ListN.{length, take, drop}
 use lib.Seq.{take-take, drop-drop, getD-drop, length-take-le}
-use Rattle.steps.specs.Exact.{int}
-use Rattle.words.specs.Words.{Words, natural, integer, wordsOfInteger}
-use Rattle.words.proofs.Carry.{walk, walk-from}
-use Rattle.words.proofs.Signed.{walk-integer}
-use Rattle.words.proofs.TwosComplement.{words-natural, words-unique}
+use Rattle.pattern_spec.specs.Exact.{int}
+use Rattle.accumulator_spec.specs.Words.{Words, natural, integer, wordsOfInteger}
+use Rattle.accumulator_spec.proofs.Carry.{walk, walk-from}
+use Rattle.accumulator_spec.proofs.Signed.{walk-integer}
+use Rattle.accumulator_spec.proofs.TwosComplement.{words-natural, words-unique}
 
 pub take-words : (w : ℕ) (ws : List ℕ) → Words ws → Words (take w ws)
 take-words zero ws k i = lit< tt

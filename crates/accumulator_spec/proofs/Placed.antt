@@ -9,10 +9,10 @@ use lib.IntN.{pos, _+ℤ_}
 use lib.ListN.{length, take, drop, getD, set, drop-of-length-le, length-append}
 use lib.Pow.{pow-add}
 use lib.Seq.{take-all, take-at, drop-cons, set-split}
-use Rattle.steps.specs.Exact.{int}
-use Rattle.words.specs.Words.{Words, natural, integer, wordsOfInteger}
-use Rattle.words.proofs.Parts.{part-added}
-use Rattle.words.proofs.TwosComplement.{formed}
+use Rattle.pattern_spec.specs.Exact.{int}
+use Rattle.accumulator_spec.specs.Words.{Words, natural, integer, wordsOfInteger}
+use Rattle.accumulator_spec.proofs.Parts.{part-added}
+use Rattle.accumulator_spec.proofs.TwosComplement.{formed}
 
 -- the weight of the word times the number that is added there
 placed : (sig exp : ℕ) → 2 ^ (32 * (exp / 32)) * (sig * 2 ^ (exp % 32)) ≡ sig * 2 ^ exp

@@ -5,11 +5,11 @@ use Prim.Native.Nat.{ℕ, zero, suc, _+_, _-_, _*_, _/_, _%_, _^_, _<_}
 use native.Mathlib.Nat.{div-one, div-div-eq-div-mul}
 use native.Mathlib.Omega.{arith}
 use lib.ListN.{length, getD}
-use Rattle.words.specs.Words.{natural, wordsOf, wordsOfInteger, complement}
-use Rattle.words.specs.Theorems.{WordAt, NaturalWords}
-use Rattle.words.proofs.Append.{base-suc}
-use Rattle.words.proofs.Complements.{words-length}
-use Rattle.words.proofs.TwosComplement.{words-natural, natural-complement}
+use Rattle.accumulator_spec.specs.Words.{natural, wordsOf, wordsOfInteger, complement}
+use Rattle.accumulator_spec.specs.WordTheorems.{WordAt, NaturalWords}
+use Rattle.accumulator_spec.proofs.Append.{base-suc}
+use Rattle.accumulator_spec.proofs.Complements.{words-length}
+use Rattle.accumulator_spec.proofs.TwosComplement.{words-natural, natural-complement}
 
 place : (k n i : ℕ) → i < k → getD (wordsOf k n) i 0 ≡ n / 2 ^ (32 * i) % 2 ^ 32
 unfolding wordsOf

@@ -8,22 +8,22 @@ use native.Mathlib.Omega.{arith}
 use lib.Dec.{lit≤}
 use lib.Ieee.{unlike}
 use lib.IntN.{ℤ, pos, _+ℤ_, +ℤ-idr}
-use Rattle.rounding.specs.declared.Ties.the-variants.{ToZero}
-use Rattle.rounding.specs.Format.{binary32, edge}
-use Rattle.rounding.specs.Value.{Value, nan, infinite, finite, decode, isFinite, encode}
-use Rattle.rounding.proofs.RoundValue.{over-edge}
-use Rattle.steps.specs.Exact.{int, plus, times, finer}
-use Rattle.steps.specs.Steps.{result}
-use Rattle.steps.proofs.Integers.{plus-exact}
-use Rattle.steps.proofs.Result.{result-encode}
-use Rattle.steps.proofs.Sums.{finer-sum}
-use Rattle.pairs.specs.Pairs.{Halves, pairOf, answer, exactSum, exactProduct, sumPair, productPair}
-use Rattle.pairs.proofs.Second.{first-infinite, second-infinite}
-use Rattle.totals.specs.Totals.{ofPattern, ofProduct, whole, pair, exact, pairAnswer}
-use Rattle.totals.specs.Columns.{AllFinite, columnSum}
-use Rattle.totals.specs.Theorems.{ReadOverflow, ReadSum, ReadProduct}
-use Rattle.totals.proofs.Rest.{exact-int}
-use Rattle.totals.proofs.ReadTotal.{read-fit, read-column}
+use Rattle.rounding_spec.specs.declared.Ties.the-variants.{ToZero}
+use Rattle.rounding_spec.specs.Format.{binary32, edge}
+use Rattle.rounding_spec.specs.Value.{Value, nan, infinite, finite, decode, isFinite, encode}
+use Rattle.rounding_spec.proofs.RoundValue.{over-edge}
+use Rattle.pattern_spec.specs.Exact.{int, plus, times, finer}
+use Rattle.binary32_spec.specs.Steps.{result}
+use Rattle.pattern_spec.proofs.Integers.{plus-exact}
+use Rattle.binary32_spec.proofs.Result.{result-encode}
+use Rattle.pattern_spec.proofs.Sums.{finer-sum}
+use Rattle.augmented_spec.specs.Pairs.{Halves, pairOf, answer, exactSum, exactProduct, sumPair, productPair}
+use Rattle.augmented_spec.proofs.Second.{first-infinite, second-infinite}
+use Rattle.accumulator_spec.specs.Totals.{ofPattern, ofProduct, whole, pair, exact, pairAnswer}
+use Rattle.accumulator_spec.specs.Columns.{AllFinite, columnSum}
+use Rattle.accumulator_spec.specs.Theorems.{ReadOverflow, ReadSum, ReadProduct}
+use Rattle.accumulator_spec.proofs.Rest.{exact-int}
+use Rattle.accumulator_spec.proofs.ReadTotal.{read-fit, read-column}
 
 -- a number that is not zero has its sign
 zero-int : (s : Bool) (N : ℕ) → N ≡ 0 → int s N ≡ pos 0

@@ -8,22 +8,22 @@ use lib.Dec.{eqb}
 use lib.Ieee.{size, unlike}
 use lib.IntN.{_+ℤ_}
 use lib.Pow.{pow-pos}
-use Rattle.rounding.specs.declared.Ties.the-variants.{ToZero}
-use Rattle.rounding.specs.Format.{binary32, limit}
-use Rattle.rounding.specs.Round.{keep, lastPlace, rounded}
-use Rattle.rounding.specs.Value.{Value, finite, bits, encode, round}
-use Rattle.rounding.proofs.Rounded.{rounded-none, rounded-mono}
-use Rattle.rounding.proofs.RoundValue.{round-fits}
-use Rattle.steps.specs.Exact.{int}
-use Rattle.pairs.specs.Pairs.{zeroTakes, secondOf, pairOf}
-use Rattle.pairs.proofs.Second.{head, tail, up, tail-le, first-finite, pair-second}
-use Rattle.totals.specs.Totals.{number, pair, exact, pairAnswer}
-use Rattle.totals.specs.Columns.{zeros, column}
-use Rattle.totals.specs.Theorems.{ReadFit, ReadColumn, ReadZero, ReadRoundedToZero, ReadFinite}
-use Rattle.totals.proofs.Answers.{reading-pair}
-use Rattle.totals.proofs.Columns.{exact-column}
-use Rattle.totals.proofs.Rest.{exact-int, rest-whole}
-use Rattle.totals.proofs.TotalPair.{zero-taken}
+use Rattle.rounding_spec.specs.declared.Ties.the-variants.{ToZero}
+use Rattle.rounding_spec.specs.Format.{binary32, limit}
+use Rattle.rounding_spec.specs.Round.{keep, lastPlace, rounded}
+use Rattle.rounding_spec.specs.Value.{Value, finite, bits, encode, round}
+use Rattle.rounding_spec.proofs.Rounded.{rounded-none, rounded-mono}
+use Rattle.rounding_spec.proofs.RoundValue.{round-fits}
+use Rattle.pattern_spec.specs.Exact.{int}
+use Rattle.augmented_spec.specs.Pairs.{zeroTakes, secondOf, pairOf}
+use Rattle.augmented_spec.proofs.Second.{head, tail, up, tail-le, first-finite, pair-second}
+use Rattle.accumulator_spec.specs.Totals.{number, pair, exact, pairAnswer}
+use Rattle.accumulator_spec.specs.Columns.{zeros, column}
+use Rattle.accumulator_spec.specs.Theorems.{ReadFit, ReadColumn, ReadZero, ReadRoundedToZero, ReadFinite}
+use Rattle.accumulator_spec.proofs.Answers.{reading-pair}
+use Rattle.accumulator_spec.proofs.Columns.{exact-column}
+use Rattle.accumulator_spec.proofs.Rest.{exact-int, rest-whole}
+use Rattle.accumulator_spec.proofs.TotalPair.{zero-taken}
 
 pub read-fit : ReadFit
 read-fit t f = reading-pair t (f .full) (f .fits)

@@ -7,19 +7,19 @@ use native.Mathlib.Nat.{le-trans, le-of-eq}
 use native.Mathlib.Omega.{arith}
 use borrow.Author.Tests.{lt-ltb, le-ltb}
 use lib.IntN.{ℤ, pos, negsuc, natAbs, negℤ, subℕ, _+ℤ_, negℤ-+ℤ}
-use Rattle.rounding.specs.declared.Ties.the-variants.{ToZero}
-use Rattle.rounding.specs.Format.{binary32, limit}
-use Rattle.rounding.specs.Round.{rounded}
-use Rattle.rounding.specs.Nearest.{dist}
-use Rattle.rounding.specs.Value.{finite, round, roundFinite, RN0}
-use Rattle.rounding.proofs.Representable.{rep-zero}
-use Rattle.rounding.proofs.Rounded.{rounded-near}
-use Rattle.rounding.proofs.RoundValue.{round-below, round-above, round-finite}
-use Rattle.steps.specs.Exact.{negate, plus, finer, int}
-use Rattle.steps.proofs.Integers.{plus-exact}
-use Rattle.steps.proofs.Sums.{sum-same}
-use Rattle.pairs.specs.Pairs.{rest}
-use Rattle.totals.specs.Totals.{exact}
+use Rattle.rounding_spec.specs.declared.Ties.the-variants.{ToZero}
+use Rattle.rounding_spec.specs.Format.{binary32, limit}
+use Rattle.rounding_spec.specs.Round.{rounded}
+use Rattle.rounding_spec.specs.Nearest.{dist}
+use Rattle.rounding_spec.specs.Value.{finite, round, roundFinite, RN0}
+use Rattle.rounding_spec.proofs.Representable.{rep-zero}
+use Rattle.rounding_spec.proofs.Rounded.{rounded-near}
+use Rattle.rounding_spec.proofs.RoundValue.{round-below, round-above, round-finite}
+use Rattle.pattern_spec.specs.Exact.{negate, plus, finer, int}
+use Rattle.pattern_spec.proofs.Integers.{plus-exact}
+use Rattle.pattern_spec.proofs.Sums.{sum-same}
+use Rattle.augmented_spec.specs.Pairs.{rest}
+use Rattle.accumulator_spec.specs.Totals.{exact}
 
 -- ---- the rest as a whole number
 -- a number by its sign and magnitude, where a zero has the sign +

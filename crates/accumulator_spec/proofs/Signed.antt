@@ -7,10 +7,10 @@ use native.Mathlib.Decide.{decLe}
 use native.Mathlib.Omega.{arith}
 use lib.IntN.{ℤ, pos, negsuc, negℤ, subℕ, _+ℤ_}
 use borrow.Author.Tests.{lt-ltb, le-ltb}
-use Rattle.steps.specs.Exact.{int}
-use Rattle.words.specs.Words.{wordsOf, wordsOfInteger, complement}
-use Rattle.words.proofs.Complements.{words-words, complement-back}
-use Rattle.words.proofs.Carry.{walk}
+use Rattle.pattern_spec.specs.Exact.{int}
+use Rattle.accumulator_spec.specs.Words.{wordsOf, wordsOfInteger, complement}
+use Rattle.accumulator_spec.proofs.Complements.{words-words, complement-back}
+use Rattle.accumulator_spec.proofs.Carry.{walk}
 
 -- ---- adding
 -- to a natural number

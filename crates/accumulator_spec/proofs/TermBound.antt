@@ -7,11 +7,11 @@ use lib.Dec.{lit<, lit≤}
 use lib.Ieee.{unlike}
 use lib.IntN.{natAbs}
 use lib.Pow.{shl-lt, pow-mono}
-use Rattle.rounding.specs.Format.{binary32, limit}
-use Rattle.rounding.specs.Value.{Value, nan, infinite, finite, Fits, decode, isFinite}
-use Rattle.rounding.proofs.Codec.{decode-fits}
-use Rattle.steps.specs.Exact.{int, times, finer}
-use Rattle.totals.specs.Totals.{Term, ofPattern, ofProduct, finiteOperands, exactTerm, whole}
+use Rattle.rounding_spec.specs.Format.{binary32, limit}
+use Rattle.rounding_spec.specs.Value.{Value, nan, infinite, finite, Fits, decode, isFinite}
+use Rattle.rounding_spec.proofs.Codec.{decode-fits}
+use Rattle.pattern_spec.specs.Exact.{int, times, finer}
+use Rattle.accumulator_spec.specs.Totals.{Term, ofPattern, ofProduct, finiteOperands, exactTerm, whole}
 
 int-magnitude : (s : Bool) (a : ℕ) → natAbs (int s a) ≡ a
 int-magnitude false a = refl

@@ -8,11 +8,11 @@ use borrow.Author.Tests.{eq-eqb, ne-eqb}
 use lib.Dec.{eqb}
 use lib.IntN.{_+ℤ_}
 use lib.ListN.{length}
-use Rattle.rounding.specs.Format.{binary32}
-use Rattle.rounding.specs.Value.{Value, nan, infinite, finite, decode, isFinite}
-use Rattle.steps.specs.Exact.{int, times, finer}
-use Rattle.totals.specs.Totals.{number, count, totalOf, fit, Term, ofPattern, ofProduct, finiteOperands, exactTerm, whole, Answer, refused, done, adding, afterAdding}
-use Rattle.totals.proofs.Answers.{adding-special, adding-full, adding-done, after-refused, after-done}
+use Rattle.rounding_spec.specs.Format.{binary32}
+use Rattle.rounding_spec.specs.Value.{Value, nan, infinite, finite, decode, isFinite}
+use Rattle.pattern_spec.specs.Exact.{int, times, finer}
+use Rattle.accumulator_spec.specs.Totals.{number, count, totalOf, fit, Term, ofPattern, ofProduct, finiteOperands, exactTerm, whole, Answer, refused, done, adding, afterAdding}
+use Rattle.accumulator_spec.proofs.Answers.{adding-special, adding-full, adding-done, after-refused, after-done}
 
 -- ---- a product is finite where both operands are
 special-choice : (c s : Bool) → isFinite (cond c nan (infinite s)) ≡ false

@@ -1,12 +1,12 @@
 -- All that specs/Theorems states, proved. Assumes nothing.
-use Rattle.totals.specs.Theorems.{All}
-use Rattle.totals.proofs.Held.{number-and-count, number-held, total-unique}
-use Rattle.totals.proofs.Landmarks.{total-landmarks, finite-operands-are, pattern-term, product-term, term-landmarks, exact-back}
-use Rattle.totals.proofs.Answers.{adding-refused, refused-term, clears, reading-refused}
-use Rattle.totals.proofs.Adding.{fit-is, lowest-unfit, accepted-term, exact-adding}
-use Rattle.totals.proofs.Columns.{column-next, accepted-each, all-finite-is, exact-column, any-order}
-use Rattle.totals.proofs.ReadTotal.{read-fit, read-column, read-finite, read-zero, read-rounded-to-zero}
-use Rattle.totals.proofs.ReadPairs.{read-overflow, read-sum, read-product}
+use Rattle.accumulator_spec.specs.Theorems.{All}
+use Rattle.accumulator_spec.proofs.Held.{number-and-count, number-held, total-unique}
+use Rattle.accumulator_spec.proofs.Landmarks.{total-landmarks, finite-operands-are, pattern-term, product-term, term-landmarks, exact-back}
+use Rattle.accumulator_spec.proofs.Answers.{adding-refused, refused-term, clears, reading-refused}
+use Rattle.accumulator_spec.proofs.Adding.{fit-is, lowest-unfit, accepted-term, exact-adding}
+use Rattle.accumulator_spec.proofs.Columns.{column-next, accepted-each, all-finite-is, exact-column, any-order}
+use Rattle.accumulator_spec.proofs.ReadTotal.{read-fit, read-column, read-finite, read-zero, read-rounded-to-zero}
+use Rattle.accumulator_spec.proofs.ReadPairs.{read-overflow, read-sum, read-product}
 
 pub all : All
 all = (

@@ -11,12 +11,12 @@ use lib.Dec.{leb}
 use lib.IntN.{pos, negsuc, natAbs}
 use lib.ListN.{length, take, getD, drop-of-length-le}
 use lib.Seq.{split-at, length-take-le}
-use Rattle.rounding.specs.Value.{finite}
-use Rattle.words.specs.Words.{Words, natural, integer, wordsOf, complement}
-use Rattle.words.proofs.Append.{base-suc, natural-append}
-use Rattle.words.proofs.Parts.{take-words}
-use Rattle.words.proofs.TwosComplement.{natural-back, natural-complement, integer-positive, integer-negative}
-use Rattle.totals.specs.Totals.{exact}
+use Rattle.rounding_spec.specs.Value.{finite}
+use Rattle.accumulator_spec.specs.Words.{Words, natural, integer, wordsOf, complement}
+use Rattle.accumulator_spec.proofs.Append.{base-suc, natural-append}
+use Rattle.accumulator_spec.proofs.Parts.{take-words}
+use Rattle.accumulator_spec.proofs.TwosComplement.{natural-back, natural-complement, integer-positive, integer-negative}
+use Rattle.accumulator_spec.specs.Totals.{exact}
 
 -- over a variable b, as a power of two is one for omega
 module _ (l b w : ℕ) where

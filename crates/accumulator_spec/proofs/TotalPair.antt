@@ -7,23 +7,23 @@ use native.Mathlib.Nat.{mul-assoc}
 use native.Mathlib.Omega.{arith}
 use lib.IntN.{ℤ, natAbs, _+ℤ_}
 use lib.Pow.{pow-add}
-use Rattle.rounding.specs.declared.Ties.the-variants.{ToZero}
-use Rattle.rounding.specs.Format.{binary32}
-use Rattle.rounding.specs.Value.{Value, nan, infinite, finite, Fits, decode, encode, round, isFinite, RN0}
-use Rattle.rounding.proofs.Codec.{decode-encode}
-use Rattle.rounding.proofs.RoundValue.{round-fits}
-use Rattle.steps.specs.declared.Class.{Class}
-use Rattle.steps.specs.declared.Class.the-variants.{Finite}
-use Rattle.steps.specs.Classes.{classOf, valueOf}
-use Rattle.steps.specs.Exact.{int}
-use Rattle.steps.proofs.Classified.{class-value}
-use Rattle.pairs.specs.Half.{zeroPattern}
-use Rattle.pairs.specs.Pairs.{rest, zeroTakes, secondOf, pairOf}
-use Rattle.pairs.proofs.Patterns.{zero-pattern}
-use Rattle.words.specs.Words.{integer, wordsOfInteger}
-use Rattle.words.proofs.TwosComplement.{held}
-use Rattle.totals.specs.Totals.{pair, exact, pairAnswer}
-use Rattle.totals.proofs.Rest.{rest-whole, rest-le}
+use Rattle.rounding_spec.specs.declared.Ties.the-variants.{ToZero}
+use Rattle.rounding_spec.specs.Format.{binary32}
+use Rattle.rounding_spec.specs.Value.{Value, nan, infinite, finite, Fits, decode, encode, round, isFinite, RN0}
+use Rattle.rounding_spec.proofs.Codec.{decode-encode}
+use Rattle.rounding_spec.proofs.RoundValue.{round-fits}
+use Rattle.pattern_spec.specs.declared.Class.{Class}
+use Rattle.pattern_spec.specs.declared.Class.the-variants.{Finite}
+use Rattle.pattern_spec.specs.Classes.{classOf, valueOf}
+use Rattle.pattern_spec.specs.Exact.{int}
+use Rattle.pattern_spec.proofs.Classified.{class-value}
+use Rattle.augmented_spec.specs.Half.{zeroPattern}
+use Rattle.augmented_spec.specs.Pairs.{rest, zeroTakes, secondOf, pairOf}
+use Rattle.augmented_spec.proofs.Patterns.{zero-pattern}
+use Rattle.accumulator_spec.specs.Words.{integer, wordsOfInteger}
+use Rattle.accumulator_spec.proofs.TwosComplement.{held}
+use Rattle.accumulator_spec.specs.Totals.{pair, exact, pairAnswer}
+use Rattle.accumulator_spec.proofs.Rest.{rest-whole, rest-le}
 
 -- a zero's pattern with the sign s, at every value of the format
 pub zero-taken : (s : Bool) (v : Value) → Fits binary32 v → zeroPattern s (encode binary32 v) ≡ encode binary32 (zeroTakes s v)

@@ -7,10 +7,10 @@ use native.Mathlib.Omega.{arith}
 use borrow.Author.Tests.{lt-ltb, le-ltb}
 use lib.IntN.{pos, negsuc, _-ℤ_}
 use lib.ListN.{length, length-map}
-use Rattle.words.specs.Words.{Words, natural, integer, wordsOf, wordsOfInteger, complement}
-use Rattle.words.specs.Theorems.{Held, WordsUnique, Formed}
-use Rattle.words.proofs.Append.{base-suc}
-use Rattle.words.proofs.Complements.{words-length, words-words, complement-words, complement-back}
+use Rattle.accumulator_spec.specs.Words.{Words, natural, integer, wordsOf, wordsOfInteger, complement}
+use Rattle.accumulator_spec.specs.WordTheorems.{Held, WordsUnique, Formed}
+use Rattle.accumulator_spec.proofs.Append.{base-suc}
+use Rattle.accumulator_spec.proofs.Complements.{words-length, words-words, complement-words, complement-back}
 
 -- ---- natural numbers
 -- a number that has room comes back

@@ -9,7 +9,7 @@ use borrow.Author.Tests.{ne-eqb}
 use lib.Dec.{eqb}
 use lib.ListN.{length, take, drop, set, getD, replicate, replicate-append-replicate, drop-of-length-le}
 use lib.Seq.{drop-cons, take-suc-set}
-use Rattle.words.specs.Words.{natural}
+use Rattle.accumulator_spec.specs.Words.{natural}
 
 no-word : (r : ℕ) → eqb (0 + 4294967296 * r) 0 ≡ eqb r 0
 no-word zero = refl

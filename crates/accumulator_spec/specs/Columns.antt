@@ -5,7 +5,7 @@ use mathlib.Core.Bool.{true}
 use mathlib.Core.List.{List, [], _∷_}
 use lib.ListN.{replicate}
 use lib.IntN.{ℤ, pos, _+ℤ_}
-use Rattle.totals.specs.Totals.{Term, done, finiteOperands, exactTerm, whole, adding, afterAdding}
+use Rattle.accumulator_spec.specs.Totals.{Term, done, finiteOperands, exactTerm, whole, adding, afterAdding}
 
 -- all 21 words of a cleared total
 abbrev pub zeros : List ℕ

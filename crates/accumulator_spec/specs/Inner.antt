@@ -2,7 +2,7 @@
 use Prim.Native.Nat.{ℕ, _*_, _^_, _≤_}
 use mathlib.Core.Path.{_≡_}
 use mathlib.Core.Logic.{_⊎_}
-use Rattle.steps.specs.Inner.{Odd}
+use Rattle.pattern_spec.specs.Inner.{Odd}
 
 -- The digits sig * 2 ^ exp stand for N: they are N itself, or 33 or more leading digits of it, the last one set to 1 since others follow.
 abbrev pub Leading : ℕ → ℕ → ℕ → Type 0

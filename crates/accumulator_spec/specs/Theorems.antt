@@ -8,14 +8,14 @@ use mathlib.Core.List.{List, [], _∷_, _++_, Perm}
 use lib.Dec.{ltb}
 use lib.ListN.{length, replicate}
 use lib.IntN.{ℤ, pos, negsuc, natAbs, negℤ, _+ℤ_, _*ℤ_}
-use Rattle.rounding.specs.Format.{binary32, edge}
-use Rattle.rounding.specs.Value.{infinite, finite, decode, encode, RN0}
-use Rattle.steps.specs.Exact.{int}
-use Rattle.pairs.specs.Half.{zeroPattern}
-use Rattle.pairs.specs.Pairs.{pairOf, sumPair, productPair}
-use Rattle.words.specs.Words.{Words, integer}
-use Rattle.totals.specs.Totals.{number, count, totalOf, fit, Term, ofPattern, ofProduct, finiteOperands, exactTerm, whole, refused, done, pair, adding, afterAdding, clearing, afterClearing, exact, pairAnswer, reading}
-use Rattle.totals.specs.Columns.{zeros, column, Accepted, AllFinite, columnSum}
+use Rattle.rounding_spec.specs.Format.{binary32, edge}
+use Rattle.rounding_spec.specs.Value.{infinite, finite, decode, encode, RN0}
+use Rattle.pattern_spec.specs.Exact.{int}
+use Rattle.augmented_spec.specs.Half.{zeroPattern}
+use Rattle.augmented_spec.specs.Pairs.{pairOf, sumPair, productPair}
+use Rattle.accumulator_spec.specs.Words.{Words, integer}
+use Rattle.accumulator_spec.specs.Totals.{number, count, totalOf, fit, Term, ofPattern, ofProduct, finiteOperands, exactTerm, whole, refused, done, pair, adding, afterAdding, clearing, afterClearing, exact, pairAnswer, reading}
+use Rattle.accumulator_spec.specs.Columns.{zeros, column, Accepted, AllFinite, columnSum}
 
 -- ---- the number and the count of a total
 -- "20 hold a two's-complement whole number of 2^-298, lowest word first; the last holds the count of terms."

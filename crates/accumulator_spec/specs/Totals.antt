@@ -6,11 +6,11 @@ use mathlib.Core.List.{List, [], _∷_, _++_}
 use lib.Dec.{eqb, leb}
 use lib.ListN.{length, take, getD, replicate}
 use lib.IntN.{ℤ, pos, negsuc, natAbs, _+ℤ_}
-use Rattle.rounding.specs.Format.{binary32}
-use Rattle.rounding.specs.Value.{Value, nan, infinite, finite, decode, encode, isFinite}
-use Rattle.steps.specs.Exact.{int, times, finer}
-use Rattle.pairs.specs.Pairs.{Halves, pairOf}
-use Rattle.words.specs.Words.{integer, wordsOfInteger}
+use Rattle.rounding_spec.specs.Format.{binary32}
+use Rattle.rounding_spec.specs.Value.{Value, nan, infinite, finite, decode, encode, isFinite}
+use Rattle.pattern_spec.specs.Exact.{int, times, finer}
+use Rattle.augmented_spec.specs.Pairs.{Halves, pairOf}
+use Rattle.accumulator_spec.specs.Words.{integer, wordsOfInteger}
 
 -- ---- "A total is 21 words of 32 bits: 20 hold a two's-complement whole number of 2^-298, lowest word first; the last holds the count of terms."
 abbrev pub number : List ℕ → ℤ

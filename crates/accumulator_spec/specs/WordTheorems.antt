@@ -5,7 +5,7 @@ use mathlib.Core.Path.{_≡_}
 use mathlib.Core.List.{List}
 use lib.ListN.{length, getD}
 use lib.IntN.{ℤ, pos, negsuc, natAbs}
-use Rattle.words.specs.Words.{Words, natural, integer, wordsOfInteger}
+use Rattle.accumulator_spec.specs.Words.{Words, natural, integer, wordsOfInteger}
 
 -- ---- "lowest word first": word i counts 2 ^ (32 i); the words of -(n + 1) are the complements of n's
 abbrev pub WordAt : Type 0

@@ -1,17 +1,17 @@
 // Patterns of halves: what they show, how they are made, and two of them in one word.
 pub mod raised;
 
-use pick::pick_exponent;
-use pick::pick_pattern;
-use pick::pick_sign;
+use choose::choose_exponent;
+use choose::choose_pattern;
+use choose::choose_sign;
 ghost use mathlib.Core.Path.{_≡_};
 ghost use mathlib.Core.Bool.{cond};
 ghost use Prim.Native.Nat.{_+_, _*_, _/_, _%_, _^_, _<_};
 ghost use lib.Dec.{eqb, ltb};
 ghost use lib.Ieee.{unlike};
-ghost use Rattle.rounding.specs.Format.{binary32, limit};
-ghost use Rattle.rounding.specs.Value.{finite, encode};
-ghost use Rattle.pairs.specs.Half.{zeroPattern};
+ghost use Rattle.rounding_spec.specs.Format.{binary32, limit};
+ghost use Rattle.rounding_spec.specs.Value.{finite, encode};
+ghost use Rattle.augmented_spec.specs.Half.{zeroPattern};
 
 pub fn is_finite(pattern: u32) -> bool
     ensures { λ r. ⌜ r ≡ ltb (pattern % 2 ^ 31) 0x7f80_0000 ⌝ }
@@ -33,11 +33,11 @@ pub fn packed(sign: bool, up: bool, rest: u64, unit: u16) -> u32
 {
     let zero = rest == 0;
     let room = (u64::leading_zeros(2 * rest + 1) - 39) as u16;
-    let shift = pick_exponent(room < unit, room, unit);
-    let field = pick_exponent(zero, 0, unit - shift);
+    let shift = choose_exponent(room < unit, room, unit);
+    let field = choose_exponent(zero, 0, unit - shift);
     let bits = (field as u64) * 0x80_0000 + (rest << shift);
-    let minus = pick_sign(zero, sign, sign != up);
-    (bits as u32) + pick_pattern(minus, 0x8000_0000, 0)
+    let minus = choose_sign(zero, sign, sign != up);
+    (bits as u32) + choose_pattern(minus, 0x8000_0000, 0)
 }
 
 // First in the lower half of a word, second in the upper.
@@ -63,9 +63,9 @@ pub fn second(both: u64) -> u32
 pub fn zero_takes(sign: bool, second: u32) -> u32
     ensures { λ r. ⌜ r ≡ zeroPattern sign second ⌝ }
 {
-    pick_pattern(
+    choose_pattern(
         second % 0x8000_0000 == 0,
-        pick_pattern(sign, 0x8000_0000, 0),
+        choose_pattern(sign, 0x8000_0000, 0),
         second,
     )
 }

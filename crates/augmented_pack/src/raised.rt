@@ -1,13 +1,13 @@
 // Flags of two operands whose first is infinite or NaN.
 use crate::is_finite;
 use crate::is_infinite;
-use pairs::Flags;
-use pick::pick_sign;
+use augmented_spec::Flags;
+use choose::choose_sign;
 ghost use mathlib.Core.Path.{_≡_};
 ghost use mathlib.Core.Bool.{false};
-ghost use Rattle.rounding.specs.Format.{binary32};
-ghost use Rattle.rounding.specs.Value.{decode, isNaN, signalling};
-ghost use Rattle.pairs.specs.Pairs.{invalid, overflowed, flagsOf};
+ghost use Rattle.rounding_spec.specs.Format.{binary32};
+ghost use Rattle.rounding_spec.specs.Value.{decode, isNaN, signalling};
+ghost use Rattle.augmented_spec.specs.Pairs.{invalid, overflowed, flagsOf};
 
 // I, and O with X; U is for finite pairs alone.
 pub fn of_special(x: u32, y: u32, first: u32) -> Flags
@@ -26,18 +26,18 @@ pub fn of_special(x: u32, y: u32, first: u32) -> Flags
 fn invalid(x: u32, y: u32, first: u32) -> bool
     ensures { λ r. ⌜ r ≡ invalid binary32 x y (decode binary32 first) ⌝ }
 {
-    let signals = pick_sign(signalling(x), true, signalling(y));
-    let from_x = pick_sign(is_nan(first), !is_nan(x), false);
-    let from_both = pick_sign(from_x, !is_nan(y), false);
-    pick_sign(signals, true, from_both)
+    let signals = choose_sign(signalling(x), true, signalling(y));
+    let from_x = choose_sign(is_nan(first), !is_nan(x), false);
+    let from_both = choose_sign(from_x, !is_nan(y), false);
+    choose_sign(signals, true, from_both)
 }
 
 // Infinite from finite operands.
 fn overflowed(x: u32, y: u32, first: u32) -> bool
     ensures { λ r. ⌜ r ≡ overflowed binary32 x y (decode binary32 first) ⌝ }
 {
-    let from_x = pick_sign(is_infinite(first), is_finite(x), false);
-    pick_sign(from_x, is_finite(y), false)
+    let from_x = choose_sign(is_infinite(first), is_finite(x), false);
+    choose_sign(from_x, is_finite(y), false)
 }
 
 fn is_nan(x: u32) -> bool
@@ -50,5 +50,5 @@ fn is_nan(x: u32) -> bool
 fn signalling(x: u32) -> bool
     ensures { λ r. ⌜ r ≡ signalling binary32 x ⌝ }
 {
-    pick_sign(is_nan(x), x / 0x40_0000 % 2 == 0, false)
+    choose_sign(is_nan(x), x / 0x40_0000 % 2 == 0, false)
 }

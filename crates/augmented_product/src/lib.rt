@@ -1,25 +1,25 @@
 // Product pairs.
-use nearest::round_with_rest;
-use operands::infinity;
-use pairs::Flags;
-use pairs::Pair;
-use parts::is_infinite;
-use parts::packed;
-use parts::raised;
-use parts::zero_takes;
-use pick::pick_exponent;
-use pick::pick_pattern;
-use pick::pick_sign;
-use rounding::Ties;
-use steps::Class;
-use steps::NAN;
+use rounding::round_with_rest;
+use pattern::infinity;
+use augmented_spec::Flags;
+use augmented_spec::Pair;
+use augmented_pack::is_infinite;
+use augmented_pack::packed;
+use augmented_pack::raised;
+use augmented_pack::zero_takes;
+use choose::choose_exponent;
+use choose::choose_pattern;
+use choose::choose_sign;
+use rounding_spec::Ties;
+use pattern_spec::Class;
+use pattern_spec::NAN;
 ghost use mathlib.Core.Path.{_≡_};
 ghost use mathlib.Core.Bool.{false};
 ghost use Prim.Native.Nat.{_*_, _^_, _<_};
-ghost use Rattle.rounding.specs.Format.{binary32};
-ghost use Rattle.rounding.specs.Value.{finite, decode};
-ghost use Rattle.pairs.specs.Pairs.{pairOf, invalid, overflowed, underflowed, flagsOf, productPair};
-ghost use Rattle.pairs.specs.Inner.{finitePair, ShortRest};
+ghost use Rattle.rounding_spec.specs.Format.{binary32};
+ghost use Rattle.rounding_spec.specs.Value.{finite, decode};
+ghost use Rattle.augmented_spec.specs.Pairs.{pairOf, invalid, overflowed, underflowed, flagsOf, productPair};
+ghost use Rattle.augmented_spec.specs.Inner.{finitePair, ShortRest};
 
 pub fn of_patterns(x: u32, y: u32) -> Pair
     ensures { λ r. ⌜ r ≡ productPair binary32 x y ⌝ }
@@ -68,11 +68,11 @@ fn with_rest(sign: bool, sig: u64, exp: u16) -> Pair
     let first = round_with_rest(Ties::ToZero, sign, sig, exp);
     let over = is_infinite(first.pattern);
     // The rest of an infinite first is not used, and has to stay in range.
-    let unit = pick_exponent(over, 0, exp - 149);
+    let unit = choose_exponent(over, 0, exp - 149);
     let second = packed(sign, first.up, first.rest, unit);
     pair(
         first.pattern,
-        pick_pattern(over, first.pattern, second),
+        choose_pattern(over, first.pattern, second),
         over,
         false,
     )
@@ -102,7 +102,7 @@ fn pair(first: u32, second: u32, overflow: bool, underflow: bool) -> Pair
         invalid: false,
         overflow,
         underflow,
-        inexact: pick_sign(overflow, true, underflow),
+        inexact: choose_sign(overflow, true, underflow),
     };
     Pair {
         first,

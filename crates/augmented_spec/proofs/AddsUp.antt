@@ -7,24 +7,24 @@ use native.Mathlib.Nat.{add-mul}
 use native.Mathlib.Omega.{arith}
 use lib.Dec.{eqb}
 use lib.IntN.{ℤ, pos, natAbs, _+ℤ_, _-ℤ_, _*ℤ_, +ℤ-comm, +ℤ-negℤ-cancel, -ℤ-+ℤ-cancel}
-use Rattle.rounding.specs.declared.Ties.the-variants.{ToZero}
-use Rattle.rounding.specs.Format.{Format, low}
-use Rattle.rounding.specs.Round.{leftOver}
-use Rattle.rounding.specs.Nearest.{dist, Rep}
-use Rattle.rounding.specs.Value.{Value, finite}
-use Rattle.rounding.proofs.Codec.{pattern-rep}
-use Rattle.rounding.proofs.LeftOver.{dist-scale}
-use Rattle.rounding.proofs.Rounded.{rounded-near, rounded-exact}
-use Rattle.rounding.proofs.SumError.{sum-error, difference-error}
-use Rattle.steps.specs.Exact.{int}
-use Rattle.steps.proofs.Integers.{int-scale}
-use Rattle.pairs.specs.declared.Pair.{Pair}
-use Rattle.pairs.specs.Pairs.{pairOf, overflowed, underflowed, answer, exactProduct, productPair}
-use Rattle.pairs.specs.Direct.{Operation, sum, difference, product, directPair}
-use Rattle.pairs.specs.Theorems.{exactly, finerInt, FiniteOperands}
-use Rattle.pairs.proofs.Second.{head, first-finite, underflowed-is}
-use Rattle.pairs.proofs.Distance.{int-one, int-zero, scaled-size, sum-size, difference-size, left-is}
-use Rattle.pairs.proofs.FiniteOperands.{number, rest, side, secondSize, secondSign, lost, Halved}
+use Rattle.rounding_spec.specs.declared.Ties.the-variants.{ToZero}
+use Rattle.rounding_spec.specs.Format.{Format, low}
+use Rattle.rounding_spec.specs.Round.{leftOver}
+use Rattle.rounding_spec.specs.Nearest.{dist, Rep}
+use Rattle.rounding_spec.specs.Value.{Value, finite}
+use Rattle.rounding_spec.proofs.Codec.{pattern-rep}
+use Rattle.rounding_spec.proofs.LeftOver.{dist-scale}
+use Rattle.rounding_spec.proofs.Rounded.{rounded-near, rounded-exact}
+use Rattle.rounding_spec.proofs.SumError.{sum-error, difference-error}
+use Rattle.pattern_spec.specs.Exact.{int}
+use Rattle.pattern_spec.proofs.Integers.{int-scale}
+use Rattle.augmented_spec.specs.declared.Pair.{Pair}
+use Rattle.augmented_spec.specs.Pairs.{pairOf, overflowed, underflowed, answer, exactProduct, productPair}
+use Rattle.augmented_spec.specs.Direct.{Operation, sum, difference, product, directPair}
+use Rattle.augmented_spec.specs.Theorems.{exactly, finerInt, FiniteOperands}
+use Rattle.augmented_spec.proofs.Second.{head, first-finite, underflowed-is}
+use Rattle.augmented_spec.proofs.Distance.{int-one, int-zero, scaled-size, sum-size, difference-size, left-is}
+use Rattle.augmented_spec.proofs.FiniteOperands.{number, rest, side, secondSize, secondSign, lost, Halved}
 
 -- ---- the rest, and the sum of the halves, as whole numbers
 module _ {F : Format} {E : ℤ} {p : Pair} {q : Bool} {c : ℕ} (h : Halved F E p q c) where

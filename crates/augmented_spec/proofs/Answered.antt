@@ -6,22 +6,22 @@ use Prim.Native.Nat.{ℕ, _+_, _*_, _/_, _%_, _^_, _<_}
 use native.Mathlib.Decide.{decLe}
 use native.Mathlib.Omega.{arith}
 use lib.Dec.{eqb}
-use Rattle.rounding.specs.Format.{Format, binary32, limit}
-use Rattle.rounding.specs.declared.Ties.the-variants.{ToZero}
-use Rattle.rounding.specs.Value.{Value, nan, infinite, finite, Fits, decode, encode, round, isNaN, isFinite, isInfinite}
-use Rattle.rounding.proofs.Codec.{decode-encode}
-use Rattle.rounding.proofs.RoundValue.{round-fits}
-use Rattle.steps.specs.Exact.{plus, times, finer}
-use Rattle.steps.proofs.Sums.{sum-finite}
-use Rattle.steps.proofs.Result.{result-encode}
-use Rattle.pairs.specs.declared.Flags.{Flags}
-use Rattle.pairs.specs.declared.Pair.{Pair}
-use Rattle.pairs.specs.Pairs.{Halves, secondOf, pairOf, invalid, overflowed, underflowed, flagsOf, answer, exactSum, sumPair, exactProduct, productPair}
-use Rattle.pairs.specs.Direct.{none}
-use Rattle.pairs.specs.Inner.{join, finitePair}
-use Rattle.pairs.proofs.Second.{head, first-finite, first-infinite}
-use Rattle.pairs.proofs.Width.{encode-width}
-use Rattle.pairs.proofs.FlagSets.{finite-number, finite-flags, underflow-none}
+use Rattle.rounding_spec.specs.Format.{Format, binary32, limit}
+use Rattle.rounding_spec.specs.declared.Ties.the-variants.{ToZero}
+use Rattle.rounding_spec.specs.Value.{Value, nan, infinite, finite, Fits, decode, encode, round, isNaN, isFinite, isInfinite}
+use Rattle.rounding_spec.proofs.Codec.{decode-encode}
+use Rattle.rounding_spec.proofs.RoundValue.{round-fits}
+use Rattle.pattern_spec.specs.Exact.{plus, times, finer}
+use Rattle.pattern_spec.proofs.Sums.{sum-finite}
+use Rattle.binary32_spec.proofs.Result.{result-encode}
+use Rattle.augmented_spec.specs.declared.Flags.{Flags}
+use Rattle.augmented_spec.specs.declared.Pair.{Pair}
+use Rattle.augmented_spec.specs.Pairs.{Halves, secondOf, pairOf, invalid, overflowed, underflowed, flagsOf, answer, exactSum, sumPair, exactProduct, productPair}
+use Rattle.augmented_spec.specs.Direct.{none}
+use Rattle.augmented_spec.specs.Inner.{join, finitePair}
+use Rattle.augmented_spec.proofs.Second.{head, first-finite, first-infinite}
+use Rattle.augmented_spec.proofs.Width.{encode-width}
+use Rattle.augmented_spec.proofs.FlagSets.{finite-number, finite-flags, underflow-none}
 
 pub same-pair : {a b : ℕ} {c d : ℕ} {f g : Flags} → a ≡ b → c ≡ d → f ≡ g → _≡_ {A = Pair} record { first = a; second = c; flags = f } record { first = b; second = d; flags = g }
 same-pair p q r = rw (p, q, r)

@@ -8,13 +8,13 @@ use borrow.Author.Tests.{ne-eqb}
 use lib.Dec.{ltb, eqb}
 use lib.Ieee.{unlike}
 use lib.IntN.{ℤ, pos, negsuc, natAbs, _+ℤ_, _-ℤ_, _*ℤ_, +ℤ-invr}
-use Rattle.rounding.specs.Nearest.{dist}
-use Rattle.rounding.specs.Value.{finite}
-use Rattle.rounding.proofs.Compare.{tri}
-use Rattle.steps.specs.Exact.{int}
-use Rattle.steps.proofs.Integers.{plus-exact, int-not}
-use Rattle.steps.proofs.Sums.{like?, sum-same, sum-left, sum-right, sum-none}
-use Rattle.pairs.proofs.Second.{less-is}
+use Rattle.rounding_spec.specs.Nearest.{dist}
+use Rattle.rounding_spec.specs.Value.{finite}
+use Rattle.rounding_spec.proofs.Compare.{tri}
+use Rattle.pattern_spec.specs.Exact.{int}
+use Rattle.pattern_spec.proofs.Integers.{plus-exact, int-not}
+use Rattle.pattern_spec.proofs.Sums.{like?, sum-same, sum-left, sum-right, sum-none}
+use Rattle.augmented_spec.proofs.Second.{less-is}
 
 -- ---- one number
 pub int-size : (s : Bool) (a : ℕ) → natAbs (int s a) ≡ a

@@ -4,20 +4,20 @@ use mathlib.Core.Logic.{_⊎_, _≢_, inl, inr}
 use mathlib.Core.Bool.{Bool, true, false}
 use Prim.Native.Nat.{ℕ, _*_, _≤_, _<_}
 use lib.IntN.{ℤ, natAbs}
-use Rattle.rounding.specs.declared.Ties.the-variants.{ToZero}
-use Rattle.rounding.specs.Format.{Format, edge, signBit}
-use Rattle.rounding.specs.Value.{Value, infinite, finite, decode, isNaN, isFinite, isInfinite}
-use Rattle.rounding.proofs.RoundValue.{over-edge, zero-at-edge}
-use Rattle.steps.specs.Exact.{negate}
-use Rattle.steps.proofs.Classified.{decode-flip}
-use Rattle.pairs.specs.declared.Pair.{Pair}
-use Rattle.pairs.specs.Pairs.{pairOf, invalid, overflowed, flagsOf, answer}
-use Rattle.pairs.specs.Direct.{Operation, sum, difference, product, none, OX, UX}
-use Rattle.pairs.specs.Theorems.{FiniteOperands}
-use Rattle.pairs.proofs.Second.{head, first-finite, first-infinite}
-use Rattle.pairs.proofs.FlagSets.{finite-flags}
-use Rattle.pairs.proofs.Read.{taken, first, underflow, direct-answer, underflow-finite}
-use Rattle.pairs.proofs.FiniteOperands.{number}
+use Rattle.rounding_spec.specs.declared.Ties.the-variants.{ToZero}
+use Rattle.rounding_spec.specs.Format.{Format, edge, signBit}
+use Rattle.rounding_spec.specs.Value.{Value, infinite, finite, decode, isNaN, isFinite, isInfinite}
+use Rattle.rounding_spec.proofs.RoundValue.{over-edge, zero-at-edge}
+use Rattle.pattern_spec.specs.Exact.{negate}
+use Rattle.pattern_spec.proofs.Classified.{decode-flip}
+use Rattle.augmented_spec.specs.declared.Pair.{Pair}
+use Rattle.augmented_spec.specs.Pairs.{pairOf, invalid, overflowed, flagsOf, answer}
+use Rattle.augmented_spec.specs.Direct.{Operation, sum, difference, product, none, OX, UX}
+use Rattle.augmented_spec.specs.Theorems.{FiniteOperands}
+use Rattle.augmented_spec.proofs.Second.{head, first-finite, first-infinite}
+use Rattle.augmented_spec.proofs.FlagSets.{finite-flags}
+use Rattle.augmented_spec.proofs.Read.{taken, first, underflow, direct-answer, underflow-finite}
+use Rattle.augmented_spec.proofs.FiniteOperands.{number}
 
 taken-finite : (o : Operation) (F : Format) (y : ℕ) → y < 2 * signBit F → (t : Bool) (b : ℕ) → decode F y ≡ finite t b → isFinite (decode F (taken o F y)) ≡ true
 unfolding negate

@@ -9,20 +9,20 @@ use lib.Dec.{eqb}
 use lib.Ieee.{unlike}
 use lib.IntN.{ℤ, pos, natAbs, _+ℤ_, _*ℤ_}
 use lib.Pow.{pow-pos}
-use Rattle.rounding.specs.declared.Ties.the-variants.{ToZero}
-use Rattle.rounding.specs.Format.{Format, low, limit, signBit}
-use Rattle.rounding.specs.Round.{leftOver}
-use Rattle.rounding.specs.Value.{Value, finite, decode}
-use Rattle.steps.specs.Exact.{negate, plus, times, finer, int}
-use Rattle.steps.proofs.Classified.{decode-flip}
-use Rattle.steps.proofs.Integers.{plus-exact, times-exact, int-not, int-scale}
-use Rattle.pairs.specs.declared.Pair.{Pair}
-use Rattle.pairs.specs.Pairs.{pairOf, exactProduct}
-use Rattle.pairs.specs.Direct.{Operation, sum, difference, product}
-use Rattle.pairs.specs.Theorems.{exactly, zeroSign, FiniteOperands}
-use Rattle.pairs.proofs.Distance.{int-size}
-use Rattle.pairs.proofs.Read.{exactFor, first-read, second-read}
-use Rattle.pairs.proofs.Second.{head, left, up, tail, first-finite, pair-second, first-infinite}
+use Rattle.rounding_spec.specs.declared.Ties.the-variants.{ToZero}
+use Rattle.rounding_spec.specs.Format.{Format, low, limit, signBit}
+use Rattle.rounding_spec.specs.Round.{leftOver}
+use Rattle.rounding_spec.specs.Value.{Value, finite, decode}
+use Rattle.pattern_spec.specs.Exact.{negate, plus, times, finer, int}
+use Rattle.pattern_spec.proofs.Classified.{decode-flip}
+use Rattle.pattern_spec.proofs.Integers.{plus-exact, times-exact, int-not, int-scale}
+use Rattle.augmented_spec.specs.declared.Pair.{Pair}
+use Rattle.augmented_spec.specs.Pairs.{pairOf, exactProduct}
+use Rattle.augmented_spec.specs.Direct.{Operation, sum, difference, product}
+use Rattle.augmented_spec.specs.Theorems.{exactly, zeroSign, FiniteOperands}
+use Rattle.augmented_spec.proofs.Distance.{int-size}
+use Rattle.augmented_spec.proofs.Read.{exactFor, first-read, second-read}
+use Rattle.augmented_spec.proofs.Second.{head, left, up, tail, first-finite, pair-second, first-infinite}
 
 -- ---- the exact result of finite operands
 -- v is the whole number E of u * u; as zero it has the sign z

@@ -4,15 +4,15 @@ use mathlib.Core.Path.{_≡_, refl, sym}
 use mathlib.Core.Logic.{_⊎_, inl, inr}
 use mathlib.Core.Bool.{Bool, true, false, _&&_, and-true}
 use Prim.Native.Nat.{ℕ}
-use Rattle.rounding.specs.Format.{Format}
-use Rattle.rounding.specs.Value.{Value, nan, infinite, finite, decode, isNaN, signalling, round, isFinite, isInfinite}
-use Rattle.steps.specs.Exact.{plus, times, finer}
-use Rattle.steps.specs.Classes.{flip}
-use Rattle.steps.proofs.Special.{plus-comm}
-use Rattle.pairs.specs.declared.Flags.{Flags}
-use Rattle.pairs.specs.Pairs.{Halves, pairOf, invalid, overflowed, underflowed, flagsOf, answer, exactSum, sumPair, differencePair, exactProduct, productPair}
-use Rattle.pairs.specs.Direct.{sum, difference, product, directPair, none, I, OX, UX}
-use Rattle.pairs.specs.Theorems.{FlagSets}
+use Rattle.rounding_spec.specs.Format.{Format}
+use Rattle.rounding_spec.specs.Value.{Value, nan, infinite, finite, decode, isNaN, signalling, round, isFinite, isInfinite}
+use Rattle.pattern_spec.specs.Exact.{plus, times, finer}
+use Rattle.pattern_spec.specs.Classes.{flip}
+use Rattle.pattern_spec.proofs.Exchanged.{plus-comm}
+use Rattle.augmented_spec.specs.declared.Flags.{Flags}
+use Rattle.augmented_spec.specs.Pairs.{Halves, pairOf, invalid, overflowed, underflowed, flagsOf, answer, exactSum, sumPair, differencePair, exactProduct, productPair}
+use Rattle.augmented_spec.specs.Direct.{sum, difference, product, directPair, none, I, OX, UX}
+use Rattle.augmented_spec.specs.Theorems.{FlagSets}
 
 abbrev OneOf : Flags → Type 0
 OneOf f = (f ≡ none) ⊎ ((f ≡ I) ⊎ ((f ≡ OX) ⊎ (f ≡ UX)))

@@ -8,11 +8,11 @@ use native.Mathlib.Omega.{arith}
 use borrow.Author.Tests.{le-leb, lt-leb}
 use lib.Dec.{eqb}
 use lib.Pow.{pow-pos}
-use Rattle.rounding.specs.Format.{Format, ones, signBit}
-use Rattle.rounding.specs.Value.{Value, nan, infinite, finite, decode, isNaN, signalling}
-use Rattle.steps.specs.Exact.{negate}
-use Rattle.steps.specs.Classes.{flip}
-use Rattle.steps.proofs.Classified.{decode-flip}
+use Rattle.rounding_spec.specs.Format.{Format, ones, signBit}
+use Rattle.rounding_spec.specs.Value.{Value, nan, infinite, finite, decode, isNaN, signalling}
+use Rattle.pattern_spec.specs.Exact.{negate}
+use Rattle.pattern_spec.specs.Classes.{flip}
+use Rattle.pattern_spec.proofs.Classified.{decode-flip}
 
 nan-negated : (v : Value) → isNaN (negate v) ≡ isNaN v
 unfolding negate

@@ -7,20 +7,20 @@ use native.Mathlib.Nat.{le-of-mul-le-mul-right}
 use native.Mathlib.Omega.{arith}
 use lib.IntN.{ℤ, natAbs, _-ℤ_}
 use lib.Pow.{pow-pos}
-use Rattle.rounding.specs.declared.Ties.the-variants.{ToZero}
-use Rattle.rounding.specs.Format.{Format, low}
-use Rattle.rounding.specs.Round.{rounded}
-use Rattle.rounding.specs.Nearest.{dist, Rep}
-use Rattle.rounding.specs.Value.{finite, decode}
-use Rattle.rounding.proofs.Representable.{rep-zero}
-use Rattle.rounding.proofs.Rounded.{rounded-near0}
-use Rattle.steps.specs.Exact.{int}
-use Rattle.steps.proofs.Integers.{int-scale}
-use Rattle.pairs.specs.declared.Pair.{Pair}
-use Rattle.pairs.specs.Theorems.{finerInt}
-use Rattle.pairs.proofs.Distance.{int-zero, difference-size, same-size}
-use Rattle.pairs.proofs.FiniteOperands.{rest, side, secondSize, secondSign, Halved}
-use Rattle.pairs.proofs.AddsUp.{rest-exact}
+use Rattle.rounding_spec.specs.declared.Ties.the-variants.{ToZero}
+use Rattle.rounding_spec.specs.Format.{Format, low}
+use Rattle.rounding_spec.specs.Round.{rounded}
+use Rattle.rounding_spec.specs.Nearest.{dist, Rep}
+use Rattle.rounding_spec.specs.Value.{finite, decode}
+use Rattle.rounding_spec.proofs.Representable.{rep-zero}
+use Rattle.rounding_spec.proofs.Rounded.{rounded-near0}
+use Rattle.pattern_spec.specs.Exact.{int}
+use Rattle.pattern_spec.proofs.Integers.{int-scale}
+use Rattle.augmented_spec.specs.declared.Pair.{Pair}
+use Rattle.augmented_spec.specs.Theorems.{finerInt}
+use Rattle.augmented_spec.proofs.Distance.{int-zero, difference-size, same-size}
+use Rattle.augmented_spec.proofs.FiniteOperands.{rest, side, secondSize, secondSign, Halved}
+use Rattle.augmented_spec.proofs.AddsUp.{rest-exact}
 
 -- n is how far the number b of u lies from N, on its side of zero or on the other
 nearer : (f L N b n : ℕ) → Rep (suc f) L (b * 2 ^ L) → (n ≡ b * 2 ^ L + N) ⊎ (n ≡ dist (b * 2 ^ L) N)

@@ -7,15 +7,15 @@ use native.Mathlib.Nat.{le-of-eq, le-of-lt, lt-irrefl}
 use native.Mathlib.Omega.{arith}
 use lib.Dec.{ltb, leb, eqb}
 use borrow.Author.Tests.{lt-ltb, le-ltb, eqb-true, eq-eqb, ne-eqb}
-use Rattle.rounding.specs.Format.{binary32, infinity, limit}
-use Rattle.rounding.specs.Nearest.{Rep}
-use Rattle.rounding.specs.Value.{infinite, finite, unsigned, magnitude, decode, bits, encode, isNaN, isFinite, isInfinite}
-use Rattle.rounding.proofs.Compare.{tri}
-use Rattle.rounding.proofs.Representable.{rep-zero}
-use Rattle.rounding.proofs.Bits.{bits-at, magnitude-bits}
-use Rattle.rounding.proofs.Codec.{bits-below, unsigned-finite, unsigned-infinite, unsigned-nan}
-use Rattle.pairs.specs.Pairs.{zeroTakes}
-use Rattle.pairs.specs.Half.{zeroPattern}
+use Rattle.rounding_spec.specs.Format.{binary32, infinity, limit}
+use Rattle.rounding_spec.specs.Nearest.{Rep}
+use Rattle.rounding_spec.specs.Value.{infinite, finite, unsigned, magnitude, decode, bits, encode, isNaN, isFinite, isInfinite}
+use Rattle.rounding_spec.proofs.Compare.{tri}
+use Rattle.rounding_spec.proofs.Representable.{rep-zero}
+use Rattle.rounding_spec.proofs.Bits.{bits-at, magnitude-bits}
+use Rattle.rounding_spec.proofs.Codec.{bits-below, unsigned-finite, unsigned-infinite, unsigned-nan}
+use Rattle.augmented_spec.specs.Pairs.{zeroTakes}
+use Rattle.augmented_spec.specs.Half.{zeroPattern}
 
 -- ---- NaN
 nan-unsigned : (s : Bool) (c : ℕ) → ltb 0x7f80_0000 c ≡ isNaN (unsigned binary32 s c)
@@ -110,13 +110,13 @@ zero-pattern s r a rep below =
     by false e = refl
 
 -- ---- choices that read as `or` and `and`
-pub picked-or : (a b : Bool) → cond a true b ≡ a || b
-picked-or true b = refl
-picked-or false b = refl
+pub chosen-or : (a b : Bool) → cond a true b ≡ a || b
+chosen-or true b = refl
+chosen-or false b = refl
 
-pub picked-and : (a b : Bool) → cond a b false ≡ a && b
-picked-and true b = refl
-picked-and false b = refl
+pub chosen-and : (a b : Bool) → cond a b false ≡ a && b
+chosen-and true b = refl
+chosen-and false b = refl
 
 pub never : (a : Bool) → a || false ≡ a
 never true = refl

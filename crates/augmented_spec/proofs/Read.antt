@@ -3,17 +3,17 @@ use mathlib.Core.Path.{_≡_, refl, ap, _∙_}
 use mathlib.Core.Bool.{Bool, false}
 use mathlib.Core.List.{[], _∷_}
 use Prim.Native.Nat.{ℕ}
-use Rattle.rounding.specs.declared.Ties.the-variants.{ToZero}
-use Rattle.rounding.specs.Format.{Format, Proper}
-use Rattle.rounding.specs.Value.{Value, nan, infinite, finite, Fits, decode, encode, round, isFinite}
-use Rattle.rounding.proofs.Codec.{decode-encode}
-use Rattle.rounding.proofs.RoundValue.{round-fits}
-use Rattle.steps.specs.Classes.{flip}
-use Rattle.steps.proofs.Result.{result-encode}
-use Rattle.pairs.specs.declared.Pair.{Pair}
-use Rattle.pairs.specs.Pairs.{rest, zeroTakes, secondOf, pairOf, underflowed, answer, exactSum, sumPair, differencePair, exactProduct, productPair}
-use Rattle.pairs.specs.Direct.{Operation, sum, difference, product, directPair}
-use Rattle.pairs.proofs.FlagSets.{underflow-none}
+use Rattle.rounding_spec.specs.declared.Ties.the-variants.{ToZero}
+use Rattle.rounding_spec.specs.Format.{Format, Proper}
+use Rattle.rounding_spec.specs.Value.{Value, nan, infinite, finite, Fits, decode, encode, round, isFinite}
+use Rattle.rounding_spec.proofs.Codec.{decode-encode}
+use Rattle.rounding_spec.proofs.RoundValue.{round-fits}
+use Rattle.pattern_spec.specs.Classes.{flip}
+use Rattle.binary32_spec.proofs.Result.{result-encode}
+use Rattle.augmented_spec.specs.declared.Pair.{Pair}
+use Rattle.augmented_spec.specs.Pairs.{rest, zeroTakes, secondOf, pairOf, underflowed, answer, exactSum, sumPair, differencePair, exactProduct, productPair}
+use Rattle.augmented_spec.specs.Direct.{Operation, sum, difference, product, directPair}
+use Rattle.augmented_spec.proofs.FlagSets.{underflow-none}
 
 -- the exact result of an operation on two patterns
 abbrev pub exactFor : Operation → Format → ℕ → ℕ → Value

@@ -9,26 +9,26 @@ use lib.Dec.{eqb}
 use lib.Ieee.{unlike}
 use lib.Pow.{pow-add, pow-pos, pow-mono, shl-lt}
 use borrow.Author.Tests.{eq-eqb, ne-eqb}
-use Rattle.rounding.specs.declared.Ties.the-variants.{ToZero}
-use Rattle.rounding.specs.Format.{binary32, limit}
-use Rattle.rounding.specs.Round.{lastPlace, rounded, leftOver, roundedUp}
-use Rattle.rounding.specs.Nearest.{dist}
-use Rattle.rounding.specs.Value.{Value, infinite, finite, encode, roundFinite, isFinite, isInfinite}
-use Rattle.rounding.proofs.Multiple.{joined, mult-dist}
-use Rattle.rounding.proofs.LastPlace.{place-le}
-use Rattle.rounding.proofs.NearLaws.{near-mult}
-use Rattle.rounding.proofs.Rounded.{rounded-near, rounded-half, rounded-exact}
-use Rattle.rounding.proofs.Scaled.{rounded-rep}
-use Rattle.rounding.proofs.RoundValue.{round-below, round-above}
-use Rattle.steps.proofs.Products.{none, some-left}
-use Rattle.pairs.specs.declared.Pair.{Pair}
-use Rattle.pairs.specs.Pairs.{zeroTakes, pairOf, underflowed, flagsOf}
-use Rattle.pairs.specs.Half.{zeroPattern}
-use Rattle.pairs.specs.Inner.{join, finitePair, ShortRest}
-use Rattle.pairs.proofs.Second.{head, left, up, tail, tail-le, first-finite, pair-second, first-infinite, second-infinite, underflowed-is}
-use Rattle.pairs.proofs.Patterns.{finite-shows, infinite-shows, zero-pattern}
-use Rattle.pairs.proofs.Answered.{same-pair}
-use Rattle.pairs.proofs.FlagSets.{underflow-none}
+use Rattle.rounding_spec.specs.declared.Ties.the-variants.{ToZero}
+use Rattle.rounding_spec.specs.Format.{binary32, limit}
+use Rattle.rounding_spec.specs.Round.{lastPlace, rounded, leftOver, roundedUp}
+use Rattle.rounding_spec.specs.Nearest.{dist}
+use Rattle.rounding_spec.specs.Value.{Value, infinite, finite, encode, roundFinite, isFinite, isInfinite}
+use Rattle.rounding_spec.proofs.Multiple.{joined, mult-dist}
+use Rattle.rounding_spec.proofs.LastPlace.{place-le}
+use Rattle.rounding_spec.proofs.NearLaws.{near-mult}
+use Rattle.rounding_spec.proofs.Rounded.{rounded-near, rounded-half, rounded-exact}
+use Rattle.rounding_spec.proofs.Scaled.{rounded-rep}
+use Rattle.rounding_spec.proofs.RoundValue.{round-below, round-above}
+use Rattle.pattern_spec.proofs.Products.{none, some-left}
+use Rattle.augmented_spec.specs.declared.Pair.{Pair}
+use Rattle.augmented_spec.specs.Pairs.{zeroTakes, pairOf, underflowed, flagsOf}
+use Rattle.augmented_spec.specs.Half.{zeroPattern}
+use Rattle.augmented_spec.specs.Inner.{join, finitePair, ShortRest}
+use Rattle.augmented_spec.proofs.Second.{head, left, up, tail, tail-le, first-finite, pair-second, first-infinite, second-infinite, underflowed-is}
+use Rattle.augmented_spec.proofs.Patterns.{finite-shows, infinite-shows, zero-pattern}
+use Rattle.augmented_spec.proofs.Answered.{same-pair}
+use Rattle.augmented_spec.proofs.FlagSets.{underflow-none}
 
 -- ---- a number of u * u, by its magnitude N
 module _ (s : Bool) (N : ℕ) where

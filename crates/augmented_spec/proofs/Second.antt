@@ -9,18 +9,18 @@ use lib.Dec.{ltb, eqb}
 use lib.Ieee.{unlike}
 use lib.Pow.{pow-pos}
 use borrow.Author.Tests.{lt-ltb, le-ltb, ne-eqb}
-use Rattle.rounding.specs.declared.Ties.the-variants.{ToZero}
-use Rattle.rounding.specs.Format.{Format, low, limit}
-use Rattle.rounding.specs.Round.{rounded, leftOver, roundedUp}
-use Rattle.rounding.specs.Nearest.{dist}
-use Rattle.rounding.specs.Value.{Value, infinite, finite, round, roundFinite, isFinite, isZero}
-use Rattle.rounding.proofs.Compare.{tri}
-use Rattle.rounding.proofs.Representable.{rep-zero}
-use Rattle.rounding.proofs.Rounded.{rounded-near, rounded-none, rounded-mono}
-use Rattle.rounding.proofs.RoundValue.{round-below, round-above}
-use Rattle.steps.specs.Exact.{negate, plusFinite, plus, finer}
-use Rattle.steps.proofs.Sums.{like?, not-like, sum-same, sum-left, sum-right, sum-none}
-use Rattle.pairs.specs.Pairs.{rest, zeroTakes, secondOf, pairOf, addsUp, underflowed}
+use Rattle.rounding_spec.specs.declared.Ties.the-variants.{ToZero}
+use Rattle.rounding_spec.specs.Format.{Format, low, limit}
+use Rattle.rounding_spec.specs.Round.{rounded, leftOver, roundedUp}
+use Rattle.rounding_spec.specs.Nearest.{dist}
+use Rattle.rounding_spec.specs.Value.{Value, infinite, finite, round, roundFinite, isFinite, isZero}
+use Rattle.rounding_spec.proofs.Compare.{tri}
+use Rattle.rounding_spec.proofs.Representable.{rep-zero}
+use Rattle.rounding_spec.proofs.Rounded.{rounded-near, rounded-none, rounded-mono}
+use Rattle.rounding_spec.proofs.RoundValue.{round-below, round-above}
+use Rattle.pattern_spec.specs.Exact.{negate, plusFinite, plus, finer}
+use Rattle.pattern_spec.proofs.Sums.{like?, not-like, sum-same, sum-left, sum-right, sum-none}
+use Rattle.augmented_spec.specs.Pairs.{rest, zeroTakes, secondOf, pairOf, addsUp, underflowed}
 
 pub unlike-true : (s : Bool) → unlike s true ≡ not s
 unlike-true true = refl

@@ -5,19 +5,19 @@ use mathlib.Core.Bool.{Bool, true, false, not, cond, _||_, Bool·not-not}
 use Prim.Native.Nat.{ℕ, _*_, _<_}
 use borrow.Author.Tests.{ne-eqb}
 use lib.Ieee.{unlike}
-use Rattle.rounding.specs.Format.{Format, signBit}
-use Rattle.rounding.specs.Value.{Value, nan, infinite, finite, decode, isNaN, signalling}
-use Rattle.steps.specs.Exact.{negate, plus, times, finer}
-use Rattle.steps.proofs.Classified.{decode-flip}
-use Rattle.steps.proofs.Special.{plus-comm}
-use Rattle.pairs.specs.Pairs.{flagsOf}
-use Rattle.pairs.specs.Direct.{Operation, sum, difference, product, none, I}
-use Rattle.pairs.specs.Theorems.{NaNOperand, OppositeInfinities, ZeroTimesInfinity, InfiniteOperand}
-use Rattle.pairs.proofs.FlagSets.{times-nan}
-use Rattle.pairs.proofs.Answered.{same-pair}
-use Rattle.pairs.proofs.Read.{taken}
-use Rattle.pairs.proofs.Flipped.{signalling-flipped}
-use Rattle.pairs.proofs.SpecialResults.{onValues, exact-is, nan-pair, infinite-pair, invalid-operand, invalid-new}
+use Rattle.rounding_spec.specs.Format.{Format, signBit}
+use Rattle.rounding_spec.specs.Value.{Value, nan, infinite, finite, decode, isNaN, signalling}
+use Rattle.pattern_spec.specs.Exact.{negate, plus, times, finer}
+use Rattle.pattern_spec.proofs.Classified.{decode-flip}
+use Rattle.pattern_spec.proofs.Exchanged.{plus-comm}
+use Rattle.augmented_spec.specs.Pairs.{flagsOf}
+use Rattle.augmented_spec.specs.Direct.{Operation, sum, difference, product, none, I}
+use Rattle.augmented_spec.specs.Theorems.{NaNOperand, OppositeInfinities, ZeroTimesInfinity, InfiniteOperand}
+use Rattle.augmented_spec.proofs.FlagSets.{times-nan}
+use Rattle.augmented_spec.proofs.Answered.{same-pair}
+use Rattle.augmented_spec.proofs.Read.{taken}
+use Rattle.augmented_spec.proofs.Flipped.{signalling-flipped}
+use Rattle.augmented_spec.proofs.SpecialResults.{onValues, exact-is, nan-pair, infinite-pair, invalid-operand, invalid-new}
 
 -- ---- a NaN operand
 nan-left : (o : Operation) (F : Format) (w : Value) → onValues o F nan w ≡ nan

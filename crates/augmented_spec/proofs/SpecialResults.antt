@@ -4,16 +4,16 @@ use mathlib.Core.Logic.{_⊎_, inl, inr}
 use mathlib.Core.Bool.{Bool, true, false, not, _&&_, _||_, or-false}
 use mathlib.Core.List.{[], _∷_}
 use Prim.Native.Nat.{ℕ}
-use Rattle.rounding.specs.Format.{Format, infinity}
-use Rattle.rounding.specs.Value.{Value, nan, infinite, finite, decode, isNaN, signalling, nanOf, signed, encode, round, isFinite}
-use Rattle.steps.specs.Exact.{plus, times, finer}
-use Rattle.steps.specs.Steps.{result}
-use Rattle.pairs.specs.Pairs.{secondOf, pairOf, invalid, overflowed, flagsOf, answer}
-use Rattle.pairs.specs.Direct.{Operation, sum, difference, product, directPair, none}
-use Rattle.pairs.specs.Theorems.{Twice}
-use Rattle.pairs.proofs.FlagSets.{invalid-none}
-use Rattle.pairs.proofs.Answered.{Operands, same-pair, sum-operands, product-operands}
-use Rattle.pairs.proofs.Read.{exactFor, taken, direct-answer, underflow-finite}
+use Rattle.rounding_spec.specs.Format.{Format, infinity}
+use Rattle.rounding_spec.specs.Value.{Value, nan, infinite, finite, decode, isNaN, signalling, nanOf, signed, encode, round, isFinite}
+use Rattle.pattern_spec.specs.Exact.{plus, times, finer}
+use Rattle.binary32_spec.specs.Steps.{result}
+use Rattle.augmented_spec.specs.Pairs.{secondOf, pairOf, invalid, overflowed, flagsOf, answer}
+use Rattle.augmented_spec.specs.Direct.{Operation, sum, difference, product, directPair, none}
+use Rattle.augmented_spec.specs.Theorems.{Twice}
+use Rattle.augmented_spec.proofs.FlagSets.{invalid-none}
+use Rattle.augmented_spec.proofs.Answered.{Operands, same-pair, sum-operands, product-operands}
+use Rattle.augmented_spec.proofs.Read.{exactFor, taken, direct-answer, underflow-finite}
 
 -- ---- the exact result, on values
 abbrev pub onValues : Operation → Format → Value → Value → Value

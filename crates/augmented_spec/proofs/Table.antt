@@ -1,10 +1,10 @@
 -- Document 01's eleven cases, by computation. Assumes nothing.
 use mathlib.Core.Path.{refl}
 use lib.Ieee.{size}
-use Rattle.rounding.specs.Round.{keep, lastPlace}
-use Rattle.steps.specs.Exact.{times}
-use Rattle.pairs.specs.Direct.{directPair}
-use Rattle.pairs.specs.Cases.{Table}
+use Rattle.rounding_spec.specs.Round.{keep, lastPlace}
+use Rattle.pattern_spec.specs.Exact.{times}
+use Rattle.augmented_spec.specs.Direct.{directPair}
+use Rattle.augmented_spec.specs.Cases.{Table}
 
 pub table : Table
 unfolding directPair times keep lastPlace size

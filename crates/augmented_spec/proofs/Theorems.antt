@@ -7,26 +7,26 @@ use native.Mathlib.Omega.{arith}
 use borrow.Author.Tests.{eqb-true, eq-eqb, not-false}
 use lib.Dec.{eqb}
 use lib.IntN.{natAbs}
-use Rattle.rounding.specs.declared.Ties.the-variants.{ToZero}
-use Rattle.rounding.specs.Format.{binary32, low}
-use Rattle.rounding.specs.Value.{nan, infinite, encode, round}
-use Rattle.rounding.proofs.Codec.{pattern-rep}
-use Rattle.rounding.proofs.HalfPlace.{left-half}
-use Rattle.rounding.proofs.RoundValue.{round-below, over-edge, zero-at-edge}
-use Rattle.pairs.specs.Pairs.{secondOf, pairOf}
-use Rattle.pairs.specs.Cases.{Table}
-use Rattle.pairs.specs.Direct.{directPair}
-use Rattle.pairs.specs.Theorems.{EveryFinite, DirectPairs, FirstRounded, FirstNearest, Overflow, SecondRounded, SecondNearest, HalfUnit, SumAddsUp, ProductAddsUp, FlagsOfFinite, NaNOperand, OppositeInfinities, ZeroTimesInfinity, InfiniteOperand, FlagSets, InfiniteTwice, NaNTwice, PatternWidth, All}
-use Rattle.pairs.proofs.Second.{head, tail-le, first-finite, first-infinite}
-use Rattle.pairs.proofs.Read.{exactFor, first, second, first-pattern, second-pattern, first-fits, second-fits, first-read}
-use Rattle.pairs.proofs.Width.{encode-width}
-use Rattle.pairs.proofs.FiniteOperands.{number, first-is, rest, side, secondSize, secondSign, lost, halved}
-use Rattle.pairs.proofs.AddsUp.{rest-exact, adds-up, added-up, sum-lost, product-underflow, product-inexact}
-use Rattle.pairs.proofs.Nearest.{first-near, second-near}
-use Rattle.pairs.proofs.FiniteFlags.{flags-above, sum-flags, product-flags}
-use Rattle.pairs.proofs.SpecialOperands as special
-use Rattle.pairs.proofs.FlagSets as flags
-use Rattle.pairs.proofs.Table as cases
+use Rattle.rounding_spec.specs.declared.Ties.the-variants.{ToZero}
+use Rattle.rounding_spec.specs.Format.{binary32, low}
+use Rattle.rounding_spec.specs.Value.{nan, infinite, encode, round}
+use Rattle.rounding_spec.proofs.Codec.{pattern-rep}
+use Rattle.rounding_spec.proofs.HalfPlace.{left-half}
+use Rattle.rounding_spec.proofs.RoundValue.{round-below, over-edge, zero-at-edge}
+use Rattle.augmented_spec.specs.Pairs.{secondOf, pairOf}
+use Rattle.augmented_spec.specs.Cases.{Table}
+use Rattle.augmented_spec.specs.Direct.{directPair}
+use Rattle.augmented_spec.specs.Theorems.{EveryFinite, DirectPairs, FirstRounded, FirstNearest, Overflow, SecondRounded, SecondNearest, HalfUnit, SumAddsUp, ProductAddsUp, FlagsOfFinite, NaNOperand, OppositeInfinities, ZeroTimesInfinity, InfiniteOperand, FlagSets, InfiniteTwice, NaNTwice, PatternWidth, All}
+use Rattle.augmented_spec.proofs.Second.{head, tail-le, first-finite, first-infinite}
+use Rattle.augmented_spec.proofs.Read.{exactFor, first, second, first-pattern, second-pattern, first-fits, second-fits, first-read}
+use Rattle.augmented_spec.proofs.Width.{encode-width}
+use Rattle.augmented_spec.proofs.FiniteOperands.{number, first-is, rest, side, secondSize, secondSign, lost, halved}
+use Rattle.augmented_spec.proofs.AddsUp.{rest-exact, adds-up, added-up, sum-lost, product-underflow, product-inexact}
+use Rattle.augmented_spec.proofs.Nearest.{first-near, second-near}
+use Rattle.augmented_spec.proofs.FiniteFlags.{flags-above, sum-flags, product-flags}
+use Rattle.augmented_spec.proofs.SpecialOperands as special
+use Rattle.augmented_spec.proofs.FlagSets as flags
+use Rattle.augmented_spec.proofs.Table as cases
 
 -- ---- of whom
 pub every-finite : EveryFinite

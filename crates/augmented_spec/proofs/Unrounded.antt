@@ -10,28 +10,28 @@ use lib.Dec.{ltb, leb}
 use lib.Ieee.{unlike}
 use lib.Pow.{pow-pos}
 use borrow.Author.Tests.{lt-ltb, le-ltb}
-use Rattle.rounding.specs.declared.Ties.the-variants.{ToEven, ToZero}
-use Rattle.rounding.specs.Format.{Format, binary32, low, limit, infinity}
-use Rattle.rounding.specs.Round.{rounded}
-use Rattle.rounding.specs.Nearest.{Rep, dist}
-use Rattle.rounding.specs.Value.{Value, nan, infinite, finite, Fits, decode, encode, round, roundFinite, isFinite}
-use Rattle.rounding.proofs.Compare.{tri}
-use Rattle.rounding.proofs.Rounded.{rounded-exact}
-use Rattle.rounding.proofs.Codec.{unsigned-finite, unsigned-infinite, unsigned-nan, encode-decode, decode-fits, pattern-rep}
-use Rattle.rounding.proofs.RoundValue.{round-below}
-use Rattle.steps.specs.Exact.{plusFinite, plus, finer}
-use Rattle.steps.specs.declared.Class.{Class}
-use Rattle.steps.specs.declared.Class.the-variants.{Finite}
-use Rattle.steps.specs.Classes.{classOf, valueOf, Operand, Below}
-use Rattle.steps.proofs.Classified.{class-value, class-operand}
-use Rattle.steps.proofs.Exacts.{Sum, near-exact}
-use Rattle.steps.proofs.Far.{far-below, far-sum}
-use Rattle.steps.proofs.Sums.{like?, like-eq, sum-same, sum-left, finer-sum}
-use Rattle.pairs.specs.Pairs.{zeroTakes, secondOf, pairOf, exactSum}
-use Rattle.pairs.specs.Half.{zeroPattern}
-use Rattle.pairs.specs.Inner.{join, Apart}
-use Rattle.pairs.proofs.Patterns.{zero-pattern}
-use Rattle.pairs.proofs.Second.{second-is, side, unlike-true, unlike-false}
+use Rattle.rounding_spec.specs.declared.Ties.the-variants.{ToEven, ToZero}
+use Rattle.rounding_spec.specs.Format.{Format, binary32, low, limit, infinity}
+use Rattle.rounding_spec.specs.Round.{rounded}
+use Rattle.rounding_spec.specs.Nearest.{Rep, dist}
+use Rattle.rounding_spec.specs.Value.{Value, nan, infinite, finite, Fits, decode, encode, round, roundFinite, isFinite}
+use Rattle.rounding_spec.proofs.Compare.{tri}
+use Rattle.rounding_spec.proofs.Rounded.{rounded-exact}
+use Rattle.rounding_spec.proofs.Codec.{unsigned-finite, unsigned-infinite, unsigned-nan, encode-decode, decode-fits, pattern-rep}
+use Rattle.rounding_spec.proofs.RoundValue.{round-below}
+use Rattle.pattern_spec.specs.Exact.{plusFinite, plus, finer}
+use Rattle.pattern_spec.specs.declared.Class.{Class}
+use Rattle.pattern_spec.specs.declared.Class.the-variants.{Finite}
+use Rattle.pattern_spec.specs.Classes.{classOf, valueOf, Operand, Below}
+use Rattle.pattern_spec.proofs.Classified.{class-value, class-operand}
+use Rattle.pattern_spec.proofs.Exacts.{Sum, near-exact}
+use Rattle.pattern_spec.proofs.Far.{far-below, far-sum}
+use Rattle.pattern_spec.proofs.Sums.{like?, like-eq, sum-same, sum-left, finer-sum}
+use Rattle.augmented_spec.specs.Pairs.{zeroTakes, secondOf, pairOf, exactSum}
+use Rattle.augmented_spec.specs.Half.{zeroPattern}
+use Rattle.augmented_spec.specs.Inner.{join, Apart}
+use Rattle.augmented_spec.proofs.Patterns.{zero-pattern}
+use Rattle.augmented_spec.proofs.Second.{second-is, side, unlike-true, unlike-false}
 
 -- a number of the format is its own rounding
 own-rounding : (F : Format) (q : Bool) (b : ℕ) → Rep (suc (F .fraction)) (low F) (b * 2 ^ low F) → b < limit F → roundFinite ToZero F q (b * 2 ^ low F) ≡ finite q b

@@ -3,9 +3,9 @@ use mathlib.Core.Bool.{Bool, true, false}
 use Prim.Native.Nat.{ℕ, _-_, _*_, _^_, _<_}
 use native.Mathlib.Omega.{arith}
 use lib.Pow.{pow-pos, pow-lt}
-use Rattle.rounding.specs.Format.{Format, infinity, signBit}
-use Rattle.rounding.specs.Value.{Value, nan, infinite, finite, Fits, bits, signed, encode}
-use Rattle.rounding.proofs.Codec.{bits-below}
+use Rattle.rounding_spec.specs.Format.{Format, infinity, signBit}
+use Rattle.rounding_spec.specs.Value.{Value, nan, infinite, finite, Fits, bits, signed, encode}
+use Rattle.rounding_spec.proofs.Codec.{bits-below}
 
 signed-width : (F : Format) (s : Bool) (c : ℕ) → c < signBit F → signed F s c < 2 * signBit F
 signed-width F true c h = omega arith

@@ -3,9 +3,9 @@
 use Prim.Native.Nat.{ℕ}
 use mathlib.Core.Path.{_≡_}
 use mathlib.Core.List.{List, [], _∷_}
-use Rattle.rounding.specs.Format.{binary32}
-use Rattle.pairs.specs.declared.Flags.{Flags}
-use Rattle.pairs.specs.Direct.{Operation, sum, product, directPair, none, I, OX, UX}
+use Rattle.rounding_spec.specs.Format.{binary32}
+use Rattle.augmented_spec.specs.declared.Flags.{Flags}
+use Rattle.augmented_spec.specs.Direct.{Operation, sum, product, directPair, none, I, OX, UX}
 
 -- operation, operands, first, second, flags
 pub data Case : Type 0 where

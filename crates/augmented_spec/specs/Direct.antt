@@ -1,10 +1,10 @@
 -- The direct pair of any operation, and the flag sets that occur, for statements about all of them. Assumes nothing.
 use Prim.Native.Nat.{ℕ}
 use mathlib.Core.Bool.{true, false}
-use Rattle.rounding.specs.Format.{Format}
-use Rattle.pairs.specs.declared.Flags.{Flags}
-use Rattle.pairs.specs.declared.Pair.{Pair}
-use Rattle.pairs.specs.Pairs.{sumPair, differencePair, productPair}
+use Rattle.rounding_spec.specs.Format.{Format}
+use Rattle.augmented_spec.specs.declared.Flags.{Flags}
+use Rattle.augmented_spec.specs.declared.Pair.{Pair}
+use Rattle.augmented_spec.specs.Pairs.{sumPair, differencePair, productPair}
 
 pub data Operation : Type 0 where
   sum : Operation

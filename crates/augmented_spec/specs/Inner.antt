@@ -2,13 +2,13 @@
 use Prim.Native.Nat.{ℕ, _+_, _*_, _^_, _≤_, _<_}
 use mathlib.Core.Path.{_≡_}
 use mathlib.Core.Bool.{Bool, false}
-use Rattle.rounding.specs.declared.Ties.the-variants.{ToZero}
-use Rattle.rounding.specs.Format.{binary32}
-use Rattle.rounding.specs.Round.{leftOver}
-use Rattle.rounding.specs.Value.{finite, decode, encode, isInfinite}
-use Rattle.steps.specs.Classes.{Operand}
-use Rattle.pairs.specs.declared.Pair.{Pair}
-use Rattle.pairs.specs.Pairs.{Halves, flagsOf}
+use Rattle.rounding_spec.specs.declared.Ties.the-variants.{ToZero}
+use Rattle.rounding_spec.specs.Format.{binary32}
+use Rattle.rounding_spec.specs.Round.{leftOver}
+use Rattle.rounding_spec.specs.Value.{finite, decode, encode, isInfinite}
+use Rattle.pattern_spec.specs.Classes.{Operand}
+use Rattle.augmented_spec.specs.declared.Pair.{Pair}
+use Rattle.augmented_spec.specs.Pairs.{Halves, flagsOf}
 
 -- both patterns in one word
 abbrev pub join : Halves → ℕ

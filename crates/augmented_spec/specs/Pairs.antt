@@ -4,13 +4,13 @@ use Prim.Native.Nat.{ℕ}
 use mathlib.Core.Bool.{Bool, false, not, cond, _&&_, _||_}
 use mathlib.Core.List.{[], _∷_}
 use lib.Dec.{eqb}
-use Rattle.rounding.specs.Format.{Format}
-use Rattle.rounding.specs.Value.{Value, nan, infinite, finite, decode, isNaN, isInfinite, isFinite, isZero, signalling, round, RN0}
-use Rattle.steps.specs.Exact.{negate, plus, times, finer}
-use Rattle.steps.specs.Steps.{result}
-use Rattle.steps.specs.Classes.{flip}
-use Rattle.pairs.specs.declared.Flags.{Flags}
-use Rattle.pairs.specs.declared.Pair.{Pair}
+use Rattle.rounding_spec.specs.Format.{Format}
+use Rattle.rounding_spec.specs.Value.{Value, nan, infinite, finite, decode, isNaN, isInfinite, isFinite, isZero, signalling, round, RN0}
+use Rattle.pattern_spec.specs.Exact.{negate, plus, times, finer}
+use Rattle.binary32_spec.specs.Steps.{result}
+use Rattle.pattern_spec.specs.Classes.{flip}
+use Rattle.augmented_spec.specs.declared.Flags.{Flags}
+use Rattle.augmented_spec.specs.declared.Pair.{Pair}
 
 -- ---- "Pairs", on values
 pub record Halves : Type 0 where

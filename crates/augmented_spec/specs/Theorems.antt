@@ -9,16 +9,16 @@ use Prim.Native.Nat.{ℕ, _*_, _^_, _≤_, _<_}
 use lib.Dec.{eqb}
 use lib.Ieee.{unlike}
 use lib.IntN.{ℤ, pos, natAbs, _+ℤ_, _-ℤ_, _*ℤ_}
-use Rattle.rounding.specs.declared.Ties.the-variants.{ToZero}
-use Rattle.rounding.specs.Format.{Format, binary32, Proper, low, edge, infinity, signBit}
-use Rattle.rounding.specs.Round.{lastPlace}
-use Rattle.rounding.specs.Value.{nan, infinite, finite, decode, nanOf, signalling, signed, roundFinite}
-use Rattle.steps.specs.Exact.{int}
-use Rattle.pairs.specs.declared.Flags.{Flags}
-use Rattle.pairs.specs.declared.Pair.{Pair}
-use Rattle.pairs.specs.Pairs.{sumPair, differencePair, productPair}
-use Rattle.pairs.specs.Cases.{Table}
-use Rattle.pairs.specs.Direct.{Operation, sum, difference, product, directPair, none, I, OX, UX}
+use Rattle.rounding_spec.specs.declared.Ties.the-variants.{ToZero}
+use Rattle.rounding_spec.specs.Format.{Format, binary32, Proper, low, edge, infinity, signBit}
+use Rattle.rounding_spec.specs.Round.{lastPlace}
+use Rattle.rounding_spec.specs.Value.{nan, infinite, finite, decode, nanOf, signalling, signed, roundFinite}
+use Rattle.pattern_spec.specs.Exact.{int}
+use Rattle.augmented_spec.specs.declared.Flags.{Flags}
+use Rattle.augmented_spec.specs.declared.Pair.{Pair}
+use Rattle.augmented_spec.specs.Pairs.{sumPair, differencePair, productPair}
+use Rattle.augmented_spec.specs.Cases.{Table}
+use Rattle.augmented_spec.specs.Direct.{Operation, sum, difference, product, directPair, none, I, OX, UX}
 
 -- ---- the exact number of an operation on finite operands, signs and magnitudes in u, and the sign that an exact zero takes
 abbrev pub exactly : Operation → Format → Bool → ℕ → Bool → ℕ → ℤ

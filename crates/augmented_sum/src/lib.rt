@@ -1,25 +1,25 @@
 // Both halves of a sum. They come back in one word, which goes in a register; what is large here is compiled once for sums and differences.
-use nearest::round_with_rest;
-use operands::classify;
-use operands::larger;
-use operands::smaller;
-use parts::is_infinite;
-use parts::joined;
-use parts::packed;
-use parts::zero_takes;
-use pick::pick_exponent;
-use pick::pick_pattern;
-use rounding::Ties;
-use steps::Class;
+use rounding::round_with_rest;
+use pattern::classify;
+use pattern::larger;
+use pattern::smaller;
+use augmented_pack::is_infinite;
+use augmented_pack::joined;
+use augmented_pack::packed;
+use augmented_pack::zero_takes;
+use choose::choose_exponent;
+use choose::choose_pattern;
+use rounding_spec::Ties;
+use pattern_spec::Class;
 ghost use mathlib.Core.Path.{_≡_};
 ghost use mathlib.Core.Bool.{true, false};
 ghost use Prim.Native.Nat.{_*_, _^_};
-ghost use Rattle.rounding.specs.Format.{binary32};
-ghost use Rattle.rounding.specs.Value.{finite, decode, isFinite};
-ghost use Rattle.steps.specs.Classes.{classOf, Operand, Below};
-ghost use Rattle.pairs.specs.Pairs.{pairOf, invalid, overflowed, flagsOf, exactSum};
-ghost use Rattle.pairs.specs.Direct.{none};
-ghost use Rattle.pairs.specs.Inner.{join, Apart, ShortRest};
+ghost use Rattle.rounding_spec.specs.Format.{binary32};
+ghost use Rattle.rounding_spec.specs.Value.{finite, decode, isFinite};
+ghost use Rattle.pattern_spec.specs.Classes.{classOf, Operand, Below};
+ghost use Rattle.augmented_spec.specs.Pairs.{pairOf, invalid, overflowed, flagsOf, exactSum};
+ghost use Rattle.augmented_spec.specs.Direct.{none};
+ghost use Rattle.augmented_spec.specs.Inner.{join, Apart, ShortRest};
 
 // The larger magnitude comes first, whose exponent then is not below the other's.
 pub fn of_patterns(x: u32, y: u32) -> u64
@@ -90,7 +90,7 @@ fn near(sign: bool, sig: u64, exp: u16) -> u64
     let first = round_with_rest(Ties::ToZero, sign, sig, exp);
     let over = is_infinite(first.pattern);
     // The rest of an infinite first is not used, and has to stay in range.
-    let unit = pick_exponent(over, 0, exp - 149);
+    let unit = choose_exponent(over, 0, exp - 149);
     let second = packed(sign, first.up, first.rest, unit);
-    joined(first.pattern, pick_pattern(over, first.pattern, second))
+    joined(first.pattern, choose_pattern(over, first.pattern, second))
 }

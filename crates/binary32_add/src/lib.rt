@@ -1,21 +1,21 @@
 // Sums of two patterns, rounded once. An addend is a sign, a significand and an exponent: s, m, e and t, n, d.
 use exact::signed_sum;
-use operands::classify;
-use operands::infinity;
-use operands::larger;
-use operands::smaller;
-use rounding::Ties;
-use steps::Class;
-use steps::NAN;
+use pattern::classify;
+use pattern::infinity;
+use pattern::larger;
+use pattern::smaller;
+use rounding_spec::Ties;
+use pattern_spec::Class;
+use pattern_spec::NAN;
 ghost use mathlib.Core.Path.{_≡_};
 ghost use Prim.Native.Nat.{_+_, _*_, _^_, _≤_, _<_};
-ghost use Rattle.rounding.specs.declared.Ties.the-variants.{ToEven};
-ghost use Rattle.rounding.specs.Format.{binary32};
-ghost use Rattle.rounding.specs.Value.{infinite, finite, decode, encode, round};
-ghost use Rattle.steps.specs.Exact.{plusFinite, plus};
-ghost use Rattle.steps.specs.Steps.{addValue};
-ghost use Rattle.steps.specs.Classes.{valueOf, Operand, Below, Descending};
-ghost use Rattle.steps.specs.Unrounded.{Bounded};
+ghost use Rattle.rounding_spec.specs.declared.Ties.the-variants.{ToEven};
+ghost use Rattle.rounding_spec.specs.Format.{binary32};
+ghost use Rattle.rounding_spec.specs.Value.{infinite, finite, decode, encode, round};
+ghost use Rattle.pattern_spec.specs.Exact.{plusFinite, plus};
+ghost use Rattle.binary32_spec.specs.Steps.{addValue};
+ghost use Rattle.pattern_spec.specs.Classes.{valueOf, Operand, Below, Descending};
+ghost use Rattle.pattern_spec.specs.Unrounded.{Bounded};
 
 // The sum of two patterns.
 pub fn of_patterns(x: u32, y: u32) -> u32
@@ -102,5 +102,5 @@ pub fn round_sum(s: bool, a: u64, t: bool, b: u64, exp: u16) -> u32
     ensures { λ r. ⌜ r ≡ encode binary32 (round ToEven binary32 (plusFinite s (a * 2 ^ exp) t (b * 2 ^ exp))) ⌝ }
 {
     let sum = signed_sum(s, a, t, b);
-    nearest::round(Ties::ToEven, sum.sign, sum.sig, exp)
+    rounding::round(Ties::ToEven, sum.sign, sum.sig, exp)
 }

@@ -7,13 +7,13 @@ use native.Mathlib.Decide.{decLe}
 use native.Mathlib.Omega.{arith}
 use borrow.Author.Tests.{le-leb, lt-leb}
 use lib.Dec.{leb}
-use Rattle.fused.specs.declared.Addends.{Addends}
-use Rattle.steps.specs.Exact.{plusFinite}
-use Rattle.steps.specs.Unrounded.{Product}
-use Rattle.steps.specs.Inner.{Reaches}
-use Rattle.fused.specs.Inner.{Ordered, product-first, operand-first}
-use Rattle.steps.proofs.Sums.{sum-swap}
-use Rattle.steps.proofs.Products.{product-reaches, operand-reaches}
+use Rattle.binary32_fma.specs.declared.Addends.{Addends}
+use Rattle.pattern_spec.specs.Exact.{plusFinite}
+use Rattle.pattern_spec.specs.Unrounded.{Product}
+use Rattle.binary32_spec.specs.Inner.{Reaches}
+use Rattle.binary32_fma.specs.Inner.{Ordered, product-first, operand-first}
+use Rattle.pattern_spec.proofs.Sums.{sum-swap}
+use Rattle.binary32_spec.proofs.ThirdOperand.{product-reaches, operand-reaches}
 
 -- equal fields make equal addends
 same-addends : (r : Addends) (s : Bool) (a i : ℕ) (t : Bool) (b j room : ℕ) → r .s ≡ s → r .a ≡ a → r .i ≡ i → r .t ≡ t → r .b ≡ b → r .j ≡ j → r .room ≡ room

@@ -2,7 +2,7 @@
 use Prim.Native.Nat.{ℕ, _≤_, _<_}
 use mathlib.Core.Path.{_≡_}
 use mathlib.Core.Bool.{Bool}
-use Rattle.fused.specs.declared.Addends.{Addends}
+use Rattle.binary32_fma.specs.declared.Addends.{Addends}
 
 -- by which of the exponents is the higher one
 pub data Ordered (s : Bool) (p i : ℕ) (t : Bool) (z k : ℕ) (r : Addends) : Type 0 where

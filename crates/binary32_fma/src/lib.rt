@@ -1,24 +1,25 @@
 // The sum of a product and a third operand, both in units of 2^-298, rounded once.
-use addition::infinite_plus;
-use addition::round_sum;
-use operands::classify;
-use operands::infinity;
-use pick::pick;
-use pick::pick_exponent;
-use pick::pick_sign;
-use steps::Class;
-use steps::NAN;
+use binary32_add::infinite_plus;
+use binary32_add::round_sum;
+use pattern::classify;
+use pattern::infinity;
+use choose::choose;
+use choose::choose_exponent;
+use choose::choose_sign;
+use pattern_spec::Class;
+use pattern_spec::NAN;
 ghost use mathlib.Core.Path.{_≡_};
 ghost use Prim.Native.Nat.{_+_, _-_, _*_, _^_, _≤_, _<_};
-ghost use Rattle.rounding.specs.declared.Ties.the-variants.{ToEven};
-ghost use Rattle.rounding.specs.Format.{binary32};
-ghost use Rattle.rounding.specs.Value.{finite, encode, round};
-ghost use Rattle.steps.specs.Exact.{plusFinite, plus, finer};
-ghost use Rattle.steps.specs.Steps.{fmaStep};
-ghost use Rattle.steps.specs.Classes.{valueOf, Operand};
-ghost use Rattle.steps.specs.Unrounded.{Product, Bounded};
-ghost use Rattle.steps.specs.Inner.{Normal, Reaches, Jammed};
-ghost use Rattle.fused.specs.Inner.{Ordered};
+ghost use Rattle.rounding_spec.specs.declared.Ties.the-variants.{ToEven};
+ghost use Rattle.rounding_spec.specs.Format.{binary32};
+ghost use Rattle.rounding_spec.specs.Value.{finite, encode, round};
+ghost use Rattle.pattern_spec.specs.Exact.{plusFinite, plus, finer};
+ghost use Rattle.binary32_spec.specs.Steps.{fmaStep};
+ghost use Rattle.pattern_spec.specs.Classes.{valueOf, Operand};
+ghost use Rattle.pattern_spec.specs.Unrounded.{Product, Bounded};
+ghost use Rattle.pattern_spec.specs.Inner.{Jammed};
+ghost use Rattle.binary32_spec.specs.Inner.{Normal, Reaches};
+ghost use Rattle.binary32_fma.specs.Inner.{Ordered};
 
 // The product of the first two, and the third.
 pub fn of_patterns(x: u32, y: u32, z: u32) -> u32
@@ -111,13 +112,13 @@ fn ordered(s: bool, p: u64, i: u16, t: bool, z: u64, k: u16) -> Addends
 {
     let first = k <= i;
     Addends {
-        s: pick_sign(first, s, t),
-        a: pick(first, p, z),
-        i: pick_exponent(first, i, k),
-        t: pick_sign(first, t, s),
-        b: pick(first, z, p),
-        j: pick_exponent(first, k, i),
-        room: pick_exponent(first, 15, 39),
+        s: choose_sign(first, s, t),
+        a: choose(first, p, z),
+        i: choose_exponent(first, i, k),
+        t: choose_sign(first, t, s),
+        b: choose(first, z, p),
+        j: choose_exponent(first, k, i),
+        room: choose_exponent(first, 15, 39),
     }
 }
 
@@ -127,7 +128,7 @@ fn aligned(x: Addends) -> u32
     ensures { λ r. ⌜ r ≡ encode binary32 (round ToEven binary32 (plusFinite (x .s) (x .a * 2 ^ x .i) (x .t) (x .b * 2 ^ x .j))) ⌝ }
 {
     let gap = x.i - x.j;
-    let up = pick_exponent(gap <= x.room, gap, x.room);
+    let up = choose_exponent(gap <= x.room, gap, x.room);
     round_sum(x.s, x.a << up, x.t, jammed(x.b, gap - up), x.i - up)
 }
 
@@ -136,7 +137,7 @@ fn jammed(b: u64, g: u16) -> u64
     requires { ⌜ b < 2 ^ 48 ⌝ }
     ensures { λ r. ⌜ Jammed b g r ⌝ }
 {
-    let h = pick_exponent(g > 48, 48, g);
+    let h = choose_exponent(g > 48, 48, g);
     let q = b >> h;
-    pick(q << h == b, q, q - q % 2 + 1)
+    choose(q << h == b, q, q - q % 2 + 1)
 }

@@ -6,13 +6,13 @@ use Prim.Native.Nat.{ℕ}
 use native.Mathlib.Omega.{arith}
 use borrow.Author.Tests.{ne-eqb}
 use lib.Ieee.{unlike}
-use Rattle.rounding.specs.declared.Ties.the-variants.{ToEven}
-use Rattle.rounding.specs.Format.{binary32}
-use Rattle.rounding.specs.Value.{Value, nan, infinite, finite, decode, encode, round}
-use Rattle.steps.specs.Exact.{negate, plus, times, finer}
-use Rattle.steps.specs.Steps.{addValue, subValue, mulValue, fmaValue, addStep, subStep, mulStep, fmaStep}
-use Rattle.steps.specs.Theorems.{InfiniteFactors, StepNaN, StepInvalid, StepInfinite}
-use Rattle.steps.proofs.Result.{add-step, sub-step, mul-step, fma-step}
+use Rattle.rounding_spec.specs.declared.Ties.the-variants.{ToEven}
+use Rattle.rounding_spec.specs.Format.{binary32}
+use Rattle.rounding_spec.specs.Value.{Value, nan, infinite, finite, decode, encode, round}
+use Rattle.pattern_spec.specs.Exact.{negate, plus, times, finer}
+use Rattle.binary32_spec.specs.Steps.{addValue, subValue, mulValue, fmaValue, addStep, subStep, mulStep, fmaStep}
+use Rattle.binary32_spec.specs.Theorems.{InfiniteFactors, StepNaN, StepInvalid, StepInfinite}
+use Rattle.binary32_spec.proofs.Result.{add-step, sub-step, mul-step, fma-step}
 
 -- ---- sums and products of values
 plus-nan : (v : Value) → plus v nan ≡ nan

@@ -9,16 +9,17 @@ use native.Mathlib.Omega.{arith}
 use borrow.Author.Tests.{lt-ltb, le-ltb, lt-leb, le-leb, eq-eqb, ne-eqb}
 use lib.Dec.{ltb, leb, eqb}
 use lib.Pow.{pow-pos, pow-mono}
-use Rattle.rounding.specs.declared.Ties.the-variants.{ToEven}
-use Rattle.rounding.specs.Format.{binary32}
-use Rattle.rounding.specs.Round.{rounded}
-use Rattle.rounding.specs.Value.{Value, finite, encode, roundFinite, round}
-use Rattle.rounding.proofs.Remainder.{shifted-back}
-use Rattle.rounding.proofs.Sticky.{odd}
-use Rattle.steps.specs.Exact.{plusFinite}
-use Rattle.steps.specs.Inner.{Reaches, Jammed}
-use Rattle.steps.proofs.Sums.{like?, sum-same, sum-left}
-use Rattle.rounding.proofs.Multiple.{joined}
+use Rattle.rounding_spec.specs.declared.Ties.the-variants.{ToEven}
+use Rattle.rounding_spec.specs.Format.{binary32}
+use Rattle.rounding_spec.specs.Round.{rounded}
+use Rattle.rounding_spec.specs.Value.{Value, finite, encode, roundFinite, round}
+use Rattle.rounding_spec.proofs.Remainder.{shifted-back}
+use Rattle.rounding_spec.proofs.Sticky.{odd}
+use Rattle.pattern_spec.specs.Exact.{plusFinite}
+use Rattle.binary32_spec.specs.Inner.{Reaches}
+use Rattle.pattern_spec.specs.Inner.{Jammed}
+use Rattle.pattern_spec.proofs.Sums.{like?, sum-same, sum-left}
+use Rattle.rounding_spec.proofs.Multiple.{joined}
 
 -- ---- what the code makes of b / 2 ^ g
 module _ (b g : ℕ) where

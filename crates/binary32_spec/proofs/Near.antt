@@ -5,22 +5,17 @@ use Prim.Native.Nat.{ℕ, _+_, _-_, _*_, _%_, _^_, _≤_, _<_}
 use native.Mathlib.Nat.{lt-of-lt-of-le, mod-eq-of-lt}
 use native.Mathlib.Omega.{arith}
 use lib.Pow.{pow-pos, pow-mono, shl-lt}
-use Rattle.rounding.specs.declared.Ties.the-variants.{ToEven}
-use Rattle.rounding.specs.Format.{binary32}
-use Rattle.rounding.specs.Value.{Value, finite, decode, encode, bits, roundFinite, round}
-use Rattle.rounding.proofs.Multiple.{joined}
-use Rattle.rounding.proofs.Bits.{bits-at}
-use Rattle.steps.specs.Exact.{plusFinite, plus, finer}
-use Rattle.steps.specs.Steps.{addValue}
-use Rattle.steps.specs.Classes.{Operand}
-use Rattle.steps.proofs.Sums.{sum-scale, finer-sum}
-use Rattle.steps.proofs.Special.{plus-comm}
-
--- a significand of w digits moved up by g places stays below 2 ^ 63
-pub moved : (m w g : ℕ) → m < 2 ^ w → w + g ≤ 63 → (m * 2 ^ g % 2 ^ 64 ≡ m * 2 ^ g) × (m * 2 ^ g < 2 ^ 63)
-moved m w g h l =
-    let b : m * 2 ^ g < 2 ^ 63 = lt-of-lt-of-le (shl-lt w g h) (pow-mono {j = 63} l) in
-    (mod-eq-of-lt (omega arith), b)
+use Rattle.rounding_spec.specs.declared.Ties.the-variants.{ToEven}
+use Rattle.rounding_spec.specs.Format.{binary32}
+use Rattle.rounding_spec.specs.Value.{Value, finite, decode, encode, bits, roundFinite, round}
+use Rattle.rounding_spec.proofs.Multiple.{joined}
+use Rattle.rounding_spec.proofs.Bits.{bits-at}
+use Rattle.pattern_spec.specs.Exact.{plusFinite, plus, finer}
+use Rattle.binary32_spec.specs.Steps.{addValue}
+use Rattle.pattern_spec.specs.Classes.{Operand}
+use Rattle.pattern_spec.proofs.Sums.{sum-scale, finer-sum}
+use Rattle.pattern_spec.proofs.Exchanged.{plus-comm}
+use Rattle.pattern_spec.proofs.Moved.{moved}
 
 -- rounding of a sum of magnitudes at one exponent
 pub round-sum-is : (s : Bool) (a : ℕ) (t : Bool) (b k : ℕ) (r : Bool) (c : ℕ) → plusFinite s a t b ≡ finite r c
@@ -33,9 +28,9 @@ pub add-comm : (u v : Value) → addValue binary32 v u ≡ addValue binary32 u v
 unfolding addValue
 add-comm u v = ap (λ (w : Value). round ToEven binary32 (finer binary32 w)) (plus-comm u v)
 
-pub add-picked : (w : Bool) (x y : ℕ) → addValue binary32 (decode binary32 (cond w y x)) (decode binary32 (cond w x y)) ≡ addValue binary32 (decode binary32 x) (decode binary32 y)
-add-picked true x y = add-comm (decode binary32 x) (decode binary32 y)
-add-picked false x y = refl
+pub add-chosen : (w : Bool) (x y : ℕ) → addValue binary32 (decode binary32 (cond w y x)) (decode binary32 (cond w x y)) ≡ addValue binary32 (decode binary32 x) (decode binary32 y)
+add-chosen true x y = add-comm (decode binary32 x) (decode binary32 y)
+add-chosen false x y = refl
 
 pub near-sum : (s : Bool) (m e : ℕ) (t : Bool) (n d : ℕ) → m < 2 ^ 24 → d ≤ e → e - d ≤ 39
     → encode binary32 (round ToEven binary32 (plusFinite s (m * 2 ^ (e - d) % 2 ^ 64 * 2 ^ (d + 149)) t (n * 2 ^ (d + 149)))) ≡ encode binary32 (addValue binary32 (finite s (m * 2 ^ e)) (finite t (n * 2 ^ d)))

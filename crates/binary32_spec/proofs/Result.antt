@@ -2,9 +2,9 @@
 use mathlib.Core.Path.{_≡_, refl}
 use mathlib.Core.List.{List, [], _∷_}
 use Prim.Native.Nat.{ℕ}
-use Rattle.rounding.specs.Format.{Format, binary32}
-use Rattle.rounding.specs.Value.{Value, nan, infinite, finite, encode, decode}
-use Rattle.steps.specs.Steps.{addValue, subValue, mulValue, fmaValue, result, addStep, subStep, mulStep, fmaStep}
+use Rattle.rounding_spec.specs.Format.{Format, binary32}
+use Rattle.rounding_spec.specs.Value.{Value, nan, infinite, finite, encode, decode}
+use Rattle.binary32_spec.specs.Steps.{addValue, subValue, mulValue, fmaValue, result, addStep, subStep, mulStep, fmaStep}
 
 pub result-encode : (F : Format) (operands : List ℕ) (v : Value) → result F operands v ≡ encode F v
 unfolding result encode

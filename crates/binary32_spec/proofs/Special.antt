@@ -1,12 +1,11 @@
--- Steps with NaN and infinities need no rounding, and addends may be exchanged. Assumes nothing.
+-- Steps with NaN and infinities need no rounding. Assumes nothing.
 use mathlib.Core.Path.{_≡_, refl, ap, _∙_}
 use mathlib.Core.Bool.{Bool, true, false, Bool·beq, cond}
-use Rattle.rounding.specs.declared.Ties.{Ties}
-use Rattle.rounding.specs.Format.{Format}
-use Rattle.rounding.specs.Value.{Value, nan, infinite, finite, round}
-use Rattle.steps.specs.Exact.{plus, finer}
-use Rattle.steps.specs.Steps.{addValue}
-use Rattle.steps.proofs.Sums.{sum-swap}
+use Rattle.rounding_spec.specs.declared.Ties.{Ties}
+use Rattle.rounding_spec.specs.Format.{Format}
+use Rattle.rounding_spec.specs.Value.{Value, nan, infinite, finite, round}
+use Rattle.pattern_spec.specs.Exact.{plus, finer}
+use Rattle.binary32_spec.specs.Steps.{addValue}
 
 -- a choice between an infinity and NaN is not rounded, nor counted in another unit
 round-choice : (t : Ties) (F : Format) (b s : Bool) → round t F (cond b (infinite s) nan) ≡ cond b (infinite s) nan
@@ -18,25 +17,6 @@ finer-choice : (F : Format) (b s : Bool) → finer F (cond b (infinite s) nan) �
 unfolding finer
 finer-choice F true s = refl
 finer-choice F false s = refl
-
--- addends may be exchanged
-infinite-comm : (s t : Bool) → cond (Bool·beq t s) (infinite t) nan ≡ cond (Bool·beq s t) (infinite s) nan
-infinite-comm true true = refl
-infinite-comm true false = refl
-infinite-comm false true = refl
-infinite-comm false false = refl
-
-pub plus-comm : (u v : Value) → plus v u ≡ plus u v
-unfolding plus
-plus-comm nan nan = refl
-plus-comm nan (infinite t) = refl
-plus-comm nan (finite t b) = refl
-plus-comm (infinite s) nan = refl
-plus-comm (infinite s) (infinite t) = infinite-comm s t
-plus-comm (infinite s) (finite t b) = refl
-plus-comm (finite s a) nan = refl
-plus-comm (finite s a) (infinite t) = refl
-plus-comm (finite s a) (finite t b) = sum-swap s a t b
 
 module _ (F : Format) (s : Bool) where
   pub round-infinite-plus : (t : Ties) (v : Value) → round t F (plus (infinite s) v) ≡ plus (infinite s) v

@@ -7,40 +7,17 @@ use native.Mathlib.Omega.{arith}
 use lib.Ieee.{unlike}
 use lib.IntN.{ℤ, pos, _+ℤ_, _*ℤ_}
 use lib.Pow.{pow-pos}
-use Rattle.rounding.specs.declared.Ties.the-variants.{ToEven}
-use Rattle.rounding.specs.Format.{binary32}
-use Rattle.rounding.specs.Value.{Value, nan, finite, decode, encode, round}
-use Rattle.rounding.proofs.Codec.{decode-encode}
-use Rattle.rounding.proofs.RoundValue.{round-fits}
-use Rattle.steps.specs.Exact.{negate, plus, times, finer, int}
-use Rattle.steps.specs.Steps.{addValue, subValue, mulValue, fmaValue, addStep, subStep, fmaStep}
-use Rattle.steps.specs.Theorems.{ClassDecodes, ClassBounded, LargerFirst, FlipBits, FlipNegates, PlusExact, TimesExact, RoundedOnce, AddFinite, SubFinite, MulFinite, FmaFinite, NaNResults, StepNaN, StepInvalid, StepInfinite, AddDecodes, SubDecodes, MulDecodes, FmaDecodes, All}
-use Rattle.steps.proofs.Classified as classified
-use Rattle.steps.proofs.Picked as picked
-use Rattle.steps.proofs.Infinities as infinities
-use Rattle.steps.proofs.Integers as integers
-use Rattle.steps.proofs.Result.{add-step, sub-step, mul-step, fma-step}
-
-pub class-decodes : ClassDecodes
-class-decodes = classified.value-class
-
-pub class-bounded : ClassBounded
-class-bounded = classified.class-bounded
-
-pub larger-first : LargerFirst
-larger-first = picked.larger-first
-
-pub flip-bits : FlipBits
-flip-bits = picked.flip-bits
-
-pub flip-negates : FlipNegates
-flip-negates = classified.decode-flip
-
-pub plus-exact : PlusExact
-plus-exact = integers.plus-exact
-
-pub times-exact : TimesExact
-times-exact = integers.times-exact
+use Rattle.rounding_spec.specs.declared.Ties.the-variants.{ToEven}
+use Rattle.rounding_spec.specs.Format.{binary32}
+use Rattle.rounding_spec.specs.Value.{Value, nan, finite, decode, encode, round}
+use Rattle.rounding_spec.proofs.Codec.{decode-encode}
+use Rattle.rounding_spec.proofs.RoundValue.{round-fits}
+use Rattle.pattern_spec.specs.Exact.{negate, plus, times, finer, int}
+use Rattle.binary32_spec.specs.Steps.{addValue, subValue, mulValue, fmaValue, addStep, subStep, fmaStep}
+use Rattle.binary32_spec.specs.Theorems.{RoundedOnce, AddFinite, SubFinite, MulFinite, FmaFinite, NaNResults, StepNaN, StepInvalid, StepInfinite, AddDecodes, SubDecodes, MulDecodes, FmaDecodes, All}
+use Rattle.binary32_spec.proofs.Infinities as infinities
+use Rattle.pattern_spec.proofs.Integers as integers
+use Rattle.binary32_spec.proofs.Result.{add-step, sub-step, mul-step, fma-step}
 
 -- ---- a rounded value is read back from its pattern
 rounded-back : (x : ℕ) (v : Value) → x ≡ encode binary32 (round ToEven binary32 v) → decode binary32 x ≡ round ToEven binary32 v
@@ -120,13 +97,6 @@ step-infinite = infinities.step-infinite
 -- ---- all of them
 pub all : All
 all = (
-  class-decodes,
-  class-bounded,
-  larger-first,
-  flip-bits,
-  flip-negates,
-  plus-exact,
-  times-exact,
   add-finite,
   sub-finite,
   mul-finite,

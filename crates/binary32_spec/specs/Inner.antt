@@ -1,7 +1,6 @@
 -- What the functions below `binary32` ask and promise. No contract of `binary32` cites it. Assumes nothing.
-use Prim.Native.Nat.{ℕ, _+_, _-_, _*_, _%_, _^_, _≤_, _<_}
+use Prim.Native.Nat.{ℕ, _+_, _-_, _*_, _^_, _≤_, _<_}
 use mathlib.Core.Path.{_≡_}
-use mathlib.Core.Logic.{_⊎_}
 
 -- ---- parts of a fused sum
 -- a * 2 ^ k is c * 2 ^ j, with all 24 digits
@@ -19,13 +18,3 @@ pub record Reaches (a i b j room : ℕ) : Type 0 where
   pub high : a * 2 ^ room < 2 ^ 63
   pub second : b < 2 ^ 48
   pub first : room < i - j → 2 * b + 2 ^ 26 ≤ a * 2 ^ room
-
--- r is odd and less than 1 away from b / 2 ^ g
-pub record Odd (b g r : ℕ) : Type 0 where
-  pub odd : r % 2 ≡ 1
-  pub over : b < (r + 1) * 2 ^ g
-  pub under : r * 2 ^ g < b + 2 ^ g
-
--- r is b / 2 ^ g itself, or such an odd number
-abbrev pub Jammed : ℕ → ℕ → ℕ → Type 0
-Jammed b g r = (r * 2 ^ g ≡ b) ⊎ Odd b g r

@@ -1,9 +1,9 @@
 -- The four rounding steps (document 01, "Steps"): the exact result, and one rounding, RNe. Assumes nothing.
 use Prim.Native.Nat.{ℕ}
 use mathlib.Core.List.{List, [], _∷_}
-use Rattle.rounding.specs.Format.{Format, binary32}
-use Rattle.rounding.specs.Value.{Value, nan, infinite, finite, decode, nanOf, encode, round, RNe}
-use Rattle.steps.specs.Exact.{negate, plus, times, finer}
+use Rattle.rounding_spec.specs.Format.{Format, binary32}
+use Rattle.rounding_spec.specs.Value.{Value, nan, infinite, finite, decode, nanOf, encode, round, RNe}
+use Rattle.pattern_spec.specs.Exact.{negate, plus, times, finer}
 
 -- ---- on values, in any format
 unfoldable pub addValue : Format → Value → Value → Value

@@ -5,7 +5,7 @@ ghost use mathlib.Core.Bool.{not, _&&_};
 ghost use lib.Dec.{eqb};
 ghost use lib.ListN.{length};
 ghost use Rattle.conservation.specs.Answers.{answerReplayed};
-ghost use Rattle.conservation.specs.Replay.{allZero, isCleared, allWithin, replaying, isDone};
+ghost use Rattle.conservation_spec.specs.Replay.{allZero, isCleared, allWithin, replaying, isDone};
 
 // `Done` where nothing is wrong.
 pub fn answer(

@@ -1,16 +1,16 @@
 // One question: its sheet, and its terms on both totals where it enters.
-use operands::flipped;
-use pairs::Pair;
+use pattern::flipped;
+use augmented_spec::Pair;
 use worksheet::Filled;
 ghost use mathlib.Core.Path.{_≡_};
 ghost use mathlib.Core.Bool.{not, _&&_};
 ghost use mathlib.Core.List.{[], _∷_};
-ghost use Rattle.rounding.specs.Format.{binary32};
-ghost use Rattle.rounding.specs.Value.{decode, isFinite};
-ghost use Rattle.emulation.specs.Filling.{operationOf, afterFilling};
-ghost use Rattle.totals.specs.Totals.{ofPattern};
-ghost use Rattle.totals.specs.Columns.{column};
-ghost use Rattle.lists.specs.Lists.{asked, finitePair, setTerms};
+ghost use Rattle.rounding_spec.specs.Format.{binary32};
+ghost use Rattle.rounding_spec.specs.Value.{decode, isFinite};
+ghost use Rattle.worksheet_spec.specs.Filling.{operationOf, afterFilling};
+ghost use Rattle.accumulator_spec.specs.Totals.{ofPattern};
+ghost use Rattle.accumulator_spec.specs.Columns.{column};
+ghost use Rattle.conservation_spec.specs.Lists.{asked, finitePair, setTerms};
 
 // The terms of the foot are the filled pair's, never the operands'.
 pub fn settle(

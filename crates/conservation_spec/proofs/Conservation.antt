@@ -7,16 +7,16 @@ use Prim.Native.Nat.{ℕ, suc, _+_, _*_, _^_, _≤_, _<_}
 use native.Mathlib.Nat.{add-zero, le-trans, le-of-eq}
 use native.Mathlib.Omega.{arith}
 use lib.IntN.{ℤ, pos, natAbs, _+ℤ_, +ℤ-idl, +ℤ-idr, +ℤ-assoc}
-use Rattle.pairs.specs.Direct.{Operation, sum, difference, product}
-use Rattle.totals.specs.Totals.{totalOf, count, Term, finiteOperands, refused, adding, afterAdding}
-use Rattle.totals.specs.Columns.{column}
-use Rattle.totals.specs.Theorems.{FitTotal}
-use Rattle.totals.proofs.Adding.{total-fit}
-use Rattle.totals.proofs.Answers.{adding-special, adding-full, after-refused}
-use Rattle.totals.proofs.Columns.{exact-from}
-use Rattle.lists.specs.Lists.{Question, answer, operation, enters, footTerms, setTerms, exactResult, Totals, Side, onFirst, onOther, Event, asks, reads, adds, after, run, book, questions, oneSum, oneProduct, enteringSums, enteringProducts}
-use Rattle.lists.specs.Theorems.{AllowedNow, Allowed, MetNow, Met}
-use Rattle.lists.proofs.Entering.{entering}
+use Rattle.augmented_spec.specs.Direct.{Operation, sum, difference, product}
+use Rattle.accumulator_spec.specs.Totals.{totalOf, count, Term, finiteOperands, refused, adding, afterAdding}
+use Rattle.accumulator_spec.specs.Columns.{column}
+use Rattle.accumulator_spec.specs.Theorems.{FitTotal}
+use Rattle.accumulator_spec.proofs.Adding.{total-fit}
+use Rattle.accumulator_spec.proofs.Answers.{adding-special, adding-full, after-refused}
+use Rattle.accumulator_spec.proofs.Columns.{exact-from}
+use Rattle.conservation_spec.specs.Lists.{Question, answer, operation, enters, footTerms, setTerms, exactResult, Totals, Side, onFirst, onOther, Event, asks, reads, adds, after, run, book, questions, oneSum, oneProduct, enteringSums, enteringProducts}
+use Rattle.conservation_spec.specs.Theorems.{AllowedNow, Allowed, MetNow, Met}
+use Rattle.conservation_spec.proofs.Entering.{entering}
 
 -- two totals that hold z, with m and n terms
 abbrev pub holding : ℤ → ℕ → ℕ → Totals

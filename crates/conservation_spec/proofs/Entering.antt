@@ -7,19 +7,19 @@ use Prim.Native.Nat.{ℕ, _+_, _*_, _^_, _<_}
 use native.Mathlib.Omega.{arith}
 use lib.IntN.{ℤ, _+ℤ_, +ℤ-idr}
 use lib.ListN.{length}
-use Rattle.rounding.specs.Format.{binary32}
-use Rattle.rounding.specs.Value.{finite, decode, isFinite}
-use Rattle.pairs.specs.declared.Pair.{Pair}
-use Rattle.pairs.specs.Direct.{Operation, sum, difference, product, directPair}
-use Rattle.pairs.specs.Theorems.{finerInt}
-use Rattle.pairs.proofs.Theorems.{every-finite, sum-adds-up, product-adds-up}
-use Rattle.emulation.specs.Filling.{Answer, refused, filled, isFilled, HasDirectPair}
-use Rattle.emulation.proofs.Theorems.{filled-pair}
-use Rattle.totals.specs.Totals.{ofPattern, exactTerm, whole}
-use Rattle.totals.specs.Columns.{AllFinite, columnSum}
-use Rattle.totals.proofs.Landmarks.{pattern-term}
-use Rattle.lists.specs.Lists.{Question, answer, operation, direct, finitePair, enters, footTerms, setTerms, exactResult, oneSum, oneProduct}
-use Rattle.lists.proofs.Operands.{both, number-of, operands, result-is, terms-sum, terms-finite}
+use Rattle.rounding_spec.specs.Format.{binary32}
+use Rattle.rounding_spec.specs.Value.{finite, decode, isFinite}
+use Rattle.augmented_spec.specs.declared.Pair.{Pair}
+use Rattle.augmented_spec.specs.Direct.{Operation, sum, difference, product, directPair}
+use Rattle.augmented_spec.specs.Theorems.{finerInt}
+use Rattle.augmented_spec.proofs.Theorems.{every-finite, sum-adds-up, product-adds-up}
+use Rattle.worksheet_spec.specs.Filling.{Answer, refused, filled, isFilled, HasDirectPair}
+use Rattle.worksheet_spec.proofs.Theorems.{filled-pair}
+use Rattle.accumulator_spec.specs.Totals.{ofPattern, exactTerm, whole}
+use Rattle.accumulator_spec.specs.Columns.{AllFinite, columnSum}
+use Rattle.accumulator_spec.proofs.Landmarks.{pattern-term}
+use Rattle.conservation_spec.specs.Lists.{Question, answer, operation, direct, finitePair, enters, footTerms, setTerms, exactResult, oneSum, oneProduct}
+use Rattle.conservation_spec.proofs.Operands.{both, number-of, operands, result-is, terms-sum, terms-finite}
 
 pub not-true : (b : Bool) → not b ≡ true → b ≡ false
 not-true false e = refl

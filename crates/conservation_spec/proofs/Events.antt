@@ -6,11 +6,11 @@ use native.Mathlib.Numerals.{add-one}
 use native.Mathlib.Omega.{arith}
 use lib.ListN.{length, take, drop, getD, drop-of-length-le}
 use lib.Seq.{drop-cons}
-use Rattle.words.specs.Words.{Words}
-use Rattle.emulation.specs.Filling.{afterFilling}
-use Rattle.lists.specs.Lists.{Question, asked, Totals, run, questions}
-use Rattle.conservation.specs.Replay.{eventsOf, wordsAfter}
-use Rattle.lists.specs.Theorems.{Allowed}
+use Rattle.accumulator_spec.specs.Words.{Words}
+use Rattle.worksheet_spec.specs.Filling.{afterFilling}
+use Rattle.conservation_spec.specs.Lists.{Question, asked, Totals, run, questions}
+use Rattle.conservation_spec.specs.Replay.{eventsOf, wordsAfter}
+use Rattle.conservation_spec.specs.Theorems.{Allowed}
 
 -- ---- as many questions as operation numbers
 pub questions-of : (os xs ys counts words : List ℕ) → length xs ≡ length os → length ys ≡ length os → length counts ≡ length os → questions (eventsOf os xs ys counts words) ≡ length os

@@ -5,6 +5,6 @@ pub mod Settled
 pub mod Theorems
 pub mod Events
 pub mod Misfits
-pub mod Outcome
 pub mod Refusals
 pub mod ReplayTheorems
+pub mod Outcome

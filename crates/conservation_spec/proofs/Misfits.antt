@@ -9,10 +9,10 @@ use borrow.Author.Tests.{eqb-true, leb-true, ltb-false, ne-eqb, le-leb, lt-leb, 
 use lib.Dec.{eqb, leb, ltb}
 use lib.ListN.{length, drop, getD, replicate, drop-of-length-le}
 use lib.Seq.{drop-cons}
-use Rattle.totals.specs.Totals.{afterClearing}
-use Rattle.totals.proofs.Answers.{clearing-done}
-use Rattle.conservation.specs.Replay.{allZero, isCleared, allWithin, Answer, refused, done, replaying, isDone}
-use Rattle.lists.proofs.Operands.{both}
+use Rattle.accumulator_spec.specs.Totals.{afterClearing}
+use Rattle.accumulator_spec.proofs.Answers.{clearing-done}
+use Rattle.conservation_spec.specs.Replay.{allZero, isCleared, allWithin, Answer, refused, done, replaying, isDone}
+use Rattle.conservation_spec.proofs.Operands.{both}
 
 -- ---- zeros, word by word
 module _ (ws : List ℕ) (i : ℕ) (inside : i < length ws) where

@@ -7,22 +7,22 @@ use native.Mathlib.Omega.{arith}
 use lib.Dec.{eqb, lit<}
 use lib.Ieee.{unlike}
 use lib.IntN.{ℤ, pos, _+ℤ_, _*ℤ_, +ℤ-idr}
-use Rattle.rounding.specs.Format.{binary32}
-use Rattle.rounding.specs.Value.{Value, nan, infinite, finite, decode, isFinite, round, RN0}
-use Rattle.steps.specs.Exact.{int, negate, times}
-use Rattle.steps.specs.Classes.{flip}
-use Rattle.steps.proofs.Integers.{plus-exact, int-not, int-scale}
-use Rattle.steps.proofs.Sums.{sum-scale}
-use Rattle.steps.proofs.Theorems.{flip-negates}
-use Rattle.pairs.specs.Pairs.{pairOf}
-use Rattle.pairs.specs.Direct.{Operation, sum, difference, product, directPair}
-use Rattle.pairs.specs.Theorems.{exactly}
-use Rattle.pairs.proofs.Read.{exactFor, taken, first, first-read}
-use Rattle.pairs.proofs.Unrounded.{infinite-sum}
-use Rattle.totals.specs.Totals.{ofPattern, ofProduct, exactTerm, whole}
-use Rattle.totals.specs.Columns.{AllFinite, columnSum}
-use Rattle.totals.proofs.Landmarks.{pattern-term, product-term}
-use Rattle.lists.specs.Lists.{setTerms, exactResult}
+use Rattle.rounding_spec.specs.Format.{binary32}
+use Rattle.rounding_spec.specs.Value.{Value, nan, infinite, finite, decode, isFinite, round, RN0}
+use Rattle.pattern_spec.specs.Exact.{int, negate, times}
+use Rattle.pattern_spec.specs.Classes.{flip}
+use Rattle.pattern_spec.proofs.Integers.{plus-exact, int-not, int-scale}
+use Rattle.pattern_spec.proofs.Sums.{sum-scale}
+use Rattle.pattern_spec.proofs.Theorems.{flip-negates}
+use Rattle.augmented_spec.specs.Pairs.{pairOf}
+use Rattle.augmented_spec.specs.Direct.{Operation, sum, difference, product, directPair}
+use Rattle.augmented_spec.specs.Theorems.{exactly}
+use Rattle.augmented_spec.proofs.Read.{exactFor, taken, first, first-read}
+use Rattle.augmented_spec.proofs.Unrounded.{infinite-sum}
+use Rattle.accumulator_spec.specs.Totals.{ofPattern, ofProduct, exactTerm, whole}
+use Rattle.accumulator_spec.specs.Columns.{AllFinite, columnSum}
+use Rattle.accumulator_spec.proofs.Landmarks.{pattern-term, product-term}
+use Rattle.conservation_spec.specs.Lists.{setTerms, exactResult}
 
 -- ---- from the pair to the operands
 rounded-finite : (v : Value) → isFinite (RN0 binary32 v) ≡ true → isFinite v ≡ true

@@ -4,13 +4,13 @@ use mathlib.Core.Bool.{true≢false, true, false}
 use mathlib.Core.List.{List}
 use Prim.Native.Nat.{ℕ}
 use lib.ListN.{length}
-use Rattle.words.specs.Words.{Words}
-use Rattle.lists.specs.Lists.{Totals, Event, run}
-use Rattle.conservation.specs.Replay.{eventsOf, wordsAfter, allWithin, Answer, refused, done, replaying, isDone, totalsAfter, wordsLeft}
-use Rattle.lists.specs.Theorems.{Holds}
-use Rattle.conservation.specs.Theorems.{Conserves}
-use Rattle.conservation.proofs.Misfits.{fits, is-done}
-use Rattle.conservation.proofs.Theorems.{replayed}
+use Rattle.accumulator_spec.specs.Words.{Words}
+use Rattle.conservation_spec.specs.Lists.{Totals, Event, run}
+use Rattle.conservation_spec.specs.Replay.{eventsOf, wordsAfter, allWithin, Answer, refused, done, replaying, isDone, totalsAfter, wordsLeft}
+use Rattle.conservation_spec.specs.Theorems.{Holds}
+use Rattle.conservation_spec.specs.ReplayTheorems.{Conserves}
+use Rattle.conservation_spec.proofs.Misfits.{fits, is-done}
+use Rattle.conservation_spec.proofs.ReplayTheorems.{replayed}
 
 module _ (os xs ys counts words first second : List ℕ) where
   abbrev es : List Event

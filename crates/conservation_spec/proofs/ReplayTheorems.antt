@@ -3,14 +3,14 @@ use mathlib.Core.Path.{_≡_, ap₂, subst}
 use mathlib.Core.List.{List}
 use Prim.Native.Nat.{ℕ}
 use native.Mathlib.Nat.{le-trans, le-of-eq}
-use Rattle.lists.specs.Lists.{Totals, Event, run}
-use Rattle.lists.specs.Theorems.{Met, cleared, Holds}
-use Rattle.lists.proofs.Theorems.{conserved}
-use Rattle.conservation.specs.Replay.{eventsOf, totalsAfter}
-use Rattle.conservation.specs.Theorems.{Replayed, ReplayRefused, ReplayUnchanged, All}
-use Rattle.conservation.proofs.Refusals as refusals
-use Rattle.conservation.proofs.Events.{questions-of, allowed-of}
-use Rattle.conservation.proofs.Misfits.{cleared-already, fits}
+use Rattle.conservation_spec.specs.Lists.{Totals, Event, run}
+use Rattle.conservation_spec.specs.Theorems.{Met, cleared, Holds}
+use Rattle.conservation_spec.proofs.Theorems.{conserved}
+use Rattle.conservation_spec.specs.Replay.{eventsOf, totalsAfter}
+use Rattle.conservation_spec.specs.ReplayTheorems.{Replayed, ReplayRefused, ReplayUnchanged, All}
+use Rattle.conservation_spec.proofs.Refusals as refusals
+use Rattle.conservation_spec.proofs.Events.{questions-of, allowed-of}
+use Rattle.conservation_spec.proofs.Misfits.{cleared-already, fits}
 
 pub replayed : Replayed
 unfolding totalsAfter

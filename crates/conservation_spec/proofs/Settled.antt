@@ -4,14 +4,14 @@ use mathlib.Core.Bool.{true, false, not, _&&_}
 use mathlib.Core.List.{List, [], _∷_}
 use Prim.Native.Nat.{ℕ}
 use borrow.Author.Tests.{ne-eqb}
-use Rattle.rounding.specs.Format.{binary32}
-use Rattle.steps.specs.Classes.{flip}
-use Rattle.pairs.specs.declared.Pair.{Pair}
-use Rattle.emulation.specs.Filling.{operationOf, refused, filled, HasDirectPair}
-use Rattle.emulation.proofs.Theorems.{filled-pair}
-use Rattle.totals.specs.Totals.{Term, ofPattern, ofProduct, afterAdding}
-use Rattle.totals.specs.Columns.{column}
-use Rattle.lists.specs.Lists.{Question, answer, operation, direct, finitePair, enters, setTerms, Totals, asked}
+use Rattle.rounding_spec.specs.Format.{binary32}
+use Rattle.pattern_spec.specs.Classes.{flip}
+use Rattle.augmented_spec.specs.declared.Pair.{Pair}
+use Rattle.worksheet_spec.specs.Filling.{operationOf, refused, filled, HasDirectPair}
+use Rattle.worksheet_spec.proofs.Theorems.{filled-pair}
+use Rattle.accumulator_spec.specs.Totals.{Term, ofPattern, ofProduct, afterAdding}
+use Rattle.accumulator_spec.specs.Columns.{column}
+use Rattle.conservation_spec.specs.Lists.{Question, answer, operation, direct, finitePair, enters, setTerms, Totals, asked}
 
 module _ (q : Question) where
   -- the pair that came back is the direct pair

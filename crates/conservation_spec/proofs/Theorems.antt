@@ -10,23 +10,23 @@ use lib.Dec.{leb, ltb}
 use lib.IntN.{ℤ, pos, natAbs, _+ℤ_, +ℤ-idl}
 use lib.ListN.{length, take}
 use lib.Seq.{take-at}
-use Rattle.rounding.specs.Format.{binary32}
-use Rattle.rounding.specs.Value.{decode, isFinite}
-use Rattle.pairs.specs.Pairs.{pairOf}
-use Rattle.pairs.specs.Direct.{Operation, sum, difference, product}
-use Rattle.emulation.specs.Filling.{isOperation, operationOf, refused, answerOf, filling, isFilled}
-use Rattle.words.specs.Words.{wordsOfInteger}
-use Rattle.totals.specs.Totals.{totalOf, number, exact, pairAnswer, reading}
-use Rattle.totals.proofs.Held.{words-full, total-number, total-count}
-use Rattle.totals.proofs.Adding.{sum-room, total-fit}
-use Rattle.totals.proofs.Answers.{clearing-done}
-use Rattle.totals.proofs.Columns.{cleared-is}
-use Rattle.totals.proofs.ReadTotal.{read-fit}
-use Rattle.lists.specs.Lists.{Question, answer, operation, direct, finitePair, enters, oneSum, oneProduct, Totals, Event, asks, reads, adds, run, book, questions, enteringSums, enteringProducts}
-use Rattle.lists.specs.Theorems.{Allowed, Met, cleared, Holds, Conserved, EntersExactly, All}
-use Rattle.lists.proofs.Operands.{both}
-use Rattle.lists.proofs.Entering.{not-true}
-use Rattle.lists.proofs.Conservation.{holding, firstTerms, otherTerms, kept}
+use Rattle.rounding_spec.specs.Format.{binary32}
+use Rattle.rounding_spec.specs.Value.{decode, isFinite}
+use Rattle.augmented_spec.specs.Pairs.{pairOf}
+use Rattle.augmented_spec.specs.Direct.{Operation, sum, difference, product}
+use Rattle.worksheet_spec.specs.Filling.{isOperation, operationOf, refused, answerOf, filling, isFilled}
+use Rattle.accumulator_spec.specs.Words.{wordsOfInteger}
+use Rattle.accumulator_spec.specs.Totals.{totalOf, number, exact, pairAnswer, reading}
+use Rattle.accumulator_spec.proofs.Held.{words-full, total-number, total-count}
+use Rattle.accumulator_spec.proofs.Adding.{sum-room, total-fit}
+use Rattle.accumulator_spec.proofs.Answers.{clearing-done}
+use Rattle.accumulator_spec.proofs.Columns.{cleared-is}
+use Rattle.accumulator_spec.proofs.ReadTotal.{read-fit}
+use Rattle.conservation_spec.specs.Lists.{Question, answer, operation, direct, finitePair, enters, oneSum, oneProduct, Totals, Event, asks, reads, adds, run, book, questions, enteringSums, enteringProducts}
+use Rattle.conservation_spec.specs.Theorems.{Allowed, Met, cleared, Holds, Conserved, EntersExactly, All}
+use Rattle.conservation_spec.proofs.Operands.{both}
+use Rattle.conservation_spec.proofs.Entering.{not-true}
+use Rattle.conservation_spec.proofs.Conservation.{holding, firstTerms, otherTerms, kept}
 
 -- ---- no more terms than two a question
 at-most-one : (b : Bool) (o : Operation) → cond b (oneSum o) 0 + cond b (oneProduct o) 0 ≤ 1

@@ -5,14 +5,14 @@ use Prim.Native.Nat.{ℕ, suc, _+_, _*_, _^_}
 use mathlib.Core.Bool.{Bool, not, cond, _&&_}
 use mathlib.Core.List.{List, [], _∷_}
 use lib.IntN.{ℤ, pos, _+ℤ_, _-ℤ_, _*ℤ_}
-use Rattle.rounding.specs.Format.{binary32}
-use Rattle.rounding.specs.Value.{decode, isFinite}
-use Rattle.steps.specs.Classes.{flip}
-use Rattle.pairs.specs.declared.Pair.{Pair}
-use Rattle.pairs.specs.Direct.{Operation, sum, difference, product, directPair}
-use Rattle.emulation.specs.Filling.{operationOf, Answer, refused, filled, filling, isFilled}
-use Rattle.totals.specs.Totals.{Term, ofPattern, ofProduct, whole, afterAdding}
-use Rattle.totals.specs.Columns.{column}
+use Rattle.rounding_spec.specs.Format.{binary32}
+use Rattle.rounding_spec.specs.Value.{decode, isFinite}
+use Rattle.pattern_spec.specs.Classes.{flip}
+use Rattle.augmented_spec.specs.declared.Pair.{Pair}
+use Rattle.augmented_spec.specs.Direct.{Operation, sum, difference, product, directPair}
+use Rattle.worksheet_spec.specs.Filling.{operationOf, Answer, refused, filled, filling, isFilled}
+use Rattle.accumulator_spec.specs.Totals.{Term, ofPattern, ofProduct, whole, afterAdding}
+use Rattle.accumulator_spec.specs.Columns.{column}
 
 -- ---- "A question is an operation number and two patterns, with lent words of its own to fill."
 pub record Question : Type 0 where

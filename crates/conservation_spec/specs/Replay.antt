@@ -5,8 +5,8 @@ use mathlib.Core.Bool.{Bool, true, false, not, cond, _&&_}
 use mathlib.Core.List.{List, [], _∷_, _++_}
 use lib.Dec.{eqb, leb, ltb}
 use lib.ListN.{length, take, drop}
-use Rattle.emulation.specs.Filling.{afterFilling}
-use Rattle.lists.specs.Lists.{Totals, Event, asks, run}
+use Rattle.worksheet_spec.specs.Filling.{afterFilling}
+use Rattle.conservation_spec.specs.Lists.{Totals, Event, asks, run}
 
 -- ---- the questions: the ith has the ith operation number and patterns, and the first counts[i] of the lent words. These are as the last question
 -- left them, and each sheet is written over the one before it: of the words a question's answer depends on their number alone.

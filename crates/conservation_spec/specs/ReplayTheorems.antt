@@ -5,10 +5,10 @@ use mathlib.Core.Path.{_≡_}
 use mathlib.Core.Logic.{_⊎_, _≢_}
 use mathlib.Core.List.{List}
 use lib.ListN.{length, getD, replicate}
-use Rattle.words.specs.Words.{Words}
-use Rattle.lists.specs.Lists.{Totals, Event, questions}
-use Rattle.lists.specs.Theorems.{Met, Holds}
-use Rattle.conservation.specs.Replay.{eventsOf, Answer, refused, done, replaying, totalsAfter, wordsLeft}
+use Rattle.accumulator_spec.specs.Words.{Words}
+use Rattle.conservation_spec.specs.Lists.{Totals, Event, questions}
+use Rattle.conservation_spec.specs.Theorems.{Met, Holds}
+use Rattle.conservation_spec.specs.Replay.{eventsOf, Answer, refused, done, replaying, totalsAfter, wordsLeft}
 
 -- ---- `replay`: where it is carried out, the claim holds of its questions, and these are as many as the arrays have. xs and ys hold 32-bit words.
 abbrev pub Replayed : Type 0

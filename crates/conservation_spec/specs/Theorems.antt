@@ -6,12 +6,12 @@ use mathlib.Core.Logic.{_⊎_, _↔_}
 use mathlib.Core.Bool.{true, false}
 use mathlib.Core.List.{List, [], _∷_}
 use lib.ListN.{length, take}
-use Rattle.rounding.specs.Format.{binary32}
-use Rattle.rounding.specs.Value.{decode, isFinite}
-use Rattle.pairs.specs.Pairs.{pairOf}
-use Rattle.totals.specs.Totals.{number, count, totalOf, finiteOperands, refused as totals·refused, adding, afterClearing, exact, pairAnswer, reading}
-use Rattle.totals.specs.Columns.{Accepted}
-use Rattle.lists.specs.Lists.{Question, answer, operation, direct, enters, footTerms, setTerms, Totals, totalOn, Event, asks, reads, adds, after, run, book, questions, enteringSums, enteringProducts}
+use Rattle.rounding_spec.specs.Format.{binary32}
+use Rattle.rounding_spec.specs.Value.{decode, isFinite}
+use Rattle.augmented_spec.specs.Pairs.{pairOf}
+use Rattle.accumulator_spec.specs.Totals.{number, count, totalOf, finiteOperands, refused as totals·refused, adding, afterClearing, exact, pairAnswer, reading}
+use Rattle.accumulator_spec.specs.Columns.{Accepted}
+use Rattle.conservation_spec.specs.Lists.{Question, answer, operation, direct, enters, footTerms, setTerms, Totals, totalOn, Event, asks, reads, adds, after, run, book, questions, enteringSums, enteringProducts}
 
 -- ---- which lists: questions on patterns, readings, "and adding calls with an infinite or NaN operand (7) or to a total whose count is 65,536 (8)"
 abbrev pub AllowedNow : Totals → Event → Type 0

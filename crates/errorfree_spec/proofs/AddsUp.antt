@@ -7,11 +7,11 @@ use native.Mathlib.Omega.{arith}
 use borrow.Author.Tests.{eq-eqb, eqb-true}
 use lib.Dec.{T}
 use lib.Pow.{pow-pos}
-use Rattle.rounding.specs.Format.{Format, low}
-use Rattle.rounding.specs.Value.{Value, nan, infinite, finite, isZero, isFinite}
-use Rattle.steps.specs.Exact.{negate, plus, finer}
-use Rattle.pairs.specs.Pairs.{rest, addsUp}
-use Rattle.errorfree.proofs.Signed.{Rel, Is, rel-own, rel-dist, is-negate, is-plus, is-shift}
+use Rattle.rounding_spec.specs.Format.{Format, low}
+use Rattle.rounding_spec.specs.Value.{Value, nan, infinite, finite, isZero, isFinite}
+use Rattle.pattern_spec.specs.Exact.{negate, plus, finer}
+use Rattle.augmented_spec.specs.Pairs.{rest, addsUp}
+use Rattle.errorfree_spec.proofs.Signed.{Rel, Is, rel-own, rel-dist, is-negate, is-plus, is-shift}
 
 -- ---- in the finer unit
 rel-scale : (r s : Bool) (m p n U : ℕ) → Rel r s m p n → Rel r s (m * U) (p * U) (n * U)

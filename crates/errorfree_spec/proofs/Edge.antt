@@ -9,25 +9,25 @@ use borrow.Author.Tests.{ne-eqb}
 use lib.Dec.{T, eqb}
 use lib.Ieee.{unlike}
 use lib.Pow.{pow-add, pow-pos, pow-mono}
-use Rattle.rounding.specs.declared.Ties.the-variants.{ToEven, ToZero}
-use Rattle.rounding.specs.Format.{Format, Proper, low, limit, edge}
-use Rattle.rounding.specs.Nearest.{dist, Rep}
-use Rattle.rounding.specs.Value.{Value, nan, infinite, finite, roundFinite}
-use Rattle.rounding.proofs.Multiple.{sub-mul}
-use Rattle.rounding.proofs.NearLaws.{near-ge, near-le}
-use Rattle.rounding.proofs.Representable.{rep-le, rep-pow}
-use Rattle.rounding.proofs.Predecessor.{Upper, below-best}
-use Rattle.rounding.proofs.RoundValue.{under-edge, over-edge, zero-at-edge}
-use Rattle.rounding.proofs.Halfway.{even-up}
-use Rattle.steps.specs.Steps.{mulValue}
-use Rattle.pairs.specs.Pairs.{pairOf}
-use Rattle.pairs.proofs.Second.{first-infinite, second-infinite}
-use Rattle.errorfree.specs.Comparisons.{same}
-use Rattle.errorfree.specs.Constants.{Roomy}
-use Rattle.errorfree.proofs.Factors.{kappa, minusTwo}
-use Rattle.errorfree.proofs.Signed.{Rel, Is, rel-own, rel-dist, same-eq, eq-same, and-both, and-make, rel-other, other-side}
-use Rattle.errorfree.proofs.Steps.{toEven, toZero, even-at, zero-at, round-whole, mul-positive, mul-finite}
-use Rattle.errorfree.proofs.Split.{Split0, finished-first, finished-second}
+use Rattle.rounding_spec.specs.declared.Ties.the-variants.{ToEven, ToZero}
+use Rattle.rounding_spec.specs.Format.{Format, Proper, low, limit, edge}
+use Rattle.rounding_spec.specs.Nearest.{dist, Rep}
+use Rattle.rounding_spec.specs.Value.{Value, nan, infinite, finite, roundFinite}
+use Rattle.rounding_spec.proofs.Multiple.{sub-mul}
+use Rattle.rounding_spec.proofs.NearLaws.{near-ge, near-le}
+use Rattle.rounding_spec.proofs.Representable.{rep-le, rep-pow}
+use Rattle.rounding_spec.proofs.Predecessor.{Upper, below-best}
+use Rattle.rounding_spec.proofs.RoundValue.{under-edge, over-edge, zero-at-edge}
+use Rattle.rounding_spec.proofs.Halfway.{even-up}
+use Rattle.binary32_spec.specs.Steps.{mulValue}
+use Rattle.augmented_spec.specs.Pairs.{pairOf}
+use Rattle.augmented_spec.proofs.Second.{first-infinite, second-infinite}
+use Rattle.errorfree_spec.specs.Comparisons.{same}
+use Rattle.errorfree_spec.specs.Constants.{Roomy}
+use Rattle.errorfree_spec.proofs.Factors.{kappa, minusTwo}
+use Rattle.errorfree_spec.proofs.Signed.{Rel, Is, rel-own, rel-dist, same-eq, eq-same, and-both, and-make, rel-other, other-side}
+use Rattle.errorfree_spec.proofs.Steps.{toEven, toZero, even-at, zero-at, round-whole, mul-positive, mul-finite}
+use Rattle.errorfree_spec.proofs.Split.{Split0, finished-first, finished-second}
 
 -- ---- the numbers at the edge, in units of u: 2 ^ 127 and 2 ^ 102 in binary32
 unfoldable pub halfLimit : Format → ℕ

@@ -1,8 +1,8 @@
 -- The other factors of the step sheet, in any format. Assumes nothing.
 use Prim.Native.Nat.{suc, _+_, _-_, _*_, _^_}
 use mathlib.Core.Bool.{true, false}
-use Rattle.rounding.specs.Format.{Format, low}
-use Rattle.rounding.specs.Value.{Value, finite}
+use Rattle.rounding_spec.specs.Format.{Format, low}
+use Rattle.rounding_spec.specs.Value.{Value, finite}
 
 abbrev pub minusTwo : Format → Value
 minusTwo F = finite true (2 ^ suc (low F))

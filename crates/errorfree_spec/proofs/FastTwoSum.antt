@@ -6,21 +6,21 @@ use Prim.Native.Nat.{ℕ, suc, _+_, _-_, _*_, _^_, _≤_, _<_}
 use native.Mathlib.Nat.{lt-of-le-of-lt}
 use native.Mathlib.Decide.{decLe}
 use native.Mathlib.Omega.{arith}
-use Rattle.rounding.specs.declared.Ties.the-variants.{ToEven}
-use Rattle.rounding.specs.Format.{Format, low, limit}
-use Rattle.rounding.specs.Nearest.{dist, Rep, Near}
-use Rattle.rounding.specs.Value.{Value, finite, roundFinite, round}
-use Rattle.rounding.proofs.NearLaws.{near-exact}
-use Rattle.rounding.proofs.Representable.{rep-zero}
-use Rattle.rounding.proofs.SumError.{sum-error, difference-error}
-use Rattle.rounding.proofs.Sterbenz.{dist-ge, add-ge, add-v, sub-le, sub-v}
-use Rattle.rounding.proofs.TieDown.{error-le}
-use Rattle.steps.specs.Exact.{plus, finer}
-use Rattle.steps.specs.Steps.{addValue, subValue}
-use Rattle.steps.proofs.Sums.{like?, like-eq, unlike-eq, sum-same, sum-left, sum-none}
-use Rattle.errorfree.proofs.Signed.{Is, rel-own, is-shift, dist-shift, rel-other}
-use Rattle.errorfree.proofs.Steps.{toEven, even-at, is-sub}
-use Rattle.errorfree.proofs.Split.{Split}
+use Rattle.rounding_spec.specs.declared.Ties.the-variants.{ToEven}
+use Rattle.rounding_spec.specs.Format.{Format, low, limit}
+use Rattle.rounding_spec.specs.Nearest.{dist, Rep, Near}
+use Rattle.rounding_spec.specs.Value.{Value, finite, roundFinite, round}
+use Rattle.rounding_spec.proofs.NearLaws.{near-exact}
+use Rattle.rounding_spec.proofs.Representable.{rep-zero}
+use Rattle.rounding_spec.proofs.SumError.{sum-error, difference-error}
+use Rattle.rounding_spec.proofs.Sterbenz.{dist-ge, add-ge, add-v, sub-le, sub-v}
+use Rattle.rounding_spec.proofs.TieDown.{error-le}
+use Rattle.pattern_spec.specs.Exact.{plus, finer}
+use Rattle.binary32_spec.specs.Steps.{addValue, subValue}
+use Rattle.pattern_spec.proofs.Sums.{like?, like-eq, unlike-eq, sum-same, sum-left, sum-none}
+use Rattle.errorfree_spec.proofs.Signed.{Is, rel-own, is-shift, dist-shift, rel-other}
+use Rattle.errorfree_spec.proofs.Steps.{toEven, even-at, is-sub}
+use Rattle.errorfree_spec.proofs.Split.{Split}
 
 -- a finite exact sum, rounded
 pub add-finite : (F : Format) (x y : Value) (r : Bool) (n : ℕ) → plus x y ≡ finite r n → addValue F x y ≡ roundFinite ToEven F r (n * 2 ^ low F)

@@ -8,28 +8,28 @@ use native.Mathlib.Decide.{decLe}
 use native.Mathlib.Omega.{arith}
 use lib.Ieee.{unlike}
 use lib.Pow.{pow-add, pow-pos, pow-mono}
-use Rattle.rounding.specs.declared.Ties.the-variants.{ToEven}
-use Rattle.rounding.specs.Format.{Format, Proper, low, limit}
-use Rattle.rounding.specs.Nearest.{Rep}
-use Rattle.rounding.specs.Value.{Value, infinite, finite, roundFinite}
-use Rattle.rounding.proofs.Representable.{rep-half}
-use Rattle.rounding.proofs.NearLaws.{near-ge}
-use Rattle.rounding.proofs.RoundValue.{round-below, round-above}
-use Rattle.rounding.proofs.Sterbenz.{add-le}
-use Rattle.steps.specs.Exact.{negate, plus}
-use Rattle.steps.specs.Steps.{addValue, subValue, mulValue, fmaValue}
-use Rattle.steps.proofs.Sums.{like-own, sum-same}
-use Rattle.pairs.specs.Pairs.{pairOf}
-use Rattle.pairs.proofs.Second.{first-infinite, second-infinite}
-use Rattle.errorfree.specs.Comparisons.{same}
-use Rattle.errorfree.specs.Constants.{Roomy}
-use Rattle.errorfree.proofs.Factors.{half, kappa, minusTwo}
-use Rattle.errorfree.proofs.Signed.{Is}
-use Rattle.errorfree.proofs.Steps.{toEven, toZero, even-at, zero-at, round-whole, mul-positive, mul-finite}
-use Rattle.errorfree.proofs.ProductSplit.{whole, product-split}
-use Rattle.errorfree.proofs.FastTwoSum.{add-finite, split-same}
-use Rattle.errorfree.proofs.Powers.{pow-le-of}
-use Rattle.errorfree.proofs.Edge.{halfLimit, edgeRest, limit-twice, over-ge, last-add, last-best, edge-pair}
+use Rattle.rounding_spec.specs.declared.Ties.the-variants.{ToEven}
+use Rattle.rounding_spec.specs.Format.{Format, Proper, low, limit}
+use Rattle.rounding_spec.specs.Nearest.{Rep}
+use Rattle.rounding_spec.specs.Value.{Value, infinite, finite, roundFinite}
+use Rattle.rounding_spec.proofs.Representable.{rep-half}
+use Rattle.rounding_spec.proofs.NearLaws.{near-ge}
+use Rattle.rounding_spec.proofs.RoundValue.{round-below, round-above}
+use Rattle.rounding_spec.proofs.Sterbenz.{add-le}
+use Rattle.pattern_spec.specs.Exact.{negate, plus}
+use Rattle.binary32_spec.specs.Steps.{addValue, subValue, mulValue, fmaValue}
+use Rattle.pattern_spec.proofs.Sums.{like-own, sum-same}
+use Rattle.augmented_spec.specs.Pairs.{pairOf}
+use Rattle.augmented_spec.proofs.Second.{first-infinite, second-infinite}
+use Rattle.errorfree_spec.specs.Comparisons.{same}
+use Rattle.errorfree_spec.specs.Constants.{Roomy}
+use Rattle.errorfree_spec.proofs.Factors.{half, kappa, minusTwo}
+use Rattle.errorfree_spec.proofs.Signed.{Is}
+use Rattle.errorfree_spec.proofs.Steps.{toEven, toZero, even-at, zero-at, round-whole, mul-positive, mul-finite}
+use Rattle.errorfree_spec.proofs.ProductSplit.{whole, product-split}
+use Rattle.errorfree_spec.proofs.FastTwoSum.{add-finite, split-same}
+use Rattle.errorfree_spec.proofs.Powers.{pow-le-of}
+use Rattle.errorfree_spec.proofs.Edge.{halfLimit, edgeRest, limit-twice, over-ge, last-add, last-best, edge-pair}
 
 -- what the edge test makes of a and b, the halves' split: the pair of N, whose sign is s
 abbrev pub EdgePair : Format → Bool → ℕ → Value → Value → Type 0

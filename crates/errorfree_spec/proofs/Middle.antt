@@ -9,31 +9,31 @@ use native.Mathlib.Omega.{arith}
 use lib.Dec.{ltb}
 use lib.Ieee.{unlike}
 use lib.Pow.{pow-add, pow-pos, pow-lt}
-use Rattle.rounding.specs.declared.Ties.the-variants.{ToEven, ToZero}
-use Rattle.rounding.specs.Format.{Format, low, limit}
-use Rattle.rounding.specs.Round.{roundedUp}
-use Rattle.rounding.specs.Nearest.{dist, Rep, Near0}
-use Rattle.rounding.specs.Value.{Value, nan, infinite, finite, isZero}
-use Rattle.rounding.proofs.NearLaws.{near-exact, near0-one}
-use Rattle.rounding.proofs.Representable.{rep-zero}
-use Rattle.rounding.proofs.Rounded.{rounded-near0}
-use Rattle.rounding.proofs.RoundValue.{round-below}
-use Rattle.rounding.proofs.Scaled.{rep-up, rounded-rep, rep-shift}
-use Rattle.rounding.proofs.Rescaled.{dist-mul, near0-up, near0-raise}
-use Rattle.rounding.proofs.TieDown.{error-le}
-use Rattle.steps.specs.Exact.{negate}
-use Rattle.steps.specs.Steps.{subValue, mulValue, fmaValue}
-use Rattle.pairs.specs.Pairs.{pairOf}
-use Rattle.pairs.proofs.Second.{tail, first-finite}
-use Rattle.errorfree.specs.Comparisons.{same}
-use Rattle.errorfree.specs.Constants.{Roomy}
-use Rattle.errorfree.proofs.Factors.{scale, unscale, zero}
-use Rattle.errorfree.proofs.Signed.{Rel, Is, rel-dist}
-use Rattle.errorfree.proofs.Steps.{toEven, toZero, mul-finite}
-use Rattle.errorfree.proofs.Split.{Split, Split0, zero-finish, side-of, ltb-scale}
-use Rattle.errorfree.proofs.ProductSplit.{whole, product-split}
-use Rattle.errorfree.proofs.Powers.{pow-le-of, pow-ge-of, up-step, down-step}
-use Rattle.errorfree.proofs.MiddleSecond.{stepped, small, scaled-down, stepped-is, stepped-nonzero}
+use Rattle.rounding_spec.specs.declared.Ties.the-variants.{ToEven, ToZero}
+use Rattle.rounding_spec.specs.Format.{Format, low, limit}
+use Rattle.rounding_spec.specs.Round.{roundedUp}
+use Rattle.rounding_spec.specs.Nearest.{dist, Rep, Near0}
+use Rattle.rounding_spec.specs.Value.{Value, nan, infinite, finite, isZero}
+use Rattle.rounding_spec.proofs.NearLaws.{near-exact, near0-one}
+use Rattle.rounding_spec.proofs.Representable.{rep-zero}
+use Rattle.rounding_spec.proofs.Rounded.{rounded-near0}
+use Rattle.rounding_spec.proofs.RoundValue.{round-below}
+use Rattle.rounding_spec.proofs.Scaled.{rep-up, rounded-rep, rep-shift}
+use Rattle.rounding_spec.proofs.Rescaled.{dist-mul, near0-up, near0-raise}
+use Rattle.rounding_spec.proofs.TieDown.{error-le}
+use Rattle.pattern_spec.specs.Exact.{negate}
+use Rattle.binary32_spec.specs.Steps.{subValue, mulValue, fmaValue}
+use Rattle.augmented_spec.specs.Pairs.{pairOf}
+use Rattle.augmented_spec.proofs.Second.{tail, first-finite}
+use Rattle.errorfree_spec.specs.Comparisons.{same}
+use Rattle.errorfree_spec.specs.Constants.{Roomy}
+use Rattle.errorfree_spec.proofs.Factors.{scale, unscale, zero}
+use Rattle.errorfree_spec.proofs.Signed.{Rel, Is, rel-dist}
+use Rattle.errorfree_spec.proofs.Steps.{toEven, toZero, mul-finite}
+use Rattle.errorfree_spec.proofs.Split.{Split, Split0, zero-finish, side-of, ltb-scale}
+use Rattle.errorfree_spec.proofs.ProductSplit.{whole, product-split}
+use Rattle.errorfree_spec.proofs.Powers.{pow-le-of, pow-ge-of, up-step, down-step}
+use Rattle.errorfree_spec.proofs.MiddleSecond.{stepped, small, scaled-down, stepped-is, stepped-nonzero}
 
 -- the product of a and b with the sign r, 2 ^ suc (F .fraction) times larger, is n units of u, and a' and b' are what it is split into
 pub record Scaled (F : Format) (a b : ℕ) (r : Bool) (a' b' : Value) : Type 0 where

@@ -9,25 +9,25 @@ use native.Mathlib.Omega.{arith}
 use borrow.Author.Tests.{ne-eqb}
 use lib.Dec.{T, eqb, eqb→eq}
 use lib.Pow.{pow-add, pow-pos}
-use Rattle.rounding.specs.declared.Ties.the-variants.{ToEven}
-use Rattle.rounding.specs.Format.{Format, low, limit}
-use Rattle.rounding.specs.Nearest.{dist, Rep, Near, Near0}
-use Rattle.rounding.specs.Value.{Value, nan, infinite, finite, isZero}
-use Rattle.rounding.proofs.Multiple.{sub-mul}
-use Rattle.rounding.proofs.NearLaws.{near-exact, near-le}
-use Rattle.rounding.proofs.Representable.{rep-lt, rep-lower, rep-raise}
-use Rattle.rounding.proofs.ProductError.{near-half}
-use Rattle.rounding.proofs.RoundValue.{round-below}
-use Rattle.rounding.proofs.Even.{half-to-even}
-use Rattle.rounding.proofs.Scaled.{rep-down}
-use Rattle.rounding.proofs.SmallProducts.{rest-down, rest-keep}
-use Rattle.rounding.proofs.TieDown.{dbl}
-use Rattle.steps.specs.Steps.{subValue, mulValue}
-use Rattle.errorfree.specs.Comparisons.{same}
-use Rattle.errorfree.proofs.Factors.{scale, unscale}
-use Rattle.errorfree.proofs.Signed.{and-both, Is, rel-own, rel-dist, is-shift, same-eq, eq-same}
-use Rattle.errorfree.proofs.Steps.{toEven, is-sub, mul-positive}
-use Rattle.errorfree.proofs.Powers.{up-step, down-rounds}
+use Rattle.rounding_spec.specs.declared.Ties.the-variants.{ToEven}
+use Rattle.rounding_spec.specs.Format.{Format, low, limit}
+use Rattle.rounding_spec.specs.Nearest.{dist, Rep, Near, Near0}
+use Rattle.rounding_spec.specs.Value.{Value, nan, infinite, finite, isZero}
+use Rattle.rounding_spec.proofs.Multiple.{sub-mul}
+use Rattle.rounding_spec.proofs.NearLaws.{near-exact, near-le}
+use Rattle.rounding_spec.proofs.Representable.{rep-lt, rep-lower, rep-raise}
+use Rattle.rounding_spec.proofs.ProductError.{near-half}
+use Rattle.rounding_spec.proofs.RoundValue.{round-below}
+use Rattle.rounding_spec.proofs.Even.{half-to-even}
+use Rattle.rounding_spec.proofs.Scaled.{rep-down}
+use Rattle.rounding_spec.proofs.SmallProducts.{rest-down, rest-keep}
+use Rattle.rounding_spec.proofs.TieDown.{dbl}
+use Rattle.binary32_spec.specs.Steps.{subValue, mulValue}
+use Rattle.errorfree_spec.specs.Comparisons.{same}
+use Rattle.errorfree_spec.proofs.Factors.{scale, unscale}
+use Rattle.errorfree_spec.proofs.Signed.{and-both, Is, rel-own, rel-dist, is-shift, same-eq, eq-same}
+use Rattle.errorfree_spec.proofs.Steps.{toEven, is-sub, mul-positive}
+use Rattle.errorfree_spec.proofs.Powers.{up-step, down-rounds}
 
 -- c, of the sign t, less one u where r, what c scaled up is off by, is half of a scaled u with that sign
 abbrev pub stepped : Format → Bool → Value → Value → Value

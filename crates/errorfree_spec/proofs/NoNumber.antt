@@ -5,11 +5,11 @@ use mathlib.Core.Logic.{_⊎_, inl, inr}
 use Prim.Native.Nat.{ℕ}
 use lib.Dec.{T, eqb}
 use lib.Ieee.{unlike}
-use Rattle.rounding.specs.Format.{Format}
-use Rattle.rounding.specs.Value.{Value, nan, infinite, finite, isFinite, isZero, round, RNe}
-use Rattle.steps.specs.Exact.{negate, plus, times, finer}
-use Rattle.steps.specs.Steps.{addValue, subValue, mulValue, fmaValue}
-use Rattle.steps.proofs.Special.{plus-comm}
+use Rattle.rounding_spec.specs.Format.{Format}
+use Rattle.rounding_spec.specs.Value.{Value, nan, infinite, finite, isFinite, isZero, round, RNe}
+use Rattle.pattern_spec.specs.Exact.{negate, plus, times, finer}
+use Rattle.binary32_spec.specs.Steps.{addValue, subValue, mulValue, fmaValue}
+use Rattle.pattern_spec.proofs.Exchanged.{plus-comm}
 
 -- "is finite" does not hold of a value that is not
 pub not-both : {P : Type 0} → true ≡ false → P
@@ -35,19 +35,19 @@ both-of true j e = (refl, e)
 both-of false j e = not-both (sym e)
 
 -- ---- exact operations
-none-picked : (c s : Bool) → isFinite (cond c (infinite s) nan) ≡ false
-none-picked true s = refl
-none-picked false s = refl
+none-chosen : (c s : Bool) → isFinite (cond c (infinite s) nan) ≡ false
+none-chosen true s = refl
+none-chosen false s = refl
 
-nan-picked : (c s : Bool) → isFinite (cond c nan (infinite s)) ≡ false
-nan-picked true s = refl
-nan-picked false s = refl
+nan-chosen : (c s : Bool) → isFinite (cond c nan (infinite s)) ≡ false
+nan-chosen true s = refl
+nan-chosen false s = refl
 
 plus-none : (v w : Value) → isFinite v ≡ false → isFinite (plus v w) ≡ false
 unfolding plus
 plus-none nan w h = refl
 plus-none (infinite s) nan h = refl
-plus-none (infinite s) (infinite t) h = none-picked (Bool·beq s t) s
+plus-none (infinite s) (infinite t) h = none-chosen (Bool·beq s t) s
 plus-none (infinite s) (finite t b) h = refl
 plus-none (finite s a) w h = not-both h
 
@@ -65,7 +65,7 @@ unfolding times
 times-left nan w h = refl
 times-left (infinite s) nan h = refl
 times-left (infinite s) (infinite t) h = refl
-times-left (infinite s) (finite t b) h = nan-picked (eqb b 0) (unlike s t)
+times-left (infinite s) (finite t b) h = nan-chosen (eqb b 0) (unlike s t)
 times-left (finite s a) w h = not-both h
 
 times-right : (v w : Value) → isFinite w ≡ false → isFinite (times v w) ≡ false
@@ -75,7 +75,7 @@ times-right (infinite s) nan h = refl
 times-right (infinite s) (infinite t) h = refl
 times-right (infinite s) (finite t b) h = not-both h
 times-right (finite s a) nan h = refl
-times-right (finite s a) (infinite t) h = nan-picked (eqb a 0) (unlike s t)
+times-right (finite s a) (infinite t) h = nan-chosen (eqb a 0) (unlike s t)
 times-right (finite s a) (finite t b) h = not-both h
 
 pub product-none : (v w : Value) → isFinite v && isFinite w ≡ false → isFinite (times v w) ≡ false

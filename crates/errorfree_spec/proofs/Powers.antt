@@ -6,17 +6,17 @@ use native.Mathlib.Nat.{mul-comm, one-mul}
 use native.Mathlib.Decide.{decLe}
 use native.Mathlib.Omega.{arith}
 use lib.Pow.{pow-pos}
-use Rattle.rounding.specs.declared.Ties.the-variants.{ToEven}
-use Rattle.rounding.specs.Format.{Format, low, limit}
-use Rattle.rounding.specs.Nearest.{Rep, Near}
-use Rattle.rounding.specs.Value.{finite, roundFinite}
-use Rattle.rounding.proofs.Multiple.{joined}
-use Rattle.rounding.proofs.Rounded.{rounded-near}
-use Rattle.rounding.proofs.Bounds.{rounded-le, rounded-ge}
-use Rattle.rounding.proofs.Rescaled.{near-down}
-use Rattle.steps.specs.Steps.{mulValue}
-use Rattle.errorfree.proofs.Factors.{unscale}
-use Rattle.errorfree.proofs.Steps.{toEven, round-whole, mul-positive}
+use Rattle.rounding_spec.specs.declared.Ties.the-variants.{ToEven}
+use Rattle.rounding_spec.specs.Format.{Format, low, limit}
+use Rattle.rounding_spec.specs.Nearest.{Rep, Near}
+use Rattle.rounding_spec.specs.Value.{finite, roundFinite}
+use Rattle.rounding_spec.proofs.Multiple.{joined}
+use Rattle.rounding_spec.proofs.Rounded.{rounded-near}
+use Rattle.rounding_spec.proofs.Bounds.{rounded-le, rounded-ge}
+use Rattle.rounding_spec.proofs.Rescaled.{near-down}
+use Rattle.binary32_spec.specs.Steps.{mulValue}
+use Rattle.errorfree_spec.proofs.Factors.{unscale}
+use Rattle.errorfree_spec.proofs.Steps.{toEven, round-whole, mul-positive}
 
 -- ---- N units of u * u beside a power of two
 pub pow-le-of : (F : Format) (N k : ℕ) → N ≤ 2 ^ k * 2 ^ low F → toEven F N ≤ 2 ^ k

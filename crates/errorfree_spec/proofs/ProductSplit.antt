@@ -7,20 +7,20 @@ use native.Mathlib.Decide.{decLe}
 use native.Mathlib.Omega.{arith}
 use lib.Ieee.{unlike}
 use lib.Pow.{pow-add, pow-pos, pow-mono}
-use Rattle.rounding.specs.declared.Ties.the-variants.{ToEven}
-use Rattle.rounding.specs.Format.{Format, low, limit}
-use Rattle.rounding.specs.Nearest.{dist, Rep, Near}
-use Rattle.rounding.specs.Value.{Value, nan, infinite, finite, round, RNe}
-use Rattle.rounding.proofs.Multiple.{Mult, mult-down}
-use Rattle.rounding.proofs.Scaled.{rep-down}
-use Rattle.rounding.proofs.Rescaled.{dist-mul, near-up}
-use Rattle.rounding.proofs.ProductError.{product-error}
-use Rattle.rounding.proofs.TieDown.{error-le}
-use Rattle.steps.specs.Exact.{negate, plus, times, finer}
-use Rattle.steps.specs.Steps.{fmaValue}
-use Rattle.errorfree.proofs.Signed.{Rel, Is, rel-own, rel-dist, is-plus, is-shift, rel-other}
-use Rattle.errorfree.proofs.Steps.{toEven, even-at, round-whole}
-use Rattle.errorfree.proofs.Split.{Split}
+use Rattle.rounding_spec.specs.declared.Ties.the-variants.{ToEven}
+use Rattle.rounding_spec.specs.Format.{Format, low, limit}
+use Rattle.rounding_spec.specs.Nearest.{dist, Rep, Near}
+use Rattle.rounding_spec.specs.Value.{Value, nan, infinite, finite, round, RNe}
+use Rattle.rounding_spec.proofs.Multiple.{Mult, mult-down}
+use Rattle.rounding_spec.proofs.Scaled.{rep-down}
+use Rattle.rounding_spec.proofs.Rescaled.{dist-mul, near-up}
+use Rattle.rounding_spec.proofs.ProductError.{product-error}
+use Rattle.rounding_spec.proofs.TieDown.{error-le}
+use Rattle.pattern_spec.specs.Exact.{negate, plus, times, finer}
+use Rattle.binary32_spec.specs.Steps.{fmaValue}
+use Rattle.errorfree_spec.proofs.Signed.{Rel, Is, rel-own, rel-dist, is-plus, is-shift, rel-other}
+use Rattle.errorfree_spec.proofs.Steps.{toEven, even-at, round-whole}
+use Rattle.errorfree_spec.proofs.Split.{Split}
 
 -- ---- the fused step, where it is exact
 rel-cancel : (r s : Bool) (m p n S : ℕ) → 0 < S → Rel r s (m * S) (p * S) (n * S) → Rel r s m p n

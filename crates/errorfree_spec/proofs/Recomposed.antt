@@ -6,25 +6,25 @@ use native.Mathlib.Nat.{lt-of-le-of-lt, mul-assoc, mul-right-comm, pow-succ'}
 use native.Mathlib.Omega.{arith}
 use lib.Dec.{T}
 use lib.Pow.{pow-add}
-use Rattle.rounding.specs.declared.Ties.the-variants.{ToEven}
-use Rattle.rounding.specs.Format.{Format, low, limit}
-use Rattle.rounding.specs.Nearest.{dist, Rep, Near}
-use Rattle.rounding.specs.Value.{Value, nan, infinite, finite, Fits, isFinite}
-use Rattle.rounding.proofs.Representable.{rep-zero}
-use Rattle.rounding.proofs.NearLaws.{near0-one}
-use Rattle.rounding.proofs.Rounded.{rounded-near}
-use Rattle.rounding.proofs.RoundValue.{round-below}
-use Rattle.rounding.proofs.Rescaled.{near-down}
-use Rattle.rounding.proofs.Sterbenz.{rep-double}
-use Rattle.rounding.proofs.Chosen.{choose-z, choose-a, z-le, z-diff}
-use Rattle.rounding.proofs.TieDown.{error-le}
-use Rattle.steps.specs.Exact.{negate}
-use Rattle.steps.specs.Steps.{subValue, mulValue}
-use Rattle.errorfree.specs.Comparisons.{same}
-use Rattle.errorfree.specs.Constants.{Roomy, psi, two}
-use Rattle.errorfree.proofs.Signed.{Rel, Is, rel-own, rel-dist, is-negate, is-shift, same-eq, eq-same}
-use Rattle.errorfree.proofs.Steps.{toEven, toZero, zero-at, round-whole, is-sub, mul-positive}
-use Rattle.errorfree.proofs.Split.{Split, Split0}
+use Rattle.rounding_spec.specs.declared.Ties.the-variants.{ToEven}
+use Rattle.rounding_spec.specs.Format.{Format, low, limit}
+use Rattle.rounding_spec.specs.Nearest.{dist, Rep, Near}
+use Rattle.rounding_spec.specs.Value.{Value, nan, infinite, finite, Fits, isFinite}
+use Rattle.rounding_spec.proofs.Representable.{rep-zero}
+use Rattle.rounding_spec.proofs.NearLaws.{near0-one}
+use Rattle.rounding_spec.proofs.Rounded.{rounded-near}
+use Rattle.rounding_spec.proofs.RoundValue.{round-below}
+use Rattle.rounding_spec.proofs.Rescaled.{near-down}
+use Rattle.rounding_spec.proofs.Sterbenz.{rep-double}
+use Rattle.rounding_spec.proofs.Chosen.{choose-z, choose-a, z-le, z-diff}
+use Rattle.rounding_spec.proofs.TieDown.{error-le}
+use Rattle.pattern_spec.specs.Exact.{negate}
+use Rattle.binary32_spec.specs.Steps.{subValue, mulValue}
+use Rattle.errorfree_spec.specs.Comparisons.{same}
+use Rattle.errorfree_spec.specs.Constants.{Roomy, psi, two}
+use Rattle.errorfree_spec.proofs.Signed.{Rel, Is, rel-own, rel-dist, is-negate, is-shift, same-eq, eq-same}
+use Rattle.errorfree_spec.proofs.Steps.{toEven, toZero, zero-at, round-whole, is-sub, mul-positive}
+use Rattle.errorfree_spec.proofs.Split.{Split, Split0}
 
 -- ---- the product by 1 - 2 ^ -precision
 pub psi-near : (F : Format) → Roomy F → (A : ℕ)

@@ -6,12 +6,12 @@ use native.Mathlib.Nat.{add-zero, add-comm, le-of-lt}
 use mathlib.Core.Logic.{inl, inr}
 use native.Mathlib.Omega.{arith}
 use lib.Dec.{T, eqb, eqb→eq, eqb-refl}
-use Rattle.rounding.specs.Nearest.{dist}
-use Rattle.rounding.specs.Value.{Value, nan, infinite, finite}
-use Rattle.rounding.proofs.Compare.{tri}
-use Rattle.steps.specs.Exact.{negate, plusFinite, plus}
-use Rattle.steps.proofs.Sums.{like?, like-eq, unlike-eq, sum-same, sum-left, sum-right, sum-none}
-use Rattle.errorfree.specs.Comparisons.{same}
+use Rattle.rounding_spec.specs.Nearest.{dist}
+use Rattle.rounding_spec.specs.Value.{Value, nan, infinite, finite}
+use Rattle.rounding_spec.proofs.Compare.{tri}
+use Rattle.pattern_spec.specs.Exact.{negate, plusFinite, plus}
+use Rattle.pattern_spec.proofs.Sums.{like?, like-eq, unlike-eq, sum-same, sum-left, sum-right, sum-none}
+use Rattle.errorfree_spec.specs.Comparisons.{same}
 
 -- ---- s * m is the number p - n, where the sign r counts as plus
 abbrev pub Rel : Bool → Bool → ℕ → ℕ → ℕ → Type 0

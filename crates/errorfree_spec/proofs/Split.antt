@@ -10,18 +10,18 @@ use borrow.Author.Tests.{lt-ltb, le-ltb, ne-eqb}
 use lib.Dec.{ltb, eqb}
 use lib.Ieee.{unlike}
 use lib.Pow.{pow-pos}
-use Rattle.rounding.specs.declared.Ties.the-variants.{ToZero}
-use Rattle.rounding.specs.Format.{Format, low, limit}
-use Rattle.rounding.specs.Nearest.{dist, Rep, Near, Near0}
-use Rattle.rounding.specs.Value.{Value, nan, infinite, finite, isZero}
-use Rattle.rounding.proofs.NearLaws.{near-exact, near0-one}
-use Rattle.rounding.proofs.Rescaled.{dist-mul, whole-near}
-use Rattle.steps.specs.Steps.{mulValue}
-use Rattle.pairs.specs.Pairs.{pairOf}
-use Rattle.pairs.proofs.Second.{head, tail, up, unlike-true, unlike-false, first-finite, pair-second}
-use Rattle.errorfree.proofs.Factors.{zero}
-use Rattle.errorfree.proofs.Signed.{Rel, Is, rel-dist, other-side}
-use Rattle.errorfree.proofs.Steps.{toZero, zero-at, zero-times}
+use Rattle.rounding_spec.specs.declared.Ties.the-variants.{ToZero}
+use Rattle.rounding_spec.specs.Format.{Format, low, limit}
+use Rattle.rounding_spec.specs.Nearest.{dist, Rep, Near, Near0}
+use Rattle.rounding_spec.specs.Value.{Value, nan, infinite, finite, isZero}
+use Rattle.rounding_spec.proofs.NearLaws.{near-exact, near0-one}
+use Rattle.rounding_spec.proofs.Rescaled.{dist-mul, whole-near}
+use Rattle.binary32_spec.specs.Steps.{mulValue}
+use Rattle.augmented_spec.specs.Pairs.{pairOf}
+use Rattle.augmented_spec.proofs.Second.{head, tail, up, unlike-true, unlike-false, first-finite, pair-second}
+use Rattle.errorfree_spec.proofs.Factors.{zero}
+use Rattle.errorfree_spec.proofs.Signed.{Rel, Is, rel-dist, other-side}
+use Rattle.errorfree_spec.proofs.Steps.{toZero, zero-at, zero-times}
 
 -- n units of u with the sign s: A is nearest to n, and b is all of what is left
 pub record Split (F : Format) (s : Bool) (n A : ℕ) (b : Value) : Type 0 where

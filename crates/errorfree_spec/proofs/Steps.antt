@@ -5,19 +5,19 @@ use Prim.Native.Nat.{ℕ, suc, _+_, _*_, _^_, _<_}
 use native.Mathlib.Nat.{le-of-eq, lt-of-le-of-lt, zero-mul}
 use lib.Ieee.{unlike}
 use lib.Pow.{pow-pos}
-use Rattle.rounding.specs.declared.Ties.{Ties}
-use Rattle.rounding.specs.declared.Ties.the-variants.{ToEven, ToZero}
-use Rattle.rounding.specs.Format.{Format, low, limit}
-use Rattle.rounding.specs.Round.{rounded}
-use Rattle.rounding.specs.Nearest.{dist, Rep, Near, Near0}
-use Rattle.rounding.specs.Value.{Value, nan, infinite, finite, roundFinite, round, RNe}
-use Rattle.rounding.proofs.NearLaws.{near-exact}
-use Rattle.rounding.proofs.Representable.{rep-zero}
-use Rattle.rounding.proofs.RoundValue.{round-below}
-use Rattle.rounding.proofs.Rescaled.{whole-near, whole-near0}
-use Rattle.steps.specs.Exact.{negate, plus, times, finer}
-use Rattle.steps.specs.Steps.{addValue, subValue, mulValue}
-use Rattle.errorfree.proofs.Signed.{Is, rel-dist, is-negate, is-plus}
+use Rattle.rounding_spec.specs.declared.Ties.{Ties}
+use Rattle.rounding_spec.specs.declared.Ties.the-variants.{ToEven, ToZero}
+use Rattle.rounding_spec.specs.Format.{Format, low, limit}
+use Rattle.rounding_spec.specs.Round.{rounded}
+use Rattle.rounding_spec.specs.Nearest.{dist, Rep, Near, Near0}
+use Rattle.rounding_spec.specs.Value.{Value, nan, infinite, finite, roundFinite, round, RNe}
+use Rattle.rounding_spec.proofs.NearLaws.{near-exact}
+use Rattle.rounding_spec.proofs.Representable.{rep-zero}
+use Rattle.rounding_spec.proofs.RoundValue.{round-below}
+use Rattle.rounding_spec.proofs.Rescaled.{whole-near, whole-near0}
+use Rattle.pattern_spec.specs.Exact.{negate, plus, times, finer}
+use Rattle.binary32_spec.specs.Steps.{addValue, subValue, mulValue}
+use Rattle.errorfree_spec.proofs.Signed.{Is, rel-dist, is-negate, is-plus}
 
 -- N units of u * u, rounded to the nearest number of the format, in units of u
 abbrev pub toEven : Format → ℕ → ℕ

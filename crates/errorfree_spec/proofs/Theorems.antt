@@ -10,33 +10,33 @@ use lib.Dec.{eqb}
 use lib.Ieee.{unlike}
 use lib.IntN.{ℤ, pos, negsuc, natAbs}
 use lib.Pow.{pow-pos}
-use Rattle.rounding.specs.declared.Ties.the-variants.{ToEven, ToZero}
-use Rattle.rounding.specs.Format.{Format, low, limit}
-use Rattle.rounding.specs.Round.{rounded}
-use Rattle.rounding.specs.Nearest.{dist, Rep, Near}
-use Rattle.rounding.specs.Value.{Value, nan, infinite, finite, Fits, isFinite, round, roundFinite}
-use Rattle.rounding.proofs.Rounded.{rounded-near}
-use Rattle.rounding.proofs.RoundValue.{round-below, round-above}
-use Rattle.rounding.proofs.Scaled.{rep-up}
-use Rattle.rounding.proofs.Rescaled.{dist-mul, whole-near}
-use Rattle.rounding.proofs.SumError.{sum-error, difference-error}
-use Rattle.rounding.proofs.Predecessor.{upper, below-add, below-rep, below-best}
-use Rattle.rounding.proofs.Predecessor as predecessor
-use Rattle.steps.specs.Exact.{negate, plus, times, finer, int}
-use Rattle.steps.specs.Steps.{addValue, subValue, mulValue, fmaValue}
-use Rattle.steps.proofs.Integers.{plus-exact}
-use Rattle.pairs.specs.Pairs.{rest, addsUp}
-use Rattle.pairs.proofs.Distance.{int-size}
-use Rattle.errorfree.specs.Comparisons.{same, lessMagnitude}
-use Rattle.errorfree.specs.Constants.{psi}
-use Rattle.errorfree.specs.Theorems as specs
-use Rattle.errorfree.proofs.NoNumber.{not-both, none-zero, number-of, both-of, sum-none, finer-none, negate-none, add-none}
-use Rattle.errorfree.proofs.Signed.{Is, rel-dist}
-use Rattle.errorfree.proofs.Steps.{toEven, toZero, even-at, mul-finite, mul-positive}
-use Rattle.errorfree.proofs.ProductSplit.{whole, whole-error, product-split}
-use Rattle.errorfree.proofs.FastTwoSum.{add-finite, fast-two-sum}
-use Rattle.errorfree.proofs.AddsUp.{adds-up, up-adds}
-use Rattle.errorfree.proofs.Recomposed as split
+use Rattle.rounding_spec.specs.declared.Ties.the-variants.{ToEven, ToZero}
+use Rattle.rounding_spec.specs.Format.{Format, low, limit}
+use Rattle.rounding_spec.specs.Round.{rounded}
+use Rattle.rounding_spec.specs.Nearest.{dist, Rep, Near}
+use Rattle.rounding_spec.specs.Value.{Value, nan, infinite, finite, Fits, isFinite, round, roundFinite}
+use Rattle.rounding_spec.proofs.Rounded.{rounded-near}
+use Rattle.rounding_spec.proofs.RoundValue.{round-below, round-above}
+use Rattle.rounding_spec.proofs.Scaled.{rep-up}
+use Rattle.rounding_spec.proofs.Rescaled.{dist-mul, whole-near}
+use Rattle.rounding_spec.proofs.SumError.{sum-error, difference-error}
+use Rattle.rounding_spec.proofs.Predecessor.{upper, below-add, below-rep, below-best}
+use Rattle.rounding_spec.proofs.Predecessor as predecessor
+use Rattle.pattern_spec.specs.Exact.{negate, plus, times, finer, int}
+use Rattle.binary32_spec.specs.Steps.{addValue, subValue, mulValue, fmaValue}
+use Rattle.pattern_spec.proofs.Integers.{plus-exact}
+use Rattle.augmented_spec.specs.Pairs.{rest, addsUp}
+use Rattle.augmented_spec.proofs.Distance.{int-size}
+use Rattle.errorfree_spec.specs.Comparisons.{same, lessMagnitude}
+use Rattle.errorfree_spec.specs.Constants.{psi}
+use Rattle.errorfree_spec.specs.Theorems as specs
+use Rattle.errorfree_spec.proofs.NoNumber.{not-both, none-zero, number-of, both-of, sum-none, finer-none, negate-none, add-none}
+use Rattle.errorfree_spec.proofs.Signed.{Is, rel-dist}
+use Rattle.errorfree_spec.proofs.Steps.{toEven, toZero, even-at, mul-finite, mul-positive}
+use Rattle.errorfree_spec.proofs.ProductSplit.{whole, whole-error, product-split}
+use Rattle.errorfree_spec.proofs.FastTwoSum.{add-finite, fast-two-sum}
+use Rattle.errorfree_spec.proofs.AddsUp.{adds-up, up-adds}
+use Rattle.errorfree_spec.proofs.Recomposed as split
 
 -- ---- comparisons
 pub less-means : specs.LessMeans

@@ -8,29 +8,29 @@ use native.Mathlib.Omega.{arith}
 use lib.Dec.{T}
 use lib.Ieee.{unlike}
 use lib.Pow.{pow-add, pow-pos, pow-mono, pow-lt}
-use Rattle.rounding.specs.declared.Ties.the-variants.{ToEven}
-use Rattle.rounding.specs.Format.{Format, low, limit}
-use Rattle.rounding.specs.Nearest.{dist, Rep, Near}
-use Rattle.rounding.specs.Value.{Value, finite, round, RNe}
-use Rattle.rounding.proofs.ProductError.{near-half}
-use Rattle.rounding.proofs.Representable.{rep-zero, rep-lt}
-use Rattle.rounding.proofs.Rescaled.{dist-mul}
-use Rattle.rounding.proofs.Rounded.{rounded-near, rounded-zero-le}
-use Rattle.rounding.proofs.RoundValue.{round-below}
-use Rattle.rounding.proofs.Scaled.{rounded-rep, rep-shift}
-use Rattle.rounding.proofs.TieDown.{error-le}
-use Rattle.steps.specs.Exact.{negate, plus, finer}
-use Rattle.steps.specs.Steps.{addValue, subValue, mulValue, fmaValue}
-use Rattle.steps.proofs.Sums.{not-like, sum-left}
-use Rattle.pairs.specs.Pairs.{pairOf}
-use Rattle.errorfree.specs.Comparisons.{same}
-use Rattle.errorfree.specs.Constants.{Roomy}
-use Rattle.errorfree.proofs.Factors.{scale, scaleTwice, zero}
-use Rattle.errorfree.proofs.Steps.{toEven, even-at, round-whole, mul-finite, zero-times}
-use Rattle.errorfree.proofs.ProductSplit.{fused-rest, whole, whole-error}
-use Rattle.errorfree.proofs.Powers.{pow-le-of, up-step}
-use Rattle.errorfree.proofs.TinyRounding.{tiny-below, tiny-direct, tie-of, of-tie, tie-above-one, tiny-keep, tiny-down}
-use Rattle.errorfree.proofs.TinyTest.{Scaled, tieUp, test-true, test-make}
+use Rattle.rounding_spec.specs.declared.Ties.the-variants.{ToEven}
+use Rattle.rounding_spec.specs.Format.{Format, low, limit}
+use Rattle.rounding_spec.specs.Nearest.{dist, Rep, Near}
+use Rattle.rounding_spec.specs.Value.{Value, finite, round, RNe}
+use Rattle.rounding_spec.proofs.ProductError.{near-half}
+use Rattle.rounding_spec.proofs.Representable.{rep-zero, rep-lt}
+use Rattle.rounding_spec.proofs.Rescaled.{dist-mul}
+use Rattle.rounding_spec.proofs.Rounded.{rounded-near, rounded-zero-le}
+use Rattle.rounding_spec.proofs.RoundValue.{round-below}
+use Rattle.rounding_spec.proofs.Scaled.{rounded-rep, rep-shift}
+use Rattle.rounding_spec.proofs.TieDown.{error-le}
+use Rattle.pattern_spec.specs.Exact.{negate, plus, finer}
+use Rattle.binary32_spec.specs.Steps.{addValue, subValue, mulValue, fmaValue}
+use Rattle.pattern_spec.proofs.Sums.{not-like, sum-left}
+use Rattle.augmented_spec.specs.Pairs.{pairOf}
+use Rattle.errorfree_spec.specs.Comparisons.{same}
+use Rattle.errorfree_spec.specs.Constants.{Roomy}
+use Rattle.errorfree_spec.proofs.Factors.{scale, scaleTwice, zero}
+use Rattle.errorfree_spec.proofs.Steps.{toEven, even-at, round-whole, mul-finite, zero-times}
+use Rattle.errorfree_spec.proofs.ProductSplit.{fused-rest, whole, whole-error}
+use Rattle.errorfree_spec.proofs.Powers.{pow-le-of, up-step}
+use Rattle.errorfree_spec.proofs.TinyRounding.{tiny-below, tiny-direct, tie-of, of-tie, tie-above-one, tiny-keep, tiny-down}
+use Rattle.errorfree_spec.proofs.TinyTest.{Scaled, tieUp, test-true, test-make}
 
 -- a product that rounds to zero has two zeros for a pair
 pub zero-pair : (F : Format) (s : Bool) (N : ℕ) → toEven F N ≡ 0 → (pairOf F (finite s N) .first ≡ finite s 0) × (pairOf F (finite s N) .second ≡ finite s 0)

@@ -9,22 +9,22 @@ use native.Mathlib.Omega.{arith}
 use lib.Dec.{eqb}
 use lib.Ieee.{unlike}
 use lib.Pow.{pow-pos, pow-mono}
-use Rattle.rounding.specs.declared.Ties.the-variants.{ToEven}
-use Rattle.rounding.specs.Format.{Format, low, limit}
-use Rattle.rounding.specs.Nearest.{dist, Near0}
-use Rattle.rounding.specs.Value.{finite}
-use Rattle.rounding.proofs.Even.{half-to-even}
-use Rattle.rounding.proofs.Multiple.{sub-mul}
-use Rattle.rounding.proofs.NearLaws.{near0-one}
-use Rattle.rounding.proofs.Predecessor.{Upper, upper}
-use Rattle.rounding.proofs.ProductError.{near-half}
-use Rattle.rounding.proofs.Representable.{rep-zero}
-use Rattle.rounding.proofs.Rounded.{rounded-near, rounded-near0, rounded-zero-le}
-use Rattle.rounding.proofs.TieDown.{dbl, keep-above, keep-below, go-down}
-use Rattle.pairs.specs.Pairs.{pairOf}
-use Rattle.pairs.proofs.Second.{head, tail, up, first-finite, pair-second}
-use Rattle.errorfree.proofs.Steps.{toEven, toZero}
-use Rattle.errorfree.proofs.Powers.{pow-ge-of}
+use Rattle.rounding_spec.specs.declared.Ties.the-variants.{ToEven}
+use Rattle.rounding_spec.specs.Format.{Format, low, limit}
+use Rattle.rounding_spec.specs.Nearest.{dist, Near0}
+use Rattle.rounding_spec.specs.Value.{finite}
+use Rattle.rounding_spec.proofs.Even.{half-to-even}
+use Rattle.rounding_spec.proofs.Multiple.{sub-mul}
+use Rattle.rounding_spec.proofs.NearLaws.{near0-one}
+use Rattle.rounding_spec.proofs.Predecessor.{Upper, upper}
+use Rattle.rounding_spec.proofs.ProductError.{near-half}
+use Rattle.rounding_spec.proofs.Representable.{rep-zero}
+use Rattle.rounding_spec.proofs.Rounded.{rounded-near, rounded-near0, rounded-zero-le}
+use Rattle.rounding_spec.proofs.TieDown.{dbl, keep-above, keep-below, go-down}
+use Rattle.augmented_spec.specs.Pairs.{pairOf}
+use Rattle.augmented_spec.proofs.Second.{head, tail, up, first-finite, pair-second}
+use Rattle.errorfree_spec.proofs.Steps.{toEven, toZero}
+use Rattle.errorfree_spec.proofs.Powers.{pow-ge-of}
 
 -- ---- the rest: half of u at most, which ties to zero round to zero
 half-to-zero : (F : Format) (X : ℕ) → 2 * X ≤ 2 ^ low F → toZero F X ≡ 0

@@ -6,21 +6,21 @@ use native.Mathlib.Nat.{le-of-eq}
 use native.Mathlib.Decide.{decLe}
 use native.Mathlib.Omega.{arith}
 use lib.Dec.{T}
-use Rattle.rounding.specs.declared.Ties.the-variants.{ToEven}
-use Rattle.rounding.specs.Format.{Format, low, limit}
-use Rattle.rounding.specs.Nearest.{dist, Rep, Near}
-use Rattle.rounding.specs.Value.{Value, nan, infinite, finite, roundFinite, round, RNe}
-use Rattle.rounding.proofs.Multiple.{Mult}
-use Rattle.rounding.proofs.NearLaws.{near-exact, near-le}
-use Rattle.rounding.proofs.Representable.{rep-zero}
-use Rattle.rounding.proofs.RoundValue.{round-below}
-use Rattle.rounding.proofs.SmallProducts.{difference-rep, difference-none, rounded-rest}
-use Rattle.rounding.proofs.Sterbenz.{dist-le}
-use Rattle.steps.specs.Exact.{plus, finer}
-use Rattle.steps.specs.Steps.{addValue, subValue}
-use Rattle.errorfree.specs.Comparisons.{same}
-use Rattle.errorfree.proofs.Signed.{and-both, and-make, Rel, Is, rel-own, rel-dist, is-plus, is-shift, same-eq, eq-same, dist-shift, rel-other, other-side}
-use Rattle.errorfree.proofs.Steps.{toEven, even-at, is-sub}
+use Rattle.rounding_spec.specs.declared.Ties.the-variants.{ToEven}
+use Rattle.rounding_spec.specs.Format.{Format, low, limit}
+use Rattle.rounding_spec.specs.Nearest.{dist, Rep, Near}
+use Rattle.rounding_spec.specs.Value.{Value, nan, infinite, finite, roundFinite, round, RNe}
+use Rattle.rounding_spec.proofs.Multiple.{Mult}
+use Rattle.rounding_spec.proofs.NearLaws.{near-exact, near-le}
+use Rattle.rounding_spec.proofs.Representable.{rep-zero}
+use Rattle.rounding_spec.proofs.RoundValue.{round-below}
+use Rattle.rounding_spec.proofs.SmallProducts.{difference-rep, difference-none, rounded-rest}
+use Rattle.rounding_spec.proofs.Sterbenz.{dist-le}
+use Rattle.pattern_spec.specs.Exact.{plus, finer}
+use Rattle.binary32_spec.specs.Steps.{addValue, subValue}
+use Rattle.errorfree_spec.specs.Comparisons.{same}
+use Rattle.errorfree_spec.proofs.Signed.{and-both, and-make, Rel, Is, rel-own, rel-dist, is-plus, is-shift, same-eq, eq-same, dist-shift, rel-other, other-side}
+use Rattle.errorfree_spec.proofs.Steps.{toEven, even-at, is-sub}
 
 -- ---- a sum that may be rounded
 rounded-is : (F : Format) (r : Bool) (v : Value) (p n : ℕ) → Is r v p n → toEven F (dist p n * 2 ^ low F) < limit F

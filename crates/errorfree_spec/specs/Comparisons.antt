@@ -1,7 +1,7 @@
 -- Comparisons of values (document 01, "The step sheet"): "a comparison with NaN fails; +0 equals -0". Assumes nothing.
 use mathlib.Core.Bool.{Bool, true, false, Bool·beq, _&&_, _||_}
 use lib.Dec.{ltb, eqb}
-use Rattle.rounding.specs.Value.{Value, nan, infinite, finite}
+use Rattle.rounding_spec.specs.Value.{Value, nan, infinite, finite}
 
 -- x = y
 unfoldable pub same : Value → Value → Bool

@@ -4,16 +4,16 @@ use mathlib.Core.Path.{_≡_}
 use mathlib.Core.Bool.{Bool, true, false, Bool·beq, cond}
 use Prim.Native.Nat.{ℕ, suc, _+_, _*_, _^_, _≤_, _<_}
 use lib.Dec.{ltb}
-use Rattle.rounding.specs.declared.Ties.{Ties}
-use Rattle.rounding.specs.Format.{Format, binary32, low}
-use Rattle.rounding.specs.Round.{leftOver}
-use Rattle.rounding.specs.Nearest.{dist, Rep}
-use Rattle.rounding.specs.Value.{Value, nan, infinite, finite, Fits, isFinite, RNe, RN0}
-use Rattle.steps.specs.Exact.{negate, plus, times, finer, int}
-use Rattle.steps.specs.Steps.{addValue, subValue, mulValue, fmaValue}
-use Rattle.pairs.specs.Pairs.{addsUp}
-use Rattle.errorfree.specs.Comparisons.{same, lessMagnitude}
-use Rattle.errorfree.specs.Constants.{Roomy, psi, two}
+use Rattle.rounding_spec.specs.declared.Ties.{Ties}
+use Rattle.rounding_spec.specs.Format.{Format, binary32, low}
+use Rattle.rounding_spec.specs.Round.{leftOver}
+use Rattle.rounding_spec.specs.Nearest.{dist, Rep}
+use Rattle.rounding_spec.specs.Value.{Value, nan, infinite, finite, Fits, isFinite, RNe, RN0}
+use Rattle.pattern_spec.specs.Exact.{negate, plus, times, finer, int}
+use Rattle.binary32_spec.specs.Steps.{addValue, subValue, mulValue, fmaValue}
+use Rattle.augmented_spec.specs.Pairs.{addsUp}
+use Rattle.errorfree_spec.specs.Comparisons.{same, lessMagnitude}
+use Rattle.errorfree_spec.specs.Constants.{Roomy, psi, two}
 
 -- ---- what comparisons mean
 -- finite values are the same where their numbers are, whatever the sign of zero; NaN is the same as nothing, and an infinity as itself

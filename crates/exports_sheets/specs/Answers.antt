@@ -1,8 +1,8 @@
 -- The answers of calls on sheets and lists as numbers, for other languages: document 01 leaves free how they are handed over. Assumes nothing.
 use Prim.Native.Nat.{ℕ}
-use Rattle.pairs.specs.Direct.{none}
-use Rattle.emulation.specs.Filling as Filling
-use Rattle.conservation.specs.Replay as Replay
+use Rattle.augmented_spec.specs.Direct.{none}
+use Rattle.worksheet_spec.specs.Filling as Filling
+use Rattle.conservation_spec.specs.Replay as Replay
 use Rattle.exports_sheets.specs.declared.Sheet.{Sheet}
 
 -- the line count and the pair of a filled sheet; zeros and no flag where there is none

@@ -1,12 +1,12 @@
 // Step sheets, and lists of questions over two totals, for programs in C and Rust. Lent words are a pointer and a count.
 use conservation::Replayed;
-use pairs::Flags;
-use pairs::Pair;
+use augmented_spec::Flags;
+use augmented_spec::Pair;
 use worksheet::Filled;
 ghost use mathlib.Core.Path.{_≡_};
-ghost use Rattle.emulation.specs.Filling.{filling, afterFilling};
+ghost use Rattle.worksheet_spec.specs.Filling.{filling, afterFilling};
 ghost use Rattle.conservation.specs.Answers.{answerReplayed};
-ghost use Rattle.conservation.specs.Replay.{replaying, totalsAfter, wordsLeft};
+ghost use Rattle.conservation_spec.specs.Replay.{replaying, totalsAfter, wordsLeft};
 ghost use Rattle.exports_sheets.specs.Answers.{noSheet, sheetReply, replayNumber};
 
 // Document 01's number of the refusal, and zeros; or 0, the line count, and the pair at the foot with its flags.

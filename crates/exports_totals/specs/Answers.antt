@@ -1,6 +1,6 @@
 -- The answers of calls on totals as numbers, for other languages: document 01 leaves free how they are handed over. Assumes nothing.
 use Prim.Native.Nat.{ℕ}
-use Rattle.totals.specs.Totals.{Answer, refused, done, pair}
+use Rattle.accumulator_spec.specs.Totals.{Answer, refused, done, pair}
 use Rattle.exports_totals.specs.declared.Reply.{Reply}
 
 -- document 01's number of a refusal, and 0 for a call that is carried out

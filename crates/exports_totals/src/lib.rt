@@ -3,7 +3,7 @@ use accumulator::Added;
 use accumulator::Cleared;
 use accumulator::Reading;
 ghost use mathlib.Core.Path.{_≡_};
-ghost use Rattle.totals.specs.Totals.{ofPattern, ofProduct, adding, afterAdding, clearing, afterClearing, reading};
+ghost use Rattle.accumulator_spec.specs.Totals.{ofPattern, ofProduct, adding, afterAdding, clearing, afterClearing, reading};
 ghost use Rattle.accumulator.specs.Answers.{answerAdded};
 ghost use Rattle.exports_totals.specs.Answers.{refusalNumber, replyOf};
 

@@ -1,11 +1,11 @@
 // Patterns as operands: their class, their order by magnitude, and flipped signs.
-use pick::pick_pattern;
-use steps::Class;
+use choose::choose_pattern;
+use pattern_spec::Class;
 ghost use mathlib.Core.Path.{_≡_};
-ghost use Rattle.rounding.specs.Format.{binary32};
-ghost use Rattle.rounding.specs.Value.{infinite, encode};
-ghost use Rattle.steps.specs.Classes.{classOf, flip};
-ghost use Rattle.steps.specs.Unrounded.{larger, smaller};
+ghost use Rattle.rounding_spec.specs.Format.{binary32};
+ghost use Rattle.rounding_spec.specs.Value.{infinite, encode};
+ghost use Rattle.pattern_spec.specs.Classes.{classOf, flip};
+ghost use Rattle.pattern_spec.specs.Unrounded.{larger, smaller};
 
 pub fn infinity(sign: bool) -> u32
     ensures { λ r. ⌜ r ≡ encode binary32 (infinite sign) ⌝ }
@@ -56,11 +56,11 @@ pub fn flipped(x: u32) -> u32
 pub fn larger(x: u32, y: u32) -> u32
     ensures { λ r. ⌜ r ≡ larger x y ⌝ }
 {
-    pick_pattern(x % 0x8000_0000 < y % 0x8000_0000, y, x)
+    choose_pattern(x % 0x8000_0000 < y % 0x8000_0000, y, x)
 }
 
 pub fn smaller(x: u32, y: u32) -> u32
     ensures { λ r. ⌜ r ≡ smaller x y ⌝ }
 {
-    pick_pattern(x % 0x8000_0000 < y % 0x8000_0000, x, y)
+    choose_pattern(x % 0x8000_0000 < y % 0x8000_0000, x, y)
 }

@@ -9,15 +9,15 @@ use native.Mathlib.Omega.{arith}
 use borrow.Author.Tests.{lt-leb, le-leb, lt-ltb, le-ltb, ne-eqb}
 use lib.Dec.{leb, ltb, eqb}
 use lib.Pow.{mod-mod-pow}
-use Rattle.rounding.specs.Format.{Format, binary32, infinity, signBit}
-use Rattle.rounding.specs.Value.{finite, fields, magnitude, unsigned, decode}
-use Rattle.rounding.proofs.Compare.{tri}
-use Rattle.rounding.proofs.Codec.{unsigned-finite, unsigned-infinite, unsigned-nan}
-use Rattle.steps.specs.declared.Class.{Class}
-use Rattle.steps.specs.declared.Class.the-variants.{Finite, Infinite, NotANumber}
-use Rattle.steps.specs.Exact.{negate}
-use Rattle.steps.specs.Classes.{byField, classOf, valueOf, flip, Operand, Below, Descending}
-use Rattle.steps.specs.Unrounded.{Bounded}
+use Rattle.rounding_spec.specs.Format.{Format, binary32, infinity, signBit}
+use Rattle.rounding_spec.specs.Value.{finite, fields, magnitude, unsigned, decode}
+use Rattle.rounding_spec.proofs.Compare.{tri}
+use Rattle.rounding_spec.proofs.Codec.{unsigned-finite, unsigned-infinite, unsigned-nan}
+use Rattle.pattern_spec.specs.declared.Class.{Class}
+use Rattle.pattern_spec.specs.declared.Class.the-variants.{Finite, Infinite, NotANumber}
+use Rattle.pattern_spec.specs.Exact.{negate}
+use Rattle.pattern_spec.specs.Classes.{byField, classOf, valueOf, flip, Operand, Below, Descending}
+use Rattle.pattern_spec.specs.Unrounded.{Bounded}
 
 -- ---- the four cases
 module _ (s : Bool) (m : ℕ) where
@@ -146,9 +146,9 @@ class-descending : (x y : ℕ) → y % 2 ^ 31 ≤ x % 2 ^ 31 → Descending (cla
 unfolding classOf
 class-descending x y h = descend (leb (2 ^ 31) x) (x % 2 ^ 31 / 2 ^ 23) (x % 2 ^ 23) (leb (2 ^ 31) y) (y % 2 ^ 31 / 2 ^ 23) (y % 2 ^ 23) (omega arith)
 
--- the patterns as they are picked, the larger magnitude first
-pub picked-descending : (x y : ℕ) → Descending (classOf (cond (ltb (x % 2 ^ 31) (y % 2 ^ 31)) y x)) (classOf (cond (ltb (x % 2 ^ 31) (y % 2 ^ 31)) x y))
-picked-descending x y =
+-- the patterns as they are chosen, the larger magnitude first
+pub chosen-descending : (x y : ℕ) → Descending (classOf (cond (ltb (x % 2 ^ 31) (y % 2 ^ 31)) y x)) (classOf (cond (ltb (x % 2 ^ 31) (y % 2 ^ 31)) x y))
+chosen-descending x y =
     elim (decLe (y % 2 ^ 31) (x % 2 ^ 31)) [
       | yes h ↦ rw (le-ltb (x % 2 ^ 31) (y % 2 ^ 31) h) (class-descending x y h)
       | no h ↦ let l : x % 2 ^ 31 < y % 2 ^ 31 = omega arith in rw (lt-ltb (x % 2 ^ 31) (y % 2 ^ 31) l) (class-descending y x (le-of-lt l))

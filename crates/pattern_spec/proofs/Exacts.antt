@@ -7,18 +7,18 @@ use native.Mathlib.Nat.{le-trans, le-of-eq, le-of-lt, mul-lt-mul-of-pos-right}
 use native.Mathlib.Omega.{arith}
 use lib.Dec.{ltb}
 use lib.Pow.{pow-pos}
-use Rattle.rounding.specs.declared.Ties.{Ties}
-use Rattle.rounding.specs.Format.{binary32}
-use Rattle.rounding.specs.Round.{leftOver}
-use Rattle.rounding.specs.Nearest.{Rep}
-use Rattle.rounding.specs.Value.{Value, finite, decode}
-use Rattle.rounding.proofs.Compare.{tri}
-use Rattle.rounding.proofs.Multiple.{joined}
-use Rattle.rounding.proofs.LeftOver.{left-sum, left-difference}
-use Rattle.steps.specs.Exact.{plusFinite, plus, finer}
-use Rattle.steps.specs.Unrounded.{larger, smaller}
-use Rattle.steps.proofs.Sums.{like?, sum-same, sum-left, sum-right, sum-none, sum-scale, finer-sum}
-use Rattle.steps.proofs.Special.{plus-comm}
+use Rattle.rounding_spec.specs.declared.Ties.{Ties}
+use Rattle.rounding_spec.specs.Format.{binary32}
+use Rattle.rounding_spec.specs.Round.{leftOver}
+use Rattle.rounding_spec.specs.Nearest.{Rep}
+use Rattle.rounding_spec.specs.Value.{Value, finite, decode}
+use Rattle.rounding_spec.proofs.Compare.{tri}
+use Rattle.rounding_spec.proofs.Multiple.{joined}
+use Rattle.rounding_spec.proofs.LeftOver.{left-sum, left-difference}
+use Rattle.pattern_spec.specs.Exact.{plusFinite, plus, finer}
+use Rattle.pattern_spec.specs.Unrounded.{larger, smaller}
+use Rattle.pattern_spec.proofs.Sums.{like?, sum-same, sum-left, sum-right, sum-none, sum-scale, finer-sum}
+use Rattle.pattern_spec.proofs.Exchanged.{plus-comm}
 
 -- the sum of the operands in either order
 pub ordered-sum : (x y : ℕ) → plus (decode binary32 x) (decode binary32 y) ≡ plus (decode binary32 (larger x y)) (decode binary32 (smaller x y))

@@ -6,18 +6,18 @@ use Prim.Native.Nat.{ℕ, suc, _+_, _-_, _*_, _^_, _≤_, _<_}
 use native.Mathlib.Nat.{le-trans, le-of-eq, lt-of-lt-of-le, add-mul, mul-le-mul-right, mul-lt-mul-of-pos-right, eq-of-mul-eq-mul-right}
 use native.Mathlib.Omega.{arith}
 use lib.Pow.{pow-add, pow-pos, pow-mono}
-use Rattle.rounding.specs.declared.Ties.{Ties}
-use Rattle.rounding.specs.Format.{binary32, limit}
-use Rattle.rounding.specs.Round.{rounded}
-use Rattle.rounding.specs.Nearest.{dist}
-use Rattle.rounding.specs.Value.{Value, finite, roundFinite, round}
-use Rattle.rounding.proofs.Multiple.{joined, sub-mul}
-use Rattle.rounding.proofs.Rounded.{rounded-near}
-use Rattle.rounding.proofs.RoundValue.{round-below}
-use Rattle.rounding.proofs.Spacing.{near-spaced}
-use Rattle.steps.specs.Exact.{plus, finer}
-use Rattle.steps.specs.Classes.{Operand}
-use Rattle.steps.proofs.Sums.{like?, sum-same, sum-left}
+use Rattle.rounding_spec.specs.declared.Ties.{Ties}
+use Rattle.rounding_spec.specs.Format.{binary32, limit}
+use Rattle.rounding_spec.specs.Round.{rounded}
+use Rattle.rounding_spec.specs.Nearest.{dist}
+use Rattle.rounding_spec.specs.Value.{Value, finite, roundFinite, round}
+use Rattle.rounding_spec.proofs.Multiple.{joined, sub-mul}
+use Rattle.rounding_spec.proofs.Rounded.{rounded-near}
+use Rattle.rounding_spec.proofs.RoundValue.{round-below}
+use Rattle.rounding_spec.proofs.Spacing.{near-spaced}
+use Rattle.pattern_spec.specs.Exact.{plus, finer}
+use Rattle.pattern_spec.specs.Classes.{Operand}
+use Rattle.pattern_spec.proofs.Sums.{like?, sum-same, sum-left}
 
 -- n * 2 ^ d is below a quarter of 2 ^ e
 quarter : (n d e L : ℕ) → n < 2 ^ 24 → d + 26 ≤ e → 2 ≤ L → n * 2 ^ d * 2 ^ L < 2 ^ (e + (L - 2))

@@ -8,10 +8,10 @@ use native.Mathlib.Omega.{arith}
 use borrow.Author.Tests.{lt-ltb, le-ltb}
 use lib.Ieee.{unlike}
 use lib.IntN.{pos, negℤ, _+ℤ_, _*ℤ_, negℤ-negℤ, negℤ-+ℤ, +ℤ-comm, *ℤ-comm, *ℤ-negsuc, negsuc-*ℤ-pos}
-use Rattle.rounding.specs.Value.{finite}
-use Rattle.rounding.proofs.Compare.{tri}
-use Rattle.steps.specs.Exact.{plusFinite, int}
-use Rattle.steps.proofs.Sums.{sum-same, sum-left, sum-right, sum-none}
+use Rattle.rounding_spec.specs.Value.{finite}
+use Rattle.rounding_spec.proofs.Compare.{tri}
+use Rattle.pattern_spec.specs.Exact.{plusFinite, int}
+use Rattle.pattern_spec.proofs.Sums.{sum-same, sum-left, sum-right, sum-none}
 
 -- ---- the difference of two naturals
 sub-le : (a b : ℕ) → b ≤ a → pos a +ℤ negℤ (pos b) ≡ pos (a - b)

@@ -9,11 +9,11 @@ use native.Mathlib.Omega.{arith}
 use lib.Dec.{ltb}
 use lib.Pow.{pow-pos}
 use borrow.Author.Tests.{lt-ltb, le-ltb}
-use Rattle.rounding.specs.Format.{Format, low}
-use Rattle.rounding.specs.Value.{finite}
-use Rattle.rounding.proofs.Compare.{tri}
-use Rattle.rounding.proofs.Multiple.{sub-mul}
-use Rattle.steps.specs.Exact.{plusFinite, finer}
+use Rattle.rounding_spec.specs.Format.{Format, low}
+use Rattle.rounding_spec.specs.Value.{finite}
+use Rattle.rounding_spec.proofs.Compare.{tri}
+use Rattle.rounding_spec.proofs.Multiple.{sub-mul}
+use Rattle.pattern_spec.specs.Exact.{plusFinite, finer}
 
 module _ (s : Bool) (a : ℕ) (t : Bool) (b : ℕ) where
   pub sum-same : Bool·beq s t ≡ true → plusFinite s a t b ≡ finite s (a + b)
@@ -88,8 +88,8 @@ module _ (a b : ℕ) where
   abbrev pub lesser : ℕ
   lesser = cond (ltb b a) b a
 
-  pub picked-order : (lesser ≤ greater) × ((greater ≤ a + b) × (greater + lesser ≡ a + b))
-  picked-order =
+  pub chosen-order : (lesser ≤ greater) × ((greater ≤ a + b) × (greater + lesser ≡ a + b))
+  chosen-order =
       elim (decLe a b) [
         | yes h ↦ rw (le-ltb b a h) (omega arith)
         | no h ↦ let l : b < a = omega arith in rw (lt-ltb b a l) (omega arith)
@@ -104,9 +104,9 @@ common-other true true e = e
 common-other true false e = refl
 common-other false t e = refl
 
-pub sum-picked : (s : Bool) (a : ℕ) (t : Bool) (b : ℕ)
+pub sum-chosen : (s : Bool) (a : ℕ) (t : Bool) (b : ℕ)
     → plusFinite s a t b ≡ finite (cond (ltb b a) s (cond (ltb a b) t (cond s t false))) (cond (Bool·beq s t) (greater a b + lesser a b) (greater a b - lesser a b))
-sum-picked s a t b =
+sum-chosen s a t b =
     elim (tri a b) [
       | inl h ↦ rw (le-ltb b a (le-of-lt h), lt-ltb a b h)
           (elim (like? s t) [

@@ -2,10 +2,10 @@
 use Prim.Native.Nat.{ℕ, zero, suc, _+_, _-_, _*_, _/_, _%_, _^_, _≤_, _<_}
 use mathlib.Core.Bool.{Bool, cond}
 use lib.Dec.{leb, eqb}
-use Rattle.rounding.specs.Format.{Format, signBit}
-use Rattle.rounding.specs.Value.{Value, nan, infinite, finite}
-use Rattle.steps.specs.declared.Class.{Class}
-use Rattle.steps.specs.declared.Class.the-variants.{Finite, Infinite, NotANumber}
+use Rattle.rounding_spec.specs.Format.{Format, signBit}
+use Rattle.rounding_spec.specs.Value.{Value, nan, infinite, finite}
+use Rattle.pattern_spec.specs.declared.Class.{Class}
+use Rattle.pattern_spec.specs.declared.Class.the-variants.{Finite, Infinite, NotANumber}
 
 -- by exponent field and fraction: "Exponent field 0 is zero or subnormal, 1 to 254 normal, 255 infinite or NaN."
 abbrev pub byField : Bool → ℕ → ℕ → Class

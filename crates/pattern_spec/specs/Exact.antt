@@ -5,8 +5,8 @@ use mathlib.Core.Bool.{Bool, true, false, not, Bool·beq, cond}
 use lib.Dec.{ltb, eqb}
 use lib.Ieee.{unlike}
 use lib.IntN.{ℤ, pos, negℤ}
-use Rattle.rounding.specs.Format.{Format, low}
-use Rattle.rounding.specs.Value.{Value, nan, infinite, finite}
+use Rattle.rounding_spec.specs.Format.{Format, low}
+use Rattle.rounding_spec.specs.Value.{Value, nan, infinite, finite}
 
 unfoldable pub negate : Value → Value
 negate nan = nan

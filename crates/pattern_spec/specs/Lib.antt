@@ -1,3 +1,5 @@
 pub mod Classes
 pub mod Exact
 pub mod Unrounded
+pub mod Inner
+pub mod Theorems

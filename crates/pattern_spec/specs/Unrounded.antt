@@ -3,10 +3,10 @@ use Prim.Native.Nat.{ℕ, _%_, _^_, _≤_, _<_}
 use mathlib.Core.Path.{_≡_}
 use mathlib.Core.Bool.{cond}
 use lib.Dec.{ltb}
-use Rattle.rounding.specs.Value.{Value}
-use Rattle.steps.specs.declared.Class.{Class}
-use Rattle.steps.specs.declared.Class.the-variants.{Finite, Infinite, NotANumber}
-use Rattle.steps.specs.Classes.{valueOf}
+use Rattle.rounding_spec.specs.Value.{Value}
+use Rattle.pattern_spec.specs.declared.Class.{Class}
+use Rattle.pattern_spec.specs.declared.Class.the-variants.{Finite, Infinite, NotANumber}
+use Rattle.pattern_spec.specs.Classes.{valueOf}
 
 -- by magnitude; where both are equal the first is the larger and the second the smaller
 abbrev pub larger : ℕ → ℕ → ℕ

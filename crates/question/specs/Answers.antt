@@ -1,7 +1,7 @@
 -- Document 01's number and values for each case of the enum that comes back. Assumes nothing.
 use Rattle.question.specs.declared.Question.{Question}
 use Rattle.question.specs.declared.Question.the-variants.{Asked, Length, Letters, Tab, Digit}
-use Rattle.question.specs.Questions.{Answer, asked, refused}
+use Rattle.question_spec.specs.Questions.{Answer, asked, refused}
 
 -- "1 length other than 21; 2 letters unknown; 3 byte 3 or 12 (from 0) no tab; 4 a pattern byte outside 0-9, A-F."
 abbrev pub answerOf : Question → Answer

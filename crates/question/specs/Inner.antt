@@ -4,7 +4,7 @@ use mathlib.Core.Bool.{cond, not, _&&_}
 use mathlib.Core.List.{List}
 use Rattle.question.specs.declared.digits.Pattern.{Pattern}
 use Rattle.question.specs.declared.digits.Pattern.the-variants.{Value, NoDigit}
-use Rattle.question.specs.Questions.{isDigit, digitValue, allDigits, patternFrom, firstPattern, secondPattern, Answer, asked, refused}
+use Rattle.question_spec.specs.Questions.{isDigit, digitValue, allDigits, patternFrom, firstPattern, secondPattern, Answer, asked, refused}
 
 -- a digit's value, 16 where the byte is none
 abbrev pub digitOr16 : ℕ → ℕ

@@ -2,7 +2,7 @@
 ghost use mathlib.Core.Path.{_≡_};
 ghost use Prim.Native.Nat.{_≤_};
 ghost use lib.ListN.{length};
-ghost use Rattle.question.specs.Questions.{starts, operationOf};
+ghost use Rattle.question_spec.specs.Questions.{starts, operationOf};
 
 fn starts_with(line: &[u8], three: &[u8; 3]) -> bool
     requires { ⌜ 3 ≤ length (now line) ⌝ }

@@ -1,14 +1,14 @@
 // Rounding of an exact magnitude to binary32: the one place where any operation rounds.
-use pick::pick;
-use rounding::Ties;
+use choose::choose;
+use rounding_spec::Ties;
 ghost use mathlib.Core.Path.{_≡_};
 ghost use Prim.Native.Nat.{suc, _+_, _-_, _*_, _/_, _^_, _≤_, _<_, min, max};
 ghost use lib.Dec.{ltb};
-ghost use Rattle.rounding.specs.Format.{binary32, infinity};
-ghost use Rattle.rounding.specs.Round.{keep, leftOver, roundedUp};
-ghost use Rattle.rounding.specs.Nearest.{dist};
-ghost use Rattle.rounding.specs.Inner.{tieBit};
-ghost use Rattle.rounding.specs.Value.{signed, encode, roundFinite};
+ghost use Rattle.rounding_spec.specs.Format.{binary32, infinity};
+ghost use Rattle.rounding_spec.specs.Round.{keep, leftOver, roundedUp};
+ghost use Rattle.rounding_spec.specs.Nearest.{dist};
+ghost use Rattle.rounding_spec.specs.Inner.{tieBit};
+ghost use Rattle.rounding_spec.specs.Value.{signed, encode, roundFinite};
 
 const INFINITY: u64 = 0x7f80_0000;
 
@@ -112,7 +112,7 @@ fn left_over(n: u64, shift: u64, q: u64) -> Left
     let rest = n - (down << shift);
     let up = down < q;
     Left {
-        rest: pick(up, (1 << shift) - rest, rest),
+        rest: choose(up, (1 << shift) - rest, rest),
         up,
     }
 }

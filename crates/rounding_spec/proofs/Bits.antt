@@ -9,14 +9,14 @@ use native.Mathlib.Omega.{arith}
 use lib.Arith.{digits-div, digits-mod}
 use lib.Ieee.{size}
 use lib.Pow.{pow-add, pow-pos, shr-mono}
-use Rattle.rounding.specs.declared.Ties.{Ties}
-use Rattle.rounding.specs.Round.{keep, lastPlace, rounded}
-use Rattle.rounding.specs.Value.{magnitude, bits}
-use Rattle.rounding.specs.Nearest.{Rep}
-use Rattle.rounding.proofs.Compare.{tri}
-use Rattle.rounding.proofs.LastPlace.{place-is, place-above, place-below, place-mono}
-use Rattle.rounding.proofs.Representable.{rep-unit}
-use Rattle.rounding.proofs.Rounded.{keep-le, keep-ge}
+use Rattle.rounding_spec.specs.declared.Ties.{Ties}
+use Rattle.rounding_spec.specs.Round.{keep, lastPlace, rounded}
+use Rattle.rounding_spec.specs.Value.{magnitude, bits}
+use Rattle.rounding_spec.specs.Nearest.{Rep}
+use Rattle.rounding_spec.proofs.Compare.{tri}
+use Rattle.rounding_spec.proofs.LastPlace.{place-is, place-above, place-below, place-mono}
+use Rattle.rounding_spec.proofs.Representable.{rep-unit}
+use Rattle.rounding_spec.proofs.Rounded.{keep-le, keep-ge}
 
 -- ---- from bits to the magnitude
 mag-sub : (f q : ℕ) → q < 2 ^ f → magnitude f q ≡ q

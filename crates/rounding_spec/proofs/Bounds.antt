@@ -4,13 +4,13 @@ use Prim.Native.Nat.{ℕ, suc, _+_, _*_, _^_, _≤_}
 use native.Mathlib.Nat.{le-of-mul-le-mul-right}
 use native.Mathlib.Omega.{arith}
 use lib.Pow.{pow-pos}
-use Rattle.rounding.specs.declared.Ties.{Ties}
-use Rattle.rounding.specs.Round.{rounded}
-use Rattle.rounding.specs.Nearest.{Rep}
-use Rattle.rounding.proofs.Multiple.{joined}
-use Rattle.rounding.proofs.Representable.{rep-le}
-use Rattle.rounding.proofs.NearLaws.{near-ge, near-le}
-use Rattle.rounding.proofs.Rounded.{rounded-near}
+use Rattle.rounding_spec.specs.declared.Ties.{Ties}
+use Rattle.rounding_spec.specs.Round.{rounded}
+use Rattle.rounding_spec.specs.Nearest.{Rep}
+use Rattle.rounding_spec.proofs.Multiple.{joined}
+use Rattle.rounding_spec.proofs.Representable.{rep-le}
+use Rattle.rounding_spec.proofs.NearLaws.{near-ge, near-le}
+use Rattle.rounding_spec.proofs.Rounded.{rounded-near}
 
 -- m * 2 ^ k units of u, in the unit of N
 module _ (t : Ties) (f L N m k : ℕ) (b : m ≤ 2 ^ suc f) where

@@ -6,13 +6,13 @@ use native.Mathlib.Nat.{le-refl, le-trans, le-of-eq, le-of-mul-le-mul-right, mul
 use native.Mathlib.Decide.{decLe}
 use native.Mathlib.Omega.{arith}
 use lib.Pow.{pow-pos}
-use Rattle.rounding.specs.Nearest.{dist, Rep, Near, Near0}
-use Rattle.rounding.proofs.Multiple.{sub-mul}
-use Rattle.rounding.proofs.Representable.{rep-lt}
-use Rattle.rounding.proofs.NearLaws.{near-le}
-use Rattle.rounding.proofs.Scaled.{rep-up}
-use Rattle.rounding.proofs.Predecessor.{Upper, upper, psi, below-add}
-use Rattle.rounding.proofs.TieDown.{keep-above, keep-below, go-down, small-exact}
+use Rattle.rounding_spec.specs.Nearest.{dist, Rep, Near, Near0}
+use Rattle.rounding_spec.proofs.Multiple.{sub-mul}
+use Rattle.rounding_spec.proofs.Representable.{rep-lt}
+use Rattle.rounding_spec.proofs.NearLaws.{near-le}
+use Rattle.rounding_spec.proofs.Scaled.{rep-up}
+use Rattle.rounding_spec.proofs.Predecessor.{Upper, upper, psi, below-add}
+use Rattle.rounding_spec.proofs.TieDown.{keep-above, keep-below, go-down, small-exact}
 
 -- A is nearest to n, and Z to A times 1 - 2 ^ -(p + 1), which is counted in units that much finer
 module _ {p n A : ℕ} (Z : ℕ) (h : Near (suc p) 0 n A) (z : Near (suc p) (suc p) ((2 ^ suc p - 1) * A) (Z * 2 ^ suc p)) where

@@ -11,12 +11,12 @@ use borrow.Author.Tests.{lt-ltb, le-ltb, le-leb, lt-leb, eq-eqb, ne-eqb}
 use lib.Dec.{leb}
 use lib.Arith.{digits-mod}
 use lib.Pow.{pow-add, pow-pos, pow-lt}
-use Rattle.rounding.specs.Format.{Format, low, limit, infinity, signBit}
-use Rattle.rounding.specs.Nearest.{Rep}
-use Rattle.rounding.specs.Value.{Value, nan, infinite, finite, Fits, magnitude, unsigned, decode, nanOf, bits, signed, encode}
-use Rattle.rounding.proofs.Compare.{tri}
-use Rattle.rounding.proofs.Scaled.{rep-up}
-use Rattle.rounding.proofs.Bits.{mag-at, bits-at, bits-mono, bits-magnitude, magnitude-bits, magnitude-rep, magnitude-mono}
+use Rattle.rounding_spec.specs.Format.{Format, low, limit, infinity, signBit}
+use Rattle.rounding_spec.specs.Nearest.{Rep}
+use Rattle.rounding_spec.specs.Value.{Value, nan, infinite, finite, Fits, magnitude, unsigned, decode, nanOf, bits, signed, encode}
+use Rattle.rounding_spec.proofs.Compare.{tri}
+use Rattle.rounding_spec.proofs.Scaled.{rep-up}
+use Rattle.rounding_spec.proofs.Bits.{mag-at, bits-at, bits-mono, bits-magnitude, magnitude-bits, magnitude-rep, magnitude-mono}
 
 -- ---- the infinity's bits are those of the limit
 module _ (F : Format) (pos : 0 < F .fraction) where

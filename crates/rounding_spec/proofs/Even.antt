@@ -6,17 +6,17 @@ use native.Mathlib.Nat.{le-refl, le-trans, lt-of-lt-of-le, mod-eq-of-lt, div-eq-
 use native.Mathlib.Decide.{decLe}
 use native.Mathlib.Omega.{arith}
 use lib.Pow.{pow-add, pow-pos, pow-mono}
-use Rattle.rounding.specs.declared.Ties.the-variants.{ToEven}
-use Rattle.rounding.specs.Round.{tied, keep, lastPlace, rounded}
-use Rattle.rounding.specs.Value.{bits}
-use Rattle.rounding.specs.Nearest.{dist, Rep}
-use Rattle.rounding.proofs.Compare.{tri}
-use Rattle.rounding.proofs.LastPlace.{place-is, place-ge, place-below}
-use Rattle.rounding.proofs.Keep.{keep-lt, keep-eq, keep-gt}
-use Rattle.rounding.proofs.Multiple.{split-unit}
-use Rattle.rounding.proofs.Representable.{floor-best, ceil-best}
-use Rattle.rounding.proofs.Rounded.{quot-lt, quot-ge, rounded-keep}
-use Rattle.rounding.proofs.Bits.{bits-at, bits-rounded}
+use Rattle.rounding_spec.specs.declared.Ties.the-variants.{ToEven}
+use Rattle.rounding_spec.specs.Round.{tied, keep, lastPlace, rounded}
+use Rattle.rounding_spec.specs.Value.{bits}
+use Rattle.rounding_spec.specs.Nearest.{dist, Rep}
+use Rattle.rounding_spec.proofs.Compare.{tri}
+use Rattle.rounding_spec.proofs.LastPlace.{place-is, place-ge, place-below}
+use Rattle.rounding_spec.proofs.Keep.{keep-lt, keep-eq, keep-gt}
+use Rattle.rounding_spec.proofs.Multiple.{split-unit}
+use Rattle.rounding_spec.proofs.Representable.{floor-best, ceil-best}
+use Rattle.rounding_spec.proofs.Rounded.{quot-lt, quot-ge, rounded-keep}
+use Rattle.rounding_spec.proofs.Bits.{bits-at, bits-rounded}
 
 -- ---- a second number at the same distance makes a tie
 module _ (f L N m : ℕ) (r : Rep (suc f) L m) (ne : m ≡ rounded ToEven f L N * 2 ^ L → ⊥) (e : dist m N ≡ dist (rounded ToEven f L N * 2 ^ L) N) where

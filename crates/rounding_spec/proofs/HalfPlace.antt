@@ -5,13 +5,13 @@ use native.Mathlib.Nat.{le-trans, le-of-eq, one-mul, mul-le-mul-right, le-of-mul
 use native.Mathlib.Decide.{decLe}
 use native.Mathlib.Omega.{arith}
 use lib.Pow.{pow-add, pow-pos, pow-mono}
-use Rattle.rounding.specs.declared.Ties.{Ties}
-use Rattle.rounding.specs.declared.Ties.the-variants.{ToZero}
-use Rattle.rounding.specs.Round.{lastPlace, rounded, leftOver}
-use Rattle.rounding.proofs.LastPlace.{place-gt}
-use Rattle.rounding.proofs.NearLaws.{near-le}
-use Rattle.rounding.proofs.Representable.{rep-zero, rep-le}
-use Rattle.rounding.proofs.Rounded.{keep-ge, rounded-near, rounded-near0, rounded-half}
+use Rattle.rounding_spec.specs.declared.Ties.{Ties}
+use Rattle.rounding_spec.specs.declared.Ties.the-variants.{ToZero}
+use Rattle.rounding_spec.specs.Round.{lastPlace, rounded, leftOver}
+use Rattle.rounding_spec.proofs.LastPlace.{place-gt}
+use Rattle.rounding_spec.proofs.NearLaws.{near-le}
+use Rattle.rounding_spec.proofs.Representable.{rep-zero, rep-le}
+use Rattle.rounding_spec.proofs.Rounded.{keep-ge, rounded-near, rounded-near0, rounded-half}
 
 -- rounding does not lower the last place
 place-rounded : (t : Ties) (f L N : ℕ) → lastPlace f L N ≤ lastPlace f 0 (rounded t f L N) + L

@@ -7,15 +7,15 @@ use native.Mathlib.Decide.{decLe}
 use native.Mathlib.Omega.{arith}
 use lib.Arith.{digits-div, digits-mod}
 use lib.Pow.{pow-add, pow-pos, pow-lt}
-use Rattle.rounding.specs.declared.Ties.{Ties}
-use Rattle.rounding.specs.declared.Ties.the-variants.{ToEven, ToZero}
-use Rattle.rounding.specs.Round.{tied, keep, lastPlace, rounded}
-use Rattle.rounding.specs.Nearest.{Rep, Near}
-use Rattle.rounding.proofs.LastPlace.{place-is}
-use Rattle.rounding.proofs.Keep.{keep-eq}
-use Rattle.rounding.proofs.Representable.{rep-pow, rep-le, rep-unit}
-use Rattle.rounding.proofs.NearLaws.{near-le, near-ge}
-use Rattle.rounding.proofs.Rounded.{rounded-keep, rounded-mono}
+use Rattle.rounding_spec.specs.declared.Ties.{Ties}
+use Rattle.rounding_spec.specs.declared.Ties.the-variants.{ToEven, ToZero}
+use Rattle.rounding_spec.specs.Round.{tied, keep, lastPlace, rounded}
+use Rattle.rounding_spec.specs.Nearest.{Rep, Near}
+use Rattle.rounding_spec.proofs.LastPlace.{place-is}
+use Rattle.rounding_spec.proofs.Keep.{keep-eq}
+use Rattle.rounding_spec.proofs.Representable.{rep-pow, rep-le, rep-unit}
+use Rattle.rounding_spec.proofs.NearLaws.{near-le, near-ge}
+use Rattle.rounding_spec.proofs.Rounded.{rounded-keep, rounded-mono}
 
 module _ (f j : ℕ) where
   abbrev pub last : ℕ

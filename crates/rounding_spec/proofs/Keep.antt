@@ -6,10 +6,10 @@ use native.Mathlib.Nat.{le-refl, le-suc, add-zero, zero-add, eq-or-lt-of-le, mul
 use native.Mathlib.Omega.{arith}
 use lib.Arith.{mod-mul}
 use lib.Pow.{pow-add, pow-pos}
-use Rattle.rounding.specs.declared.Ties.{Ties}
-use Rattle.rounding.specs.declared.Ties.the-variants.{ToEven, ToZero}
-use Rattle.rounding.specs.Round.{tied, keep}
-use Rattle.rounding.proofs.Compare.{tri, cmp-lt, cmp-eq, cmp-gt, cmp-scale}
+use Rattle.rounding_spec.specs.declared.Ties.{Ties}
+use Rattle.rounding_spec.specs.declared.Ties.the-variants.{ToEven, ToZero}
+use Rattle.rounding_spec.specs.Round.{tied, keep}
+use Rattle.rounding_spec.proofs.Compare.{tri, cmp-lt, cmp-eq, cmp-gt, cmp-scale}
 
 -- ---- by the remainder
 module _ (t : Ties) (k N : ℕ) where

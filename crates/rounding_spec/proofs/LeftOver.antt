@@ -9,15 +9,15 @@ use lib.Count.{leadingZeros, leading-top}
 use lib.Dec.{ltb}
 use lib.Pow.{pow-pos, pow-mono, pow-lt, shl-lt}
 use borrow.Author.Tests.{ltb-true, ltb-false, lt-ltb, le-ltb}
-use Rattle.rounding.specs.declared.Ties.{Ties}
-use Rattle.rounding.specs.Round.{keep, rounded, leftOver, roundedUp}
-use Rattle.rounding.specs.Nearest.{dist, Rep}
-use Rattle.rounding.specs.Theorems.{LeftOverIs}
-use Rattle.rounding.proofs.Keep.{keep-whole}
-use Rattle.rounding.proofs.Multiple.{joined, split-unit, sub-mul}
-use Rattle.rounding.proofs.Remainder.{shifted-back}
-use Rattle.rounding.proofs.Rounded.{rounded-near, rounded-keep, rounded-none}
-use Rattle.rounding.proofs.Normalised.{at-last-place, at-place}
+use Rattle.rounding_spec.specs.declared.Ties.{Ties}
+use Rattle.rounding_spec.specs.Round.{keep, rounded, leftOver, roundedUp}
+use Rattle.rounding_spec.specs.Nearest.{dist, Rep}
+use Rattle.rounding_spec.specs.Theorems.{LeftOverIs}
+use Rattle.rounding_spec.proofs.Keep.{keep-whole}
+use Rattle.rounding_spec.proofs.Multiple.{joined, split-unit, sub-mul}
+use Rattle.rounding_spec.proofs.Remainder.{shifted-back}
+use Rattle.rounding_spec.proofs.Rounded.{rounded-near, rounded-keep, rounded-none}
+use Rattle.rounding_spec.proofs.Normalised.{at-last-place, at-place}
 
 -- ---- in other units
 pub dist-scale : (a b c : ℕ) → dist (a * c) (b * c) ≡ dist a b * c

@@ -10,9 +10,9 @@ pub mod Rounded
 pub mod HalfPlace
 pub mod Sticky
 pub mod Bits
+pub mod Scaled
 pub mod Codec
 pub mod Signalling
-pub mod Scaled
 pub mod Predecessor
 pub mod TieDown
 pub mod Chosen
@@ -23,8 +23,8 @@ pub mod SmallProducts
 pub mod Halfway
 pub mod Even
 pub mod RoundValue
-pub mod Theorems
 pub mod Remainder
 pub mod Normalised
-pub mod Spacing
 pub mod LeftOver
+pub mod Theorems
+pub mod Spacing

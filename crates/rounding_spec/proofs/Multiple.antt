@@ -3,7 +3,7 @@ use mathlib.Core.Path.{_≡_, sym, ap, _∙_}
 use Prim.Native.Nat.{ℕ, _+_, _-_, _*_, _^_, _≤_}
 use native.Mathlib.Nat.{mul-assoc, mul-comm, add-mul, mul-sub, sub-add-cancel}
 use lib.Pow.{pow-add}
-use Rattle.rounding.specs.Nearest.{dist}
+use Rattle.rounding_spec.specs.Nearest.{dist}
 
 abbrev pub Mult : ℕ → ℕ → Type 0
 Mult g n = (c : ℕ) × (n ≡ c * 2 ^ g)

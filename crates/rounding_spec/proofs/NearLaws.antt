@@ -4,9 +4,9 @@ use mathlib.Core.Logic.{_⊎_, inl, inr}
 use Prim.Native.Nat.{ℕ, suc, _+_, _*_, _^_, _≤_, _<_}
 use native.Mathlib.Decide.{decLe}
 use native.Mathlib.Omega.{arith}
-use Rattle.rounding.specs.Nearest.{dist, Rep, Near, Near0}
-use Rattle.rounding.proofs.Multiple.{Mult, mult-down}
-use Rattle.rounding.proofs.Representable.{rep-mult, rep-pow, rep-lt, rep-top}
+use Rattle.rounding_spec.specs.Nearest.{dist, Rep, Near, Near0}
+use Rattle.rounding_spec.proofs.Multiple.{Mult, mult-down}
+use Rattle.rounding_spec.proofs.Representable.{rep-mult, rep-pow, rep-lt, rep-top}
 
 pub near-exact : {p l n a : ℕ} → Near p l n a → Rep p l n → a ≡ n
 near-exact {n = n} {a = a} h r = omega (arith, h .best n r)

@@ -6,16 +6,16 @@ use native.Mathlib.Nat.{zero-mul, mul-le-mul-right, lt-of-lt-of-le, mod-eq-of-lt
 use native.Mathlib.Omega.{arith}
 use lib.Count.{leadingZeros, leading-top}
 use lib.Pow.{pow-add, pow-mono, shl-lt}
-use Rattle.rounding.specs.declared.Ties.{Ties}
-use Rattle.rounding.specs.Format.{binary32, infinity}
-use Rattle.rounding.specs.Round.{keep, lastPlace}
-use Rattle.rounding.specs.Value.{bits, signed, encode, roundFinite}
-use Rattle.rounding.proofs.LastPlace.{place-is}
-use Rattle.rounding.proofs.Keep.{keep-scale}
-use Rattle.rounding.proofs.Multiple.{joined}
-use Rattle.rounding.proofs.Rounded.{keep-le, rounded-none}
-use Rattle.rounding.proofs.Bits.{bits-at, bits-rounded}
-use Rattle.rounding.proofs.RoundValue.{encode-round}
+use Rattle.rounding_spec.specs.declared.Ties.{Ties}
+use Rattle.rounding_spec.specs.Format.{binary32, infinity}
+use Rattle.rounding_spec.specs.Round.{keep, lastPlace}
+use Rattle.rounding_spec.specs.Value.{bits, signed, encode, roundFinite}
+use Rattle.rounding_spec.proofs.LastPlace.{place-is}
+use Rattle.rounding_spec.proofs.Keep.{keep-scale}
+use Rattle.rounding_spec.proofs.Multiple.{joined}
+use Rattle.rounding_spec.proofs.Rounded.{keep-le, rounded-none}
+use Rattle.rounding_spec.proofs.Bits.{bits-at, bits-rounded}
+use Rattle.rounding_spec.proofs.RoundValue.{encode-round}
 
 -- ---- nothing rounds to nothing
 pub round-zero : (t : Ties) (s : Bool) (e : ℕ) → encode binary32 (roundFinite t binary32 s (0 * 2 ^ e)) ≡ signed binary32 s 0

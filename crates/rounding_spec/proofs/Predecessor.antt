@@ -5,12 +5,12 @@ use native.Mathlib.Nat.{le-antisymm, le-trans, le-of-eq, lt-of-lt-of-le, lt-of-l
 use native.Mathlib.Decide.{decLe}
 use native.Mathlib.Omega.{arith}
 use lib.Pow.{pow-add, pow-pos}
-use Rattle.rounding.specs.Nearest.{dist, Rep, Near}
-use Rattle.rounding.specs.Round.{lastPlace}
-use Rattle.rounding.proofs.Multiple.{sub-mul}
-use Rattle.rounding.proofs.Representable.{rep-le, rep-unit, ceil-best}
-use Rattle.rounding.proofs.LastPlace.{place-ge, place-above, place-below}
-use Rattle.rounding.proofs.Scaled.{rep-up, rep-down}
+use Rattle.rounding_spec.specs.Nearest.{dist, Rep, Near}
+use Rattle.rounding_spec.specs.Round.{lastPlace}
+use Rattle.rounding_spec.proofs.Multiple.{sub-mul}
+use Rattle.rounding_spec.proofs.Representable.{rep-le, rep-unit, ceil-best}
+use Rattle.rounding_spec.proofs.LastPlace.{place-ge, place-above, place-below}
+use Rattle.rounding_spec.proofs.Scaled.{rep-up, rep-down}
 
 -- ---- A above 0 as m * 2 ^ f with m ≤ 2 ^ (p + 1), and 2 ^ p < m unless f is the lowest exponent: the number below A is A - 2 ^ f, at a power of two as well
 pub record Upper (p l A : ℕ) : Type 0 where

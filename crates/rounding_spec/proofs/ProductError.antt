@@ -4,11 +4,11 @@ use Prim.Native.Nat.{ℕ, suc, _+_, _*_, _/_, _%_, _^_, _≤_, _<_}
 use native.Mathlib.Nat.{le-of-eq, lt-of-lt-of-le, lt-of-le-of-lt, mul-lt-mul-of-pos-right, lt-of-mul-lt-mul-right, mul-comm, mul-assoc, mod-lt, div-add-mod', suc-mul}
 use native.Mathlib.Omega.{arith}
 use lib.Pow.{pow-add, pow-pos}
-use Rattle.rounding.specs.Nearest.{dist, Rep, Near}
-use Rattle.rounding.proofs.Multiple.{mult-dist}
-use Rattle.rounding.proofs.Representable.{rep-le, rep-lt}
-use Rattle.rounding.proofs.NearLaws.{near-mult}
-use Rattle.rounding.proofs.TieDown.{dbl}
+use Rattle.rounding_spec.specs.Nearest.{dist, Rep, Near}
+use Rattle.rounding_spec.proofs.Multiple.{mult-dist}
+use Rattle.rounding_spec.proofs.Representable.{rep-le, rep-lt}
+use Rattle.rounding_spec.proofs.NearLaws.{near-mult}
+use Rattle.rounding_spec.proofs.TieDown.{dbl}
 
 -- a nearest number is at most half of 2 ^ k away, where n has at most p + 1 digits above 2 ^ k
 pub near-half : {p l n a : ℕ} (k : ℕ) → Near (suc p) l n a → l ≤ k → n < 2 ^ suc p * 2 ^ k → 2 * dist a n ≤ 2 ^ k

@@ -5,12 +5,12 @@ use Prim.Native.Nat.{ℕ, suc, _+_, _-_, _*_, _/_, _%_, _^_, _≤_, _<_}
 use native.Mathlib.Nat.{one-mul, mul-le-mul-left, div-lt-iff-lt-mul, lt-of-le-of-lt, lt-of-lt-of-le, div-add-mod', div-mul-le-self, div-eq-of-lt, mod-eq-of-lt, mod-lt, pow-succ'}
 use native.Mathlib.Omega.{arith}
 use lib.Pow.{pow-pos, pow-mono, pow-lt}
-use Rattle.rounding.specs.declared.Ties.{Ties}
-use Rattle.rounding.specs.declared.Ties.the-variants.{ToEven, ToZero}
-use Rattle.rounding.specs.Round.{tied, keep}
-use Rattle.rounding.specs.Inner.{tieBit}
-use Rattle.rounding.proofs.Compare.{tri}
-use Rattle.rounding.proofs.Keep.{keep-lt, keep-eq, keep-gt}
+use Rattle.rounding_spec.specs.declared.Ties.{Ties}
+use Rattle.rounding_spec.specs.declared.Ties.the-variants.{ToEven, ToZero}
+use Rattle.rounding_spec.specs.Round.{tied, keep}
+use Rattle.rounding_spec.specs.Inner.{tieBit}
+use Rattle.rounding_spec.proofs.Compare.{tri}
+use Rattle.rounding_spec.proofs.Keep.{keep-lt, keep-eq, keep-gt}
 
 pub tie-bit-le : (t : Ties) (q : ℕ) → tieBit t q ≤ 1
 tie-bit-le ToEven q = omega arith

@@ -5,8 +5,8 @@ use native.Mathlib.Nat.{mul-one, mul-left-comm, pow-succ', le-refl, le-trans, le
 use native.Mathlib.Decide.{decLe}
 use native.Mathlib.Omega.{arith}
 use lib.Pow.{pow-add, pow-pos, pow-mono}
-use Rattle.rounding.specs.Nearest.{Rep}
-use Rattle.rounding.proofs.Multiple.{Mult, mult-down}
+use Rattle.rounding_spec.specs.Nearest.{Rep}
+use Rattle.rounding_spec.proofs.Multiple.{Mult, mult-down}
 
 abbrev pub rep-mult : {p l n : ℕ} (r : Rep p l n) → Mult (r .e) n
 rep-mult r = (r .m, r .is)

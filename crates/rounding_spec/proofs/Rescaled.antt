@@ -4,15 +4,15 @@ use Prim.Native.Nat.{ℕ, suc, _+_, _*_, _^_, _≤_}
 use native.Mathlib.Nat.{zero-add, le-refl, le-trans, le-of-eq, mul-le-mul-right, le-of-mul-le-mul-right, eq-of-mul-eq-mul-right, add-mul}
 use native.Mathlib.Omega.{arith}
 use lib.Pow.{pow-pos}
-use Rattle.rounding.specs.declared.Ties.{Ties}
-use Rattle.rounding.specs.declared.Ties.the-variants.{ToZero}
-use Rattle.rounding.specs.Round.{rounded}
-use Rattle.rounding.specs.Nearest.{dist, Rep, Near, Near0}
-use Rattle.rounding.proofs.Multiple.{mult-down, sub-mul}
-use Rattle.rounding.proofs.Representable.{rep-mult, rep-le, rep-lower, rep-raise}
-use Rattle.rounding.proofs.NearLaws.{near-ge}
-use Rattle.rounding.proofs.Rounded.{rounded-near, rounded-near0}
-use Rattle.rounding.proofs.Scaled.{rep-up, rep-down}
+use Rattle.rounding_spec.specs.declared.Ties.{Ties}
+use Rattle.rounding_spec.specs.declared.Ties.the-variants.{ToZero}
+use Rattle.rounding_spec.specs.Round.{rounded}
+use Rattle.rounding_spec.specs.Nearest.{dist, Rep, Near, Near0}
+use Rattle.rounding_spec.proofs.Multiple.{mult-down, sub-mul}
+use Rattle.rounding_spec.proofs.Representable.{rep-mult, rep-le, rep-lower, rep-raise}
+use Rattle.rounding_spec.proofs.NearLaws.{near-ge}
+use Rattle.rounding_spec.proofs.Rounded.{rounded-near, rounded-near0}
+use Rattle.rounding_spec.proofs.Scaled.{rep-up, rep-down}
 
 pub dist-mul : (a b S : ℕ) → dist (a * S) (b * S) ≡ dist a b * S
 dist-mul a b S = simp (add-mul, sub-mul)

@@ -7,15 +7,15 @@ use native.Mathlib.Decide.{decLe}
 use native.Mathlib.Omega.{arith}
 use borrow.Author.Tests.{lt-ltb, le-ltb}
 use lib.Pow.{pow-add, pow-pos}
-use Rattle.rounding.specs.declared.Ties.{Ties}
-use Rattle.rounding.specs.declared.Ties.the-variants.{ToEven, ToZero}
-use Rattle.rounding.specs.Format.{Format, Proper, low, limit, edge, infinity}
-use Rattle.rounding.specs.Round.{rounded}
-use Rattle.rounding.specs.Value.{Value, nan, infinite, finite, Fits, bits, signed, encode, roundFinite, round}
-use Rattle.rounding.proofs.Rounded.{rounded-near}
-use Rattle.rounding.proofs.Scaled.{rounded-rep}
-use Rattle.rounding.proofs.Halfway.{last, next, tie, last-next, below-tie, above-tie, even-up, zero-down}
-use Rattle.rounding.proofs.Codec.{bits-below, bits-above}
+use Rattle.rounding_spec.specs.declared.Ties.{Ties}
+use Rattle.rounding_spec.specs.declared.Ties.the-variants.{ToEven, ToZero}
+use Rattle.rounding_spec.specs.Format.{Format, Proper, low, limit, edge, infinity}
+use Rattle.rounding_spec.specs.Round.{rounded}
+use Rattle.rounding_spec.specs.Value.{Value, nan, infinite, finite, Fits, bits, signed, encode, roundFinite, round}
+use Rattle.rounding_spec.proofs.Rounded.{rounded-near}
+use Rattle.rounding_spec.proofs.Scaled.{rounded-rep}
+use Rattle.rounding_spec.proofs.Halfway.{last, next, tie, last-next, below-tie, above-tie, even-up, zero-down}
+use Rattle.rounding_spec.proofs.Codec.{bits-below, bits-above}
 
 -- ---- finite or infinite
 module _ (t : Ties) (F : Format) (s : Bool) (N : ℕ) where

@@ -6,16 +6,16 @@ use native.Mathlib.Nat.{le-refl, le-of-eq, mul-le-mul-right, le-of-mul-le-mul-ri
 use native.Mathlib.Decide.{decLe}
 use native.Mathlib.Omega.{arith}
 use lib.Pow.{pow-add, pow-pos}
-use Rattle.rounding.specs.declared.Ties.{Ties}
-use Rattle.rounding.specs.declared.Ties.the-variants.{ToEven, ToZero}
-use Rattle.rounding.specs.Round.{keep, lastPlace, rounded}
-use Rattle.rounding.specs.Nearest.{dist, Rep, Near, Near0}
-use Rattle.rounding.proofs.Compare.{tri}
-use Rattle.rounding.proofs.LastPlace.{place-ge, place-above, place-below, place-scale}
-use Rattle.rounding.proofs.Keep.{keep-lt, keep-eq, keep-gt, kept, keep-scale}
-use Rattle.rounding.proofs.Multiple.{split-unit, mult-down}
-use Rattle.rounding.proofs.Representable.{rep-mult, rep-zero, rep-under, rep-le, floor-best}
-use Rattle.rounding.proofs.NearLaws.{near-exact, near-near0, near-order}
+use Rattle.rounding_spec.specs.declared.Ties.{Ties}
+use Rattle.rounding_spec.specs.declared.Ties.the-variants.{ToEven, ToZero}
+use Rattle.rounding_spec.specs.Round.{keep, lastPlace, rounded}
+use Rattle.rounding_spec.specs.Nearest.{dist, Rep, Near, Near0}
+use Rattle.rounding_spec.proofs.Compare.{tri}
+use Rattle.rounding_spec.proofs.LastPlace.{place-ge, place-above, place-below, place-scale}
+use Rattle.rounding_spec.proofs.Keep.{keep-lt, keep-eq, keep-gt, kept, keep-scale}
+use Rattle.rounding_spec.proofs.Multiple.{split-unit, mult-down}
+use Rattle.rounding_spec.proofs.Representable.{rep-mult, rep-zero, rep-under, rep-le, floor-best}
+use Rattle.rounding_spec.proofs.NearLaws.{near-exact, near-near0, near-order}
 
 -- the significand that is cut off has at most suc f digits
 module _ (f L N : ℕ) where

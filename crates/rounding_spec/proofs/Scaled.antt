@@ -4,12 +4,12 @@ use Prim.Native.Nat.{ℕ, suc, _+_, _-_, _*_, _^_, _≤_}
 use native.Mathlib.Nat.{mul-assoc, zero-add, eq-of-mul-eq-mul-right}
 use native.Mathlib.Omega.{arith}
 use lib.Pow.{pow-add, pow-pos}
-use Rattle.rounding.specs.declared.Ties.{Ties}
-use Rattle.rounding.specs.Round.{rounded}
-use Rattle.rounding.specs.Nearest.{Rep}
-use Rattle.rounding.proofs.Multiple.{split-unit}
-use Rattle.rounding.proofs.Representable.{rep-lower}
-use Rattle.rounding.proofs.Rounded.{rounded-near}
+use Rattle.rounding_spec.specs.declared.Ties.{Ties}
+use Rattle.rounding_spec.specs.Round.{rounded}
+use Rattle.rounding_spec.specs.Nearest.{Rep}
+use Rattle.rounding_spec.proofs.Multiple.{split-unit}
+use Rattle.rounding_spec.proofs.Representable.{rep-lower}
+use Rattle.rounding_spec.proofs.Rounded.{rounded-near}
 
 pub rep-up : {p l n : ℕ} (s : ℕ) → Rep p l n → Rep p (l + s) (n * 2 ^ s)
 rep-up {n = n} s r =

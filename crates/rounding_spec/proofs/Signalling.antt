@@ -10,11 +10,11 @@ use borrow.Author.Tests.{lt-ltb, le-ltb}
 use lib.Arith.{digits-div}
 use lib.Dec.{leb, ltb, eqb}
 use lib.Pow.{pow-pos}
-use Rattle.rounding.specs.Format.{Format, ones, infinity, signBit}
-use Rattle.rounding.specs.Value.{isNaN, decode, signalling}
-use Rattle.rounding.specs.Theorems.{SignallingRange}
-use Rattle.rounding.proofs.Compare.{tri}
-use Rattle.rounding.proofs.Codec.{unsigned-finite, unsigned-infinite, unsigned-nan}
+use Rattle.rounding_spec.specs.Format.{Format, ones, infinity, signBit}
+use Rattle.rounding_spec.specs.Value.{isNaN, decode, signalling}
+use Rattle.rounding_spec.specs.Theorems.{SignallingRange}
+use Rattle.rounding_spec.proofs.Compare.{tri}
+use Rattle.rounding_spec.proofs.Codec.{unsigned-finite, unsigned-infinite, unsigned-nan}
 
 module _ (F : Format) (pos : 0 < F .fraction) (x : ℕ) where
   -- the weight of the highest fraction bit

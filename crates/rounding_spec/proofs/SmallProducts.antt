@@ -6,17 +6,17 @@ use native.Mathlib.Nat.{le-refl, le-trans, le-of-eq, lt-of-lt-of-le, lt-of-le-of
 use native.Mathlib.Decide.{decLe}
 use native.Mathlib.Omega.{arith}
 use lib.Pow.{pow-add, pow-pos, pow-mono}
-use Rattle.rounding.specs.Nearest.{dist, Rep, Near, Near0}
-use Rattle.rounding.specs.Round.{lastPlace}
-use Rattle.rounding.proofs.Multiple.{Mult, mult-down, mult-dist}
-use Rattle.rounding.proofs.Representable.{rep-low, rep-le, rep-raise}
-use Rattle.rounding.proofs.NearLaws.{near-exact, near-ge, near-le}
-use Rattle.rounding.proofs.LastPlace.{place-ge, place-le, place-above, place-below}
-use Rattle.rounding.proofs.Rescaled.{near-raise}
-use Rattle.rounding.proofs.ProductError.{near-half}
-use Rattle.rounding.proofs.Predecessor.{Upper, upper}
-use Rattle.rounding.proofs.TieDown.{keep-above, keep-below, go-down}
-use Rattle.rounding.proofs.Sterbenz.{dist-ge, dist-le, rep-dist, rep-double, half-ge, add-ge, add-v, sub-le, sub-v}
+use Rattle.rounding_spec.specs.Nearest.{dist, Rep, Near, Near0}
+use Rattle.rounding_spec.specs.Round.{lastPlace}
+use Rattle.rounding_spec.proofs.Multiple.{Mult, mult-down, mult-dist}
+use Rattle.rounding_spec.proofs.Representable.{rep-low, rep-le, rep-raise}
+use Rattle.rounding_spec.proofs.NearLaws.{near-exact, near-ge, near-le}
+use Rattle.rounding_spec.proofs.LastPlace.{place-ge, place-le, place-above, place-below}
+use Rattle.rounding_spec.proofs.Rescaled.{near-raise}
+use Rattle.rounding_spec.proofs.ProductError.{near-half}
+use Rattle.rounding_spec.proofs.Predecessor.{Upper, upper}
+use Rattle.rounding_spec.proofs.TieDown.{keep-above, keep-below, go-down}
+use Rattle.rounding_spec.proofs.Sterbenz.{dist-ge, dist-le, rep-dist, rep-double, half-ge, add-ge, add-v, sub-le, sub-v}
 
 -- ---- B, a number of the format, is rounded again, to a multiple of 2 ^ l; where that was a tie that went up, ties go down by 2 ^ l
 module _ {p l B A : ℕ} (b : Rep (suc p) 0 B) (h : Near (suc p) l B A) where

@@ -6,10 +6,10 @@ use native.Mathlib.Nat.{le-of-eq, le-trans, mul-assoc, mul-le-mul-right, suc-mul
 use native.Mathlib.Decide.{decLe}
 use native.Mathlib.Omega.{arith}
 use lib.Pow.{pow-pos}
-use Rattle.rounding.specs.Nearest.{dist, Near}
-use Rattle.rounding.proofs.Compare.{tri}
-use Rattle.rounding.proofs.Multiple.{mult-down}
-use Rattle.rounding.proofs.Representable.{rep-mult, rep-under}
+use Rattle.rounding_spec.specs.Nearest.{dist, Near}
+use Rattle.rounding_spec.proofs.Compare.{tri}
+use Rattle.rounding_spec.proofs.Multiple.{mult-down}
+use Rattle.rounding_spec.proofs.Representable.{rep-mult, rep-under}
 
 -- two multiples of G that are less than G apart are one number
 mult-close : (a b G : ℕ) → dist (a * G) (b * G) < G → a * G ≡ b * G

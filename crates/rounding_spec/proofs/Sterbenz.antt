@@ -5,10 +5,10 @@ use native.Mathlib.Nat.{le-refl, le-trans, le-of-eq, lt-of-le-of-lt, mul-lt-mul-
 use native.Mathlib.Decide.{decLe}
 use native.Mathlib.Omega.{arith}
 use lib.Pow.{pow-pos}
-use Rattle.rounding.specs.Nearest.{dist, Rep, Near}
-use Rattle.rounding.proofs.Multiple.{Mult, mult-sub}
-use Rattle.rounding.proofs.Representable.{rep-low, rep-lt, rep-within}
-use Rattle.rounding.proofs.NearLaws.{near-exact, near-ge, near-le}
+use Rattle.rounding_spec.specs.Nearest.{dist, Rep, Near}
+use Rattle.rounding_spec.proofs.Multiple.{Mult, mult-sub}
+use Rattle.rounding_spec.proofs.Representable.{rep-low, rep-lt, rep-within}
+use Rattle.rounding_spec.proofs.NearLaws.{near-exact, near-ge, near-le}
 
 -- a difference of two numbers of which neither is more than twice the other (Sterbenz)
 pub sterbenz : {p l : ℕ} (x y : ℕ) → Rep p l x → Rep p l y → y ≤ x → x ≤ 2 * y → Rep p l (x - y)

@@ -8,10 +8,10 @@ use native.Mathlib.Omega.{arith}
 use lib.Arith.{digits-lt, digits-div, digits-mod, mod-mul}
 use lib.Dec.{lit<}
 use lib.Pow.{pow-add, pow-pos, pow-lt, shr-lt}
-use Rattle.rounding.specs.declared.Ties.{Ties}
-use Rattle.rounding.specs.Round.{keep, lastPlace, rounded}
-use Rattle.rounding.proofs.LastPlace.{place-is, place-ge, place-gt, place-above, place-below}
-use Rattle.rounding.proofs.Keep.{keep-lt, keep-gt}
+use Rattle.rounding_spec.specs.declared.Ties.{Ties}
+use Rattle.rounding_spec.specs.Round.{keep, lastPlace, rounded}
+use Rattle.rounding_spec.proofs.LastPlace.{place-is, place-ge, place-gt, place-above, place-below}
+use Rattle.rounding_spec.proofs.Keep.{keep-lt, keep-gt}
 
 -- ---- g counts halves of the last place, and r is what is below
 module _ (t : Ties) (h g r : ℕ) (l : r < 2 ^ h) where

@@ -4,10 +4,10 @@ use Prim.Native.Nat.{ℕ, suc, _+_, _-_, _≤_}
 use native.Mathlib.Nat.{le-trans, le-of-eq}
 use native.Mathlib.Decide.{decLe}
 use native.Mathlib.Omega.{arith}
-use Rattle.rounding.specs.Nearest.{dist, Rep, Near}
-use Rattle.rounding.proofs.Multiple.{mult-add, mult-dist}
-use Rattle.rounding.proofs.Representable.{rep-within}
-use Rattle.rounding.proofs.NearLaws.{near-mult}
+use Rattle.rounding_spec.specs.Nearest.{dist, Rep, Near}
+use Rattle.rounding_spec.proofs.Multiple.{mult-add, mult-dist}
+use Rattle.rounding_spec.proofs.Representable.{rep-within}
+use Rattle.rounding_spec.proofs.NearLaws.{near-mult}
 
 -- from the larger of two numbers, their distance lies as far as the smaller one
 dist-back : (n x y : ℕ) → y ≤ x → n ≡ x - y → dist x n ≡ y

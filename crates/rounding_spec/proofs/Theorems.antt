@@ -5,21 +5,21 @@ use native.Mathlib.Nat.{le-trans, le-of-eq, mul-assoc, eq-of-mul-eq-mul-right, l
 use native.Mathlib.Omega.{arith}
 use mathlib.Core.Bool.{Bool, true, false}
 use lib.Pow.{pow-pos}
-use Rattle.rounding.specs.Format.{Format, binary32, Proper, low, limit, ones, edge, signBit}
-use Rattle.rounding.specs.Round.{rounded}
-use Rattle.rounding.specs.Nearest.{dist}
-use Rattle.rounding.specs.Value.{finite, Fits, fields, magnitude, decode, signalling, signed, bits, encode}
-use Rattle.rounding.specs.Theorems.{Binary32Numbers, Nearest, TieToZero, TieToEven, TieNeighbour, TieToZeroUnique, HalfUnit, RulesDiffer, LeftOverIs, Exact, Monotone, Scaling, RoundToOdd, OverflowRNe, OverflowRN0, NearestPattern, TieToEvenPattern, TieToZeroPattern, DecodeLandmarks, SignallingLandmarks, SignallingRange, LargestFinite, BitsOrder, DecodeEncode, EncodeDecode, DecodeFits, RoundFits, All}
-use Rattle.rounding.specs.declared.Ties.the-variants.{ToEven, ToZero}
-use Rattle.rounding.proofs.Rounded.{rounded-near, rounded-near0, rounded-half, rounded-differ, rounded-exact, rounded-mono, rounded-scale}
-use Rattle.rounding.proofs.Even.{rounded-even, neighbour-odd}
-use Rattle.rounding.proofs.Sticky.{odd}
-use Rattle.rounding.proofs.Codec as codec
-use Rattle.rounding.proofs.LeftOver as left-over
-use Rattle.rounding.proofs.Signalling as quiet-bit
-use Rattle.rounding.proofs.Bits.{magnitude-lt, magnitude-mono, magnitude-bits}
-use Rattle.rounding.proofs.NearLaws.{near0-one}
-use Rattle.rounding.proofs.RoundValue as values
+use Rattle.rounding_spec.specs.Format.{Format, binary32, Proper, low, limit, ones, edge, signBit}
+use Rattle.rounding_spec.specs.Round.{rounded}
+use Rattle.rounding_spec.specs.Nearest.{dist}
+use Rattle.rounding_spec.specs.Value.{finite, Fits, fields, magnitude, decode, signalling, signed, bits, encode}
+use Rattle.rounding_spec.specs.Theorems.{Binary32Numbers, Nearest, TieToZero, TieToEven, TieNeighbour, TieToZeroUnique, HalfUnit, RulesDiffer, LeftOverIs, Exact, Monotone, Scaling, RoundToOdd, OverflowRNe, OverflowRN0, NearestPattern, TieToEvenPattern, TieToZeroPattern, DecodeLandmarks, SignallingLandmarks, SignallingRange, LargestFinite, BitsOrder, DecodeEncode, EncodeDecode, DecodeFits, RoundFits, All}
+use Rattle.rounding_spec.specs.declared.Ties.the-variants.{ToEven, ToZero}
+use Rattle.rounding_spec.proofs.Rounded.{rounded-near, rounded-near0, rounded-half, rounded-differ, rounded-exact, rounded-mono, rounded-scale}
+use Rattle.rounding_spec.proofs.Even.{rounded-even, neighbour-odd}
+use Rattle.rounding_spec.proofs.Sticky.{odd}
+use Rattle.rounding_spec.proofs.Codec as codec
+use Rattle.rounding_spec.proofs.LeftOver as left-over
+use Rattle.rounding_spec.proofs.Signalling as quiet-bit
+use Rattle.rounding_spec.proofs.Bits.{magnitude-lt, magnitude-mono, magnitude-bits}
+use Rattle.rounding_spec.proofs.NearLaws.{near0-one}
+use Rattle.rounding_spec.proofs.RoundValue as values
 
 pub binary32-numbers : Binary32Numbers
 unfolding limit edge

@@ -6,12 +6,12 @@ use native.Mathlib.Nat.{mul-one, le-refl, le-trans, le-of-eq, mul-pos, pow-succ'
 use native.Mathlib.Decide.{decLe}
 use native.Mathlib.Omega.{arith}
 use lib.Pow.{pow-pos}
-use Rattle.rounding.specs.Nearest.{dist, Near, Near0}
-use Rattle.rounding.proofs.Multiple.{Mult}
-use Rattle.rounding.proofs.Representable.{rep-lt, rep-pow}
-use Rattle.rounding.proofs.NearLaws.{near-exact, near-ge}
-use Rattle.rounding.proofs.Predecessor.{Upper, upper, below-add, below-rep, below-best}
-use Rattle.rounding.proofs.Sterbenz.{rep-double}
+use Rattle.rounding_spec.specs.Nearest.{dist, Near, Near0}
+use Rattle.rounding_spec.proofs.Multiple.{Mult}
+use Rattle.rounding_spec.proofs.Representable.{rep-lt, rep-pow}
+use Rattle.rounding_spec.proofs.NearLaws.{near-exact, near-ge}
+use Rattle.rounding_spec.proofs.Predecessor.{Upper, upper, below-add, below-rep, below-best}
+use Rattle.rounding_spec.proofs.Sterbenz.{rep-double}
 
 pub dbl : (p l : ℕ) → 2 ^ suc p * 2 ^ l ≡ 2 * (2 ^ p * 2 ^ l)
 dbl p l = ap (λ (z : ℕ). z * 2 ^ l) (pow-succ' 2 p) ∙ mul-assoc 2 (2 ^ p) (2 ^ l)

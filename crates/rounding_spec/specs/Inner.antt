@@ -1,7 +1,7 @@
 -- What the inner functions of `nearest` promise. No public contract cites it. Assumes nothing.
 use Prim.Native.Nat.{ℕ, _%_}
-use Rattle.rounding.specs.declared.Ties.{Ties}
-use Rattle.rounding.specs.declared.Ties.the-variants.{ToEven, ToZero}
+use Rattle.rounding_spec.specs.declared.Ties.{Ties}
+use Rattle.rounding_spec.specs.declared.Ties.the-variants.{ToEven, ToZero}
 
 -- what is added to a remainder, so that more than half a unit means up: a tie goes up from an odd quotient under RNe alone
 abbrev pub tieBit : Ties → ℕ → ℕ

@@ -5,9 +5,9 @@ use Prim.Native.Nat.{ℕ, suc, _+_, _-_, _*_, _/_, _%_, _^_, max, compare, Order
 use lib.Dec.{ltb}
 use lib.Ieee.{size}
 use mathlib.Core.Bool.{Bool}
-use Rattle.rounding.specs.declared.Ties.{Ties}
-use Rattle.rounding.specs.declared.Ties.the-variants.{ToEven, ToZero}
-use Rattle.rounding.specs.Nearest.{dist}
+use Rattle.rounding_spec.specs.declared.Ties.{Ties}
+use Rattle.rounding_spec.specs.declared.Ties.the-variants.{ToEven, ToZero}
+use Rattle.rounding_spec.specs.Nearest.{dist}
 
 -- Halfway between q and suc q. RNe: "ties to the even last bit"; RN0: "ties to the smaller magnitude".
 abbrev pub tied : Ties → ℕ → ℕ

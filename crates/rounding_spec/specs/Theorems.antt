@@ -5,12 +5,12 @@ use mathlib.Core.Bool.{Bool, true, false, _&&_}
 use mathlib.Core.List.{List}
 use Prim.Native.Nat.{ℕ, suc, _+_, _-_, _*_, _%_, _^_, _≤_, _<_}
 use lib.Dec.{ltb}
-use Rattle.rounding.specs.declared.Ties.{Ties}
-use Rattle.rounding.specs.declared.Ties.the-variants.{ToEven, ToZero}
-use Rattle.rounding.specs.Format.{Format, binary32, Proper, low, limit, edge, infinity, signBit}
-use Rattle.rounding.specs.Round.{lastPlace, rounded, leftOver, roundedUp}
-use Rattle.rounding.specs.Nearest.{dist, Rep, Near, Near0}
-use Rattle.rounding.specs.Value.{Value, nan, infinite, finite, Fits, magnitude, decode, signalling, nanOf, bits, encode, roundFinite, round}
+use Rattle.rounding_spec.specs.declared.Ties.{Ties}
+use Rattle.rounding_spec.specs.declared.Ties.the-variants.{ToEven, ToZero}
+use Rattle.rounding_spec.specs.Format.{Format, binary32, Proper, low, limit, edge, infinity, signBit}
+use Rattle.rounding_spec.specs.Round.{lastPlace, rounded, leftOver, roundedUp}
+use Rattle.rounding_spec.specs.Nearest.{dist, Rep, Near, Near0}
+use Rattle.rounding_spec.specs.Value.{Value, nan, infinite, finite, Fits, magnitude, decode, signalling, nanOf, bits, encode, roundFinite, round}
 
 -- ---- document 01's numbers of binary32: u = 2 ^ -149, +infinity, the sign bit, the NaN, 2 ^ 128, and the edge 2 ^ 128 - 2 ^ 103; and what is asked of a format
 abbrev pub Binary32Numbers : Type 0

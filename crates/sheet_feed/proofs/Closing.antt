@@ -12,28 +12,28 @@ use denote.Enum.Declared.{tagOf}
 use types.Run.{OneOf, miss}
 use lib.Dec.{eqb}
 use lib.ListN.{length, take, drop, length-append, length-drop}
-use Rattle.question.specs.Questions.{reading}
-use Rattle.totals.specs.Totals.{Answer, refused, pair}
-use Rattle.totals.specs.Totals.{reading as readTotal}
+use Rattle.question_spec.specs.Questions.{reading}
+use Rattle.accumulator_spec.specs.Totals.{Answer, refused, pair}
+use Rattle.accumulator_spec.specs.Totals.{reading as readTotal}
 use Rattle.accumulator.specs.Answers.{answerRead}
 use Rattle.accumulator.specs.declared.Reading.{Reading}
 use Rattle.accumulator.specs.declared.Reading.the-variants as the-reading
 use Rattle.accumulator.proofs.Reading as reading-type
-use Rattle.texts.specs.Texts.{totalText, endText, written, afterWriting}
-use Rattle.answers.specs.Answers.{Writes}
-use Rattle.answers.proofs.Answering.{nothing as writes-nothing}
-use Rattle.printed.specs.Printed.{Progress, lineText, afterLine, readText, closingText}
-use Rattle.printed.specs.States.{State, lastLine, lastText, closeText}
-use Rattle.places.specs.Places.{stateOf, readyFor, Runs, progressOf}
-use Rattle.printer.specs.Calls.{Starts, Ends}
-use Rattle.printer.specs.Inner.{LineEnds, LastLine}
-use Rattle.places.specs.declared.Place.{Place}
-use Rattle.printer.specs.declared.Next.{Next}
-use Rattle.printed.proofs.Lengths.{last-most, end-most, read-most, closing-most}
-use Rattle.printed.proofs.Bytes.{nothing-after-stop}
-use Rattle.places.proofs.Placed.{not-ready, halted, going-on}
-use Rattle.printer.proofs.Starting.{nothing, wrote, as-long, after-part}
-use Rattle.printer.proofs.Stepped.{ends-soundly}
+use Rattle.transcript_spec.specs.Texts.{totalText, endText, written, afterWriting}
+use Rattle.sheet_line.specs.Answers.{Writes}
+use Rattle.sheet_line.proofs.Answering.{nothing as writes-nothing}
+use Rattle.sheet_spec.specs.Printed.{Progress, lineText, afterLine, readText, closingText}
+use Rattle.sheet_spec.specs.States.{State, lastLine, lastText, closeText}
+use Rattle.sheet_position.specs.Places.{stateOf, readyFor, Runs, progressOf}
+use Rattle.sheet_feed.specs.Calls.{Starts, Ends}
+use Rattle.sheet_feed.specs.Inner.{LineEnds, LastLine}
+use Rattle.sheet_position.specs.declared.Place.{Place}
+use Rattle.sheet_feed.specs.declared.Next.{Next}
+use Rattle.sheet_spec.proofs.Lengths.{last-most, end-most, read-most, closing-most}
+use Rattle.sheet_spec.proofs.Bytes.{nothing-after-stop}
+use Rattle.sheet_position.proofs.Placed.{not-ready, halted, going-on}
+use Rattle.sheet_feed.proofs.Starting.{nothing, wrote, as-long, after-part}
+use Rattle.sheet_feed.proofs.Stepped.{ends-soundly}
 
 -- ---- the total
 not-read : (r : Reading) → OneOf (1 ∷ 2 ∷ []) (tagOf reading-type.the-type r) → (k : ℕ) × (answerRead r ≡ refused k)

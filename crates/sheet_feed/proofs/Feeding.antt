@@ -12,16 +12,16 @@ use borrow.Rule.Slice.PartAt.{part-to-end}
 use borrow.Rule.Slice.PartMut.{putMid, same-len-mid}
 use lib.ListN.{length, take, drop, getD, length-drop}
 use lib.Seq.{take-suc}
-use Rattle.printed.specs.States.{State, takeByte, byteText, takeBytes, bytesText}
-use Rattle.places.specs.Places.{stateOf, goesOn}
-use Rattle.printer.specs.Calls.{Starts, Feeds}
-use Rattle.printer.specs.Inner.{Steps}
-use Rattle.printer.specs.declared.Fed.{Fed}
-use Rattle.printer.specs.declared.Next.{Next}
-use Rattle.printed.proofs.Lengths.{byte-most}
-use Rattle.printed.proofs.Bytes.{states-join, texts-join}
-use Rattle.printer.proofs.Starting.{nothing, as-long, after-part}
-use Rattle.places.proofs.Placed.{halted}
+use Rattle.sheet_spec.specs.States.{State, takeByte, byteText, takeBytes, bytesText}
+use Rattle.sheet_position.specs.Places.{stateOf, goesOn}
+use Rattle.sheet_feed.specs.Calls.{Starts, Feeds}
+use Rattle.sheet_feed.specs.Inner.{Steps}
+use Rattle.sheet_feed.specs.declared.Fed.{Fed}
+use Rattle.sheet_feed.specs.declared.Next.{Next}
+use Rattle.sheet_spec.proofs.Lengths.{byte-most}
+use Rattle.sheet_spec.proofs.Bytes.{states-join, texts-join}
+use Rattle.sheet_feed.proofs.Starting.{nothing, as-long, after-part}
+use Rattle.sheet_position.proofs.Placed.{halted}
 
 -- ---- the loop: what has been taken, and what has been printed
 pub record Taken (bytes : List ℕ) (s : State) (out : List ℕ) (at used : ℕ) (here : State) (out' : List ℕ) : Type 0 where

@@ -7,8 +7,8 @@ use borrow.Author.Tests.{le-leb}
 use borrow.Rule.Slice.PartAt.{part-to-end}
 use lib.ListN.{length, take, drop, length-append, length-drop}
 use lib.Seq.{take-at, drop-at, drop-drop, drop-length}
-use Rattle.texts.specs.Texts.{written, afterWriting}
-use Rattle.printer.specs.Calls.{Starts}
+use Rattle.transcript_spec.specs.Texts.{written, afterWriting}
+use Rattle.sheet_feed.specs.Calls.{Starts}
 
 -- no text
 pub nothing : (out : List ℕ) → Starts out [] 0 out

@@ -10,20 +10,20 @@ use native.Mathlib.Omega.{arith}
 use native.Mathlib.Numerals.{add-one}
 use lib.ListN.{length, take}
 use lib.Seq.{length-take-le}
-use Rattle.question.specs.Questions.{Answer, reading}
-use Rattle.texts.specs.Texts.{stopText}
-use Rattle.printed.specs.Printed.{Progress, lineText, isGood, afterLine}
-use Rattle.printed.specs.States.{State, longer, stop, extend}
-use Rattle.printed.proofs.Lengths.{line-most}
-use Rattle.answers.specs.Answers.{Answers}
-use Rattle.answers.specs.declared.Answered.{Answered}
-use Rattle.places.specs.Places.{stateOf, Runs, progressOf}
-use Rattle.printer.specs.Calls.{Starts}
-use Rattle.printer.specs.Inner.{Steps, LineEnds}
-use Rattle.places.specs.declared.Place.{Place}
-use Rattle.printer.specs.declared.Next.{Next}
-use Rattle.printer.proofs.Starting.{wrote}
-use Rattle.places.proofs.Placed.{going-on, at-stop, at-end, at-other}
+use Rattle.question_spec.specs.Questions.{Answer, reading}
+use Rattle.transcript_spec.specs.Texts.{stopText}
+use Rattle.sheet_spec.specs.Printed.{Progress, lineText, isGood, afterLine}
+use Rattle.sheet_spec.specs.States.{State, longer, stop, extend}
+use Rattle.sheet_spec.proofs.Lengths.{line-most}
+use Rattle.sheet_line.specs.Answers.{Answers}
+use Rattle.sheet_line.specs.declared.Answered.{Answered}
+use Rattle.sheet_position.specs.Places.{stateOf, Runs, progressOf}
+use Rattle.sheet_feed.specs.Calls.{Starts}
+use Rattle.sheet_feed.specs.Inner.{Steps, LineEnds}
+use Rattle.sheet_position.specs.declared.Place.{Place}
+use Rattle.sheet_feed.specs.declared.Next.{Next}
+use Rattle.sheet_feed.proofs.Starting.{wrote}
+use Rattle.sheet_position.proofs.Placed.{going-on, at-stop, at-end, at-other}
 
 -- ---- the end of a line
 pub as-many : (line : List ℕ) (n : ℕ) → n ≤ 22 → length line ≡ 22 → n ≡ length (take n line)

@@ -5,9 +5,9 @@ use mathlib.Core.Logic.{_⊎_}
 use mathlib.Core.Bool.{true, false}
 use mathlib.Core.List.{List, _++_}
 use lib.ListN.{length, take, drop}
-use Rattle.printed.specs.States.{State, takeBytes, bytesText, lastLine, closeText}
-use Rattle.places.specs.Places.{lineRoom}
-use Rattle.printer.specs.declared.Fed.{Fed}
+use Rattle.sheet_spec.specs.States.{State, takeBytes, bytesText, lastLine, closeText}
+use Rattle.sheet_position.specs.Places.{lineRoom}
+use Rattle.sheet_feed.specs.declared.Fed.{Fed}
 
 -- a text at the start of a lent buffer, which is as it was behind it
 abbrev pub Starts : List ℕ → List ℕ → ℕ → List ℕ → Type 0

@@ -4,13 +4,13 @@ use mathlib.Core.Path.{_≡_}
 use mathlib.Core.Bool.{false}
 use mathlib.Core.List.{List}
 use lib.ListN.{length as size}
-use Rattle.question.specs.Questions.{reading}
-use Rattle.printed.specs.Printed.{lineText, Progress, afterLine}
-use Rattle.printed.specs.States.{State, takeByte, byteText, lastLine, lastText}
-use Rattle.places.specs.Places.{progressOf}
-use Rattle.printer.specs.Calls.{Starts}
-use Rattle.places.specs.declared.Place.{Place}
-use Rattle.printer.specs.declared.Next.{Next}
+use Rattle.question_spec.specs.Questions.{reading}
+use Rattle.sheet_spec.specs.Printed.{lineText, Progress, afterLine}
+use Rattle.sheet_spec.specs.States.{State, takeByte, byteText, lastLine, lastText}
+use Rattle.sheet_position.specs.Places.{progressOf}
+use Rattle.sheet_feed.specs.Calls.{Starts}
+use Rattle.sheet_position.specs.declared.Place.{Place}
+use Rattle.sheet_feed.specs.declared.Next.{Next}
 
 -- a byte is taken
 pub record Steps (s : State) (b : ℕ) (out : List ℕ) (r : Next) (after : State) (out' : List ℕ) : Type 0 where

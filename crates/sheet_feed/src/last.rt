@@ -5,12 +5,12 @@ use crate::step;
 use accumulator::Reading;
 ghost use Prim.Native.Nat.{_≤_};
 ghost use lib.ListN.{length};
-ghost use Rattle.totals.specs.Totals.{reading};
-ghost use Rattle.answers.specs.Answers.{Writes};
-ghost use Rattle.printed.specs.Printed.{readText, closingText};
-ghost use Rattle.places.specs.Places.{stateOf, lineRoom, Runs, progressOf};
-ghost use Rattle.printer.specs.Calls.{Starts};
-ghost use Rattle.printer.specs.Inner.{LastLine};
+ghost use Rattle.accumulator_spec.specs.Totals.{reading};
+ghost use Rattle.sheet_line.specs.Answers.{Writes};
+ghost use Rattle.sheet_spec.specs.Printed.{readText, closingText};
+ghost use Rattle.sheet_position.specs.Places.{stateOf, lineRoom, Runs, progressOf};
+ghost use Rattle.sheet_feed.specs.Calls.{Starts};
+ghost use Rattle.sheet_feed.specs.Inner.{LastLine};
 
 // A line without newline counts, if it has a byte.
 pub fn open_line(place: Place, line: &[u8; 22], total: &mut [u32], out: &mut [u8]) -> Next

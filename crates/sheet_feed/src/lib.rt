@@ -2,10 +2,10 @@
 mod last;
 mod step;
 
-pub use places::Place;
-pub use places::begin;
-ghost use Rattle.places.specs.Places.{stateOf};
-ghost use Rattle.printer.specs.Calls.{Feeds, Ends};
+pub use sheet_position::Place;
+pub use sheet_position::begin;
+ghost use Rattle.sheet_position.specs.Places.{stateOf};
+ghost use Rattle.sheet_feed.specs.Calls.{Feeds, Ends};
 
 pub struct Fed {
     pub place: Place,
@@ -31,7 +31,7 @@ pub fn feed(
     let mut here = place;
     let mut at: usize = 0;
     let mut used: usize = 0;
-    while places::more(bytes.len() - at, here, out.len() - used) {
+    while sheet_position::more(bytes.len() - at, here, out.len() - used) {
         let b = bytes[at];
         let next = step::byte(b, here, line, total, &mut out[used..]);
         here = next.place;
@@ -49,7 +49,7 @@ pub fn feed(
 pub fn finish(place: Place, line: &[u8; 22], total: &mut [u32], out: &mut [u8]) -> usize
     ensures { λ r. ⌜ Ends (stateOf place (now (line .entry)) (now (total .entry))) (now (out .entry)) r (now (total .exit)) (now (out .exit)) ⌝ }
 {
-    if !places::ready(place, out.len(), 740) {
+    if !sheet_position::ready(place, out.len(), 740) {
         return 0;
     }
     let here = last::open_line(place, line, total, out);

@@ -6,11 +6,11 @@ ghost use mathlib.Core.Bool.{true};
 ghost use mathlib.Core.List.{List};
 ghost use Prim.Native.Nat.{ℕ, suc, _≤_, _<_};
 ghost use lib.ListN.{length, take};
-ghost use Rattle.texts.specs.Texts.{stopText};
-ghost use Rattle.printed.specs.States.{extend};
-ghost use Rattle.places.specs.Places.{stateOf, lineRoom, Runs};
-ghost use Rattle.printer.specs.Calls.{Starts};
-ghost use Rattle.printer.specs.Inner.{Steps, LineEnds};
+ghost use Rattle.transcript_spec.specs.Texts.{stopText};
+ghost use Rattle.sheet_spec.specs.States.{extend};
+ghost use Rattle.sheet_position.specs.Places.{stateOf, lineRoom, Runs};
+ghost use Rattle.sheet_feed.specs.Calls.{Starts};
+ghost use Rattle.sheet_feed.specs.Inner.{Steps, LineEnds};
 
 pub fn byte(b: u8, place: Place, line: &mut [u8; 22], total: &mut [u32], out: &mut [u8]) -> Next
     requires { ⌜ Runs place × (lineRoom ≤ length (now out)) ⌝ }
@@ -46,7 +46,7 @@ pub fn end_line(place: Place, line: &[u8; 22], total: &mut [u32], out: &mut [u8]
     let n = place.length;
     let number = place.lines + 1;
     let text = &line[..];
-    let answered = answers::line(&text[..n], number, total, out);
+    let answered = sheet_line::line(&text[..n], number, total, out);
     Next {
         place: Place {
             lines: number,
@@ -62,7 +62,7 @@ fn extended(place: Place, line: &mut [u8; 22], b: u8) -> Next
     requires { ⌜ Runs place × (place .lines < 32768) ⌝ }
     ensures { λ r. ⌜ (r .written ≡ 0) × ((total : List ℕ) → stateOf (r .place) (now (line .exit)) total ≡ extend (stateOf place (now (line .entry)) total) b) ⌝ }
 {
-    let length = places::kept(place.length, line, b);
+    let length = sheet_position::kept(place.length, line, b);
     Next {
         place: Place {
             lines: place.lines,

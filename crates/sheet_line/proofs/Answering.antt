@@ -8,26 +8,26 @@ use borrow.Author.Tests.{le-leb}
 use denote.Enum.Declared.{tagOf}
 use types.Run.{OneOf, miss}
 use lib.ListN.{length}
-use Rattle.rounding.specs.Format.{binary32}
-use Rattle.rounding.specs.Value.{decode, isFinite}
-use Rattle.pairs.specs.declared.Pair.{Pair}
-use Rattle.emulation.specs.Filling.{filled, filling, afterFilling}
-use Rattle.emulation.specs.Filling.{Answer as Filling·Answer, refused as filling·refused}
+use Rattle.rounding_spec.specs.Format.{binary32}
+use Rattle.rounding_spec.specs.Value.{decode, isFinite}
+use Rattle.augmented_spec.specs.declared.Pair.{Pair}
+use Rattle.worksheet_spec.specs.Filling.{filled, filling, afterFilling}
+use Rattle.worksheet_spec.specs.Filling.{Answer as Filling·Answer, refused as filling·refused}
 use Rattle.worksheet.specs.Answers.{answerFilled}
 use Rattle.worksheet.specs.declared.Filled.{Filled}
 use Rattle.worksheet.specs.declared.Filled.the-variants as the-filled
 use Rattle.worksheet.proofs.Filled as filled-type
-use Rattle.totals.specs.Totals.{ofPattern, afterAdding}
-use Rattle.totals.specs.Columns.{column}
-use Rattle.question.specs.Questions.{Answer, asked, refused}
+use Rattle.accumulator_spec.specs.Totals.{ofPattern, afterAdding}
+use Rattle.accumulator_spec.specs.Columns.{column}
+use Rattle.question_spec.specs.Questions.{Answer, asked, refused}
 use Rattle.question.specs.Answers.{answerOf}
 use Rattle.question.specs.declared.Question.{Question}
 use Rattle.question.specs.declared.Question.the-variants as the-question
 use Rattle.question.proofs.Question as question-type
-use Rattle.texts.specs.Texts.{answeredText, badText, written, afterWriting}
-use Rattle.printed.specs.Printed.{blank, filledText, lineText, pairTerms}
-use Rattle.answers.specs.Answers.{Writes, Answers}
-use Rattle.answers.specs.Inner.{refusalOf, halfTerms}
+use Rattle.transcript_spec.specs.Texts.{answeredText, badText, written, afterWriting}
+use Rattle.sheet_spec.specs.Printed.{blank, filledText, lineText, pairTerms}
+use Rattle.sheet_line.specs.Answers.{Writes, Answers}
+use Rattle.sheet_line.specs.Inner.{refusalOf, halfTerms}
 
 -- ---- the total
 pub both-finite : (a b c d : Bool) → c ≡ a → c ≡ true → d ≡ b → d ≡ a && b

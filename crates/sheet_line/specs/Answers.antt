@@ -3,11 +3,11 @@ use Prim.Native.Nat.{ℕ}
 use mathlib.Core.Path.{_≡_}
 use mathlib.Core.Bool.{cond}
 use mathlib.Core.List.{List}
-use Rattle.question.specs.Questions.{Answer}
-use Rattle.totals.specs.Columns.{column}
-use Rattle.texts.specs.Texts.{written, afterWriting}
-use Rattle.printed.specs.Printed.{lineText, isGood, lineTerms}
-use Rattle.answers.specs.declared.Answered.{Answered}
+use Rattle.question_spec.specs.Questions.{Answer}
+use Rattle.accumulator_spec.specs.Columns.{column}
+use Rattle.transcript_spec.specs.Texts.{written, afterWriting}
+use Rattle.sheet_spec.specs.Printed.{lineText, isGood, lineTerms}
+use Rattle.sheet_line.specs.declared.Answered.{Answered}
 
 -- a text, or nothing where the buffer is too short for it
 abbrev pub Writes : List ℕ → List ℕ → ℕ → List ℕ → Type 0

@@ -2,10 +2,10 @@
 use Prim.Native.Nat.{ℕ}
 use mathlib.Core.Bool.{cond, _&&_}
 use mathlib.Core.List.{List, [], _∷_}
-use Rattle.rounding.specs.Format.{binary32}
-use Rattle.rounding.specs.Value.{decode, isFinite}
-use Rattle.totals.specs.Totals.{Term, ofPattern}
-use Rattle.question.specs.Questions.{Answer, asked, refused}
+use Rattle.rounding_spec.specs.Format.{binary32}
+use Rattle.rounding_spec.specs.Value.{decode, isFinite}
+use Rattle.accumulator_spec.specs.Totals.{Term, ofPattern}
+use Rattle.question_spec.specs.Questions.{Answer, asked, refused}
 
 -- the number of a refusal
 abbrev pub refusalOf : Answer → ℕ

@@ -1,10 +1,10 @@
 // A question's pair, added to the total.
 ghost use mathlib.Core.Path.{_≡_};
 ghost use mathlib.Core.Bool.{_&&_};
-ghost use Rattle.rounding.specs.Format.{binary32};
-ghost use Rattle.rounding.specs.Value.{decode, isFinite};
-ghost use Rattle.totals.specs.Columns.{column};
-ghost use Rattle.answers.specs.Inner.{halfTerms};
+ghost use Rattle.rounding_spec.specs.Format.{binary32};
+ghost use Rattle.rounding_spec.specs.Value.{decode, isFinite};
+ghost use Rattle.accumulator_spec.specs.Columns.{column};
+ghost use Rattle.sheet_line.specs.Inner.{halfTerms};
 
 // Both halves, if both are finite: those of inexact products too.
 pub fn halves(total: &mut [u32], first: u32, second: u32)

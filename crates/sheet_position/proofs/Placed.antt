@@ -8,13 +8,13 @@ use native.Mathlib.Omega.{arith}
 use borrow.Author.Tests.{le-leb, lt-leb, lt-ltb, le-ltb, ltb-false, leb-true, leb-false, ltb-true, eq-eqb, ne-eqb, eqb-true, not-false}
 use lib.Dec.{eqb, leb, ltb}
 use lib.ListN.{length, take}
-use Rattle.totals.specs.Columns.{zeros}
-use Rattle.question.specs.Questions.{reading}
-use Rattle.texts.specs.Texts.{stopText}
-use Rattle.printed.specs.Printed.{lineText}
-use Rattle.printed.specs.States.{State, begin, stop, endLine, extend, takeByte, byteText}
-use Rattle.places.specs.Places.{sound, stateOf, goesOn, readyFor, takesMore, Runs, progressOf}
-use Rattle.places.specs.declared.Place.{Place}
+use Rattle.accumulator_spec.specs.Columns.{zeros}
+use Rattle.question_spec.specs.Questions.{reading}
+use Rattle.transcript_spec.specs.Texts.{stopText}
+use Rattle.sheet_spec.specs.Printed.{lineText}
+use Rattle.sheet_spec.specs.States.{State, begin, stop, endLine, extend, takeByte, byteText}
+use Rattle.sheet_position.specs.Places.{sound, stateOf, goesOn, readyFor, takesMore, Runs, progressOf}
+use Rattle.sheet_position.specs.declared.Place.{Place}
 
 -- ---- whether a run goes on
 pub and-both : (a b : Bool) → a && b ≡ true → (a ≡ true) × (b ≡ true)

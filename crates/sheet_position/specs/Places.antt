@@ -6,10 +6,10 @@ use mathlib.Core.Bool.{Bool, false, not, _&&_, _||_}
 use mathlib.Core.List.{List}
 use lib.Dec.{eqb, leb, ltb}
 use lib.ListN.{take}
-use Rattle.totals.specs.Columns.{zeros}
-use Rattle.printed.specs.Printed.{Progress}
-use Rattle.printed.specs.States.{State, begin}
-use Rattle.places.specs.declared.Place.{Place}
+use Rattle.accumulator_spec.specs.Columns.{zeros}
+use Rattle.sheet_spec.specs.Printed.{Progress}
+use Rattle.sheet_spec.specs.States.{State, begin}
+use Rattle.sheet_position.specs.declared.Place.{Place}
 
 -- counts that a run can have: a line is open only before line 32,769
 unfoldable pub sound : Place → Bool

@@ -2,8 +2,8 @@
 ghost use mathlib.Core.Path.{_≡_};
 ghost use Prim.Native.Nat.{_≤_};
 ghost use lib.ListN.{take};
-ghost use Rattle.printed.specs.States.{longer};
-ghost use Rattle.places.specs.Places.{Begins, goesOn, readyFor, takesMore};
+ghost use Rattle.sheet_spec.specs.States.{longer};
+ghost use Rattle.sheet_position.specs.Places.{Begins, goesOn, readyFor, takesMore};
 
 // Lines that have ended, good ones among them, bytes of the open line, and whether `stop` was printed.
 pub struct Place {

@@ -7,12 +7,12 @@ use native.Mathlib.Omega.{arith}
 use borrow.Author.Tests.{le-leb, lt-leb}
 use lib.Dec.{eqb}
 use lib.ListN.{length, take}
-use Rattle.question.specs.Questions.{Answer, reading}
-use Rattle.texts.specs.Texts.{stopText}
-use Rattle.printed.specs.Printed.{linesFrom, lineText, Progress, start, afterAnswer, afterLine, closingText}
-use Rattle.printed.specs.States.{State, begin, stop, takeByte, byteText, takeBytes, bytesText, closeText}
-use Rattle.printed.specs.Theorems.{ByteByByte, joined, readsText, AnyReads, NothingAfterStop}
-use Rattle.printed.proofs.Lines.{ending, output-is, Some, either, has-byte, some-line, first-bytes, take-again}
+use Rattle.question_spec.specs.Questions.{Answer, reading}
+use Rattle.transcript_spec.specs.Texts.{stopText}
+use Rattle.sheet_spec.specs.Printed.{linesFrom, lineText, Progress, start, afterAnswer, afterLine, closingText}
+use Rattle.sheet_spec.specs.States.{State, begin, stop, takeByte, byteText, takeBytes, bytesText, closeText}
+use Rattle.sheet_spec.specs.Theorems.{ByteByByte, joined, readsText, AnyReads, NothingAfterStop}
+use Rattle.sheet_spec.proofs.Lines.{ending, output-is, Some, either, has-byte, some-line, first-bytes, take-again}
 
 -- everything that is printed from a state on
 abbrev pub printed : State → List ℕ → List ℕ

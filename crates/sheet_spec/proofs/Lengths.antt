@@ -6,17 +6,17 @@ use Prim.Native.Nat.{ℕ, suc, _-_, _≤_}
 use native.Mathlib.Omega.{arith}
 use lib.Dec.{eqb, leb}
 use lib.ListN.{length, length-append}
-use Rattle.emulation.specs.Filling.{filled, filling, afterFilling}
-use Rattle.emulation.specs.Filling.{Answer as Filling·Answer, refused as filling·refused}
-use Rattle.totals.specs.Totals.{pair, done, reading as readTotal}
-use Rattle.totals.specs.Totals.{Answer as Totals·Answer, refused as totals·refused}
-use Rattle.question.specs.Questions.{Answer, asked, refused, reading}
-use Rattle.texts.specs.Texts.{badText, totalText, endText, stopText}
-use Rattle.texts.proofs.DecimalLaws.{decimal-most}
-use Rattle.texts.proofs.TextLengths.{counts-length}
-use Rattle.texts.proofs.Theorems.{at-most}
-use Rattle.printed.specs.Printed.{blank, filledText, lineText, Progress, readText, closingText}
-use Rattle.printed.specs.States.{State, byteText, lastText}
+use Rattle.worksheet_spec.specs.Filling.{filled, filling, afterFilling}
+use Rattle.worksheet_spec.specs.Filling.{Answer as Filling·Answer, refused as filling·refused}
+use Rattle.accumulator_spec.specs.Totals.{pair, done, reading as readTotal}
+use Rattle.accumulator_spec.specs.Totals.{Answer as Totals·Answer, refused as totals·refused}
+use Rattle.question_spec.specs.Questions.{Answer, asked, refused, reading}
+use Rattle.transcript_spec.specs.Texts.{badText, totalText, endText, stopText}
+use Rattle.transcript_spec.proofs.DecimalLaws.{decimal-most}
+use Rattle.transcript_spec.proofs.TextLengths.{counts-length}
+use Rattle.transcript_spec.proofs.Theorems.{at-most}
+use Rattle.sheet_spec.specs.Printed.{blank, filledText, lineText, Progress, readText, closingText}
+use Rattle.sheet_spec.specs.States.{State, byteText, lastText}
 
 -- ---- the text of any line has at most 680 bytes
 bad-most : (number k : ℕ) → length (badText number k) ≤ 26

@@ -9,10 +9,10 @@ use borrow.Author.Tests.{le-leb, lt-leb, ne-eqb}
 use lib.Dec.{eqb, leb}
 use lib.ListN.{length, take}
 use lib.Seq.{take-all, length-take-le}
-use Rattle.question.specs.Questions.{reading}
-use Rattle.question.proofs.Theorems.{refused-in-order}
-use Rattle.texts.specs.Texts.{stopText}
-use Rattle.printed.specs.Printed.{linesFrom, linesOf, lineText, Progress, start, afterLine, afterLines, linesText, closingText, output}
+use Rattle.question_spec.specs.Questions.{reading}
+use Rattle.question_spec.proofs.Theorems.{refused-in-order}
+use Rattle.transcript_spec.specs.Texts.{stopText}
+use Rattle.sheet_spec.specs.Printed.{linesFrom, linesOf, lineText, Progress, start, afterLine, afterLines, linesText, closingText, output}
 
 -- what the lines print, and what stands last, with room for so many lines
 unfoldable pub ending : Progress → ℕ → List (List ℕ) → List ℕ

@@ -2,16 +2,16 @@
 use mathlib.Core.Path.{_≡_, ap}
 use mathlib.Core.List.{[], _++_}
 use native.Mathlib.Omega.{arith}
-use Rattle.totals.specs.Totals.{Answer, pair, reading}
-use Rattle.totals.specs.Columns.{zeros, column, AllFinite, columnSum}
-use Rattle.totals.proofs.Columns.{exact-column}
-use Rattle.totals.proofs.ReadTotal.{read-zero}
-use Rattle.question.specs.Questions as questions
-use Rattle.texts.specs.Texts.{decimalUpTo, badText, endText}
-use Rattle.printed.specs.Printed.{linesFrom, lineText, afterLine, afterLines, linesText, readText, closingText, output}
-use Rattle.printed.specs.Theorems.{ByteByByte, AnyReads, NothingAfterStop, NeverRefused, LineTerms, TotalTakesAll, EmptyInput, TwoBadLines, All}
-use Rattle.printed.proofs.Bytes as bytes
-use Rattle.printed.proofs.Totals as totals
+use Rattle.accumulator_spec.specs.Totals.{Answer, pair, reading}
+use Rattle.accumulator_spec.specs.Columns.{zeros, column, AllFinite, columnSum}
+use Rattle.accumulator_spec.proofs.Columns.{exact-column}
+use Rattle.accumulator_spec.proofs.ReadTotal.{read-zero}
+use Rattle.question_spec.specs.Questions as questions
+use Rattle.transcript_spec.specs.Texts.{decimalUpTo, badText, endText}
+use Rattle.sheet_spec.specs.Printed.{linesFrom, lineText, afterLine, afterLines, linesText, readText, closingText, output}
+use Rattle.sheet_spec.specs.Theorems.{ByteByByte, AnyReads, NothingAfterStop, NeverRefused, LineTerms, TotalTakesAll, EmptyInput, TwoBadLines, All}
+use Rattle.sheet_spec.proofs.Bytes as bytes
+use Rattle.sheet_spec.proofs.Totals as totals
 
 pub byte-by-byte : ByteByByte
 byte-by-byte = bytes.byte-by-byte

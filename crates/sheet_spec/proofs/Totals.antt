@@ -8,21 +8,21 @@ use native.Mathlib.Nat.{le-refl, le-trans, le-of-eq}
 use native.Mathlib.Omega.{arith}
 use borrow.Author.Tests.{le-leb}
 use lib.ListN.{length, length-append}
-use Rattle.rounding.specs.Format.{binary32}
-use Rattle.rounding.specs.Value.{decode, isFinite}
-use Rattle.pairs.specs.declared.Pair.{Pair}
-use Rattle.pairs.specs.Direct.{directPair}
-use Rattle.emulation.specs.Filling.{isOperation, operationOf, filled, answerOf, filling, isFilled}
-use Rattle.emulation.specs.Filling.{Answer as Filling·Answer, refused as filling·refused}
-use Rattle.emulation.proofs.Filling.{fills, answer-is}
-use Rattle.question.specs.Questions.{Answer, asked, refused, reading}
-use Rattle.question.proofs.Theorems.{only-text}
-use Rattle.totals.specs.Totals.{number, Term, ofPattern, afterAdding}
-use Rattle.totals.specs.Columns.{column, AllFinite}
-use Rattle.totals.specs.Theorems.{FitTotal}
-use Rattle.totals.proofs.Columns.{exact-column}
-use Rattle.printed.specs.Printed.{blank, pairTerms, lineTerms, Progress, start, afterLine, afterLines}
-use Rattle.printed.specs.Theorems.{NeverRefused, LineTerms, termsOf, TotalTakesAll}
+use Rattle.rounding_spec.specs.Format.{binary32}
+use Rattle.rounding_spec.specs.Value.{decode, isFinite}
+use Rattle.augmented_spec.specs.declared.Pair.{Pair}
+use Rattle.augmented_spec.specs.Direct.{directPair}
+use Rattle.worksheet_spec.specs.Filling.{isOperation, operationOf, filled, answerOf, filling, isFilled}
+use Rattle.worksheet_spec.specs.Filling.{Answer as Filling·Answer, refused as filling·refused}
+use Rattle.worksheet_spec.proofs.Filling.{fills, answer-is}
+use Rattle.question_spec.specs.Questions.{Answer, asked, refused, reading}
+use Rattle.question_spec.proofs.Theorems.{only-text}
+use Rattle.accumulator_spec.specs.Totals.{number, Term, ofPattern, afterAdding}
+use Rattle.accumulator_spec.specs.Columns.{column, AllFinite}
+use Rattle.accumulator_spec.specs.Theorems.{FitTotal}
+use Rattle.accumulator_spec.proofs.Columns.{exact-column}
+use Rattle.sheet_spec.specs.Printed.{blank, pairTerms, lineTerms, Progress, start, afterLine, afterLines}
+use Rattle.sheet_spec.specs.Theorems.{NeverRefused, LineTerms, termsOf, TotalTakesAll}
 
 -- ---- the terms of a line: none, or two that are finite
 pair-terms : (f : Filling·Answer) → AllFinite (pairTerms f) × (length (pairTerms f) ≤ 2)

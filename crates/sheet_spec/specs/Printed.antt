@@ -4,15 +4,15 @@ use mathlib.Core.Bool.{Bool, true, false, cond, _&&_}
 use mathlib.Core.List.{List, [], _∷_, _++_}
 use lib.Dec.{eqb, leb}
 use lib.ListN.{length, take, replicate}
-use Rattle.rounding.specs.Format.{binary32}
-use Rattle.rounding.specs.Value.{decode, isFinite}
-use Rattle.emulation.specs.Filling.{refused as filling·refused, filled, filling, afterFilling}
-use Rattle.emulation.specs.Filling.{Answer as Filling·Answer}
-use Rattle.totals.specs.Totals.{Term, ofPattern, refused as totals·refused, done, pair, reading as readTotal}
-use Rattle.totals.specs.Totals.{Answer as Totals·Answer}
-use Rattle.totals.specs.Columns.{zeros, column}
-use Rattle.question.specs.Questions.{Answer, asked, refused, reading}
-use Rattle.texts.specs.Texts.{answeredText, badText, totalText, endText, stopText}
+use Rattle.rounding_spec.specs.Format.{binary32}
+use Rattle.rounding_spec.specs.Value.{decode, isFinite}
+use Rattle.worksheet_spec.specs.Filling.{refused as filling·refused, filled, filling, afterFilling}
+use Rattle.worksheet_spec.specs.Filling.{Answer as Filling·Answer}
+use Rattle.accumulator_spec.specs.Totals.{Term, ofPattern, refused as totals·refused, done, pair, reading as readTotal}
+use Rattle.accumulator_spec.specs.Totals.{Answer as Totals·Answer}
+use Rattle.accumulator_spec.specs.Columns.{zeros, column}
+use Rattle.question_spec.specs.Questions.{Answer, asked, refused, reading}
+use Rattle.transcript_spec.specs.Texts.{answeredText, badText, totalText, endText, stopText}
 
 -- ---- "It reads standard input; a last line without newline counts." A line ends at a newline, byte 10, and nowhere else.
 -- the lines of the input, after the bytes of an open line

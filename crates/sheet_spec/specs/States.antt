@@ -4,9 +4,9 @@ use mathlib.Core.Bool.{Bool, true, false, cond}
 use mathlib.Core.List.{List, [], _∷_, _++_}
 use lib.Dec.{eqb, leb}
 use lib.ListN.{length, take}
-use Rattle.question.specs.Questions.{reading}
-use Rattle.texts.specs.Texts.{stopText}
-use Rattle.printed.specs.Printed.{Progress, start, lineText, afterLine, closingText}
+use Rattle.question_spec.specs.Questions.{reading}
+use Rattle.transcript_spec.specs.Texts.{stopText}
+use Rattle.sheet_spec.specs.Printed.{Progress, start, lineText, afterLine, closingText}
 
 -- the lines that have ended, the first bytes of the open line, and whether `stop` was printed. 22 bytes are enough: a line of more than 21 is
 -- refused for its length.

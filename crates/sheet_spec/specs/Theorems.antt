@@ -5,17 +5,17 @@ use mathlib.Core.Logic.{_⊎_}
 use mathlib.Core.Bool.{true, false}
 use mathlib.Core.List.{List, [], _∷_, _++_}
 use lib.ListN.{length}
-use Rattle.rounding.specs.Format.{binary32}
-use Rattle.rounding.specs.Value.{decode, isFinite}
-use Rattle.pairs.specs.Direct.{directPair}
-use Rattle.emulation.specs.Filling.{operationOf, isFilled, filling}
-use Rattle.question.specs.Questions.{asked, refused, reading}
-use Rattle.texts.specs.Texts.{badText, totalText, endText}
-use Rattle.totals.specs.Totals.{number, Term, ofPattern}
-use Rattle.totals.specs.Columns.{zeros, column, Accepted, columnSum}
-use Rattle.totals.specs.Theorems.{FitTotal}
-use Rattle.printed.specs.Printed.{blank, lineTerms, start, afterLines, output}
-use Rattle.printed.specs.States.{State, begin, takeBytes, bytesText, closeText}
+use Rattle.rounding_spec.specs.Format.{binary32}
+use Rattle.rounding_spec.specs.Value.{decode, isFinite}
+use Rattle.augmented_spec.specs.Direct.{directPair}
+use Rattle.worksheet_spec.specs.Filling.{operationOf, isFilled, filling}
+use Rattle.question_spec.specs.Questions.{asked, refused, reading}
+use Rattle.transcript_spec.specs.Texts.{badText, totalText, endText}
+use Rattle.accumulator_spec.specs.Totals.{number, Term, ofPattern}
+use Rattle.accumulator_spec.specs.Columns.{zeros, column, Accepted, columnSum}
+use Rattle.accumulator_spec.specs.Theorems.{FitTotal}
+use Rattle.sheet_spec.specs.Printed.{blank, lineTerms, start, afterLines, output}
+use Rattle.sheet_spec.specs.States.{State, begin, takeBytes, bytesText, closeText}
 
 -- carried from byte to byte, the program prints the definition's text
 abbrev pub ByteByByte : Type 0

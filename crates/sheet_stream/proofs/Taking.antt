@@ -7,15 +7,15 @@ use Prim.Native.Nat.{ℕ, _+_, _-_, _≤_, _<_}
 use native.Mathlib.Omega.{arith}
 use lib.ListN.{length, take, drop, take-append-drop, length-drop}
 use lib.Seq.{take-add, take-all}
-use Rattle.printed.specs.States.{State, takeBytes, bytesText}
-use Rattle.places.specs.Places.{sound, stateOf, lineRoom}
-use Rattle.printer.specs.Calls.{Feeds}
-use Rattle.places.specs.declared.Place.{Place}
-use Rattle.printer.specs.declared.Fed.{Fed}
-use Rattle.printed.proofs.Bytes.{states-join}
-use Rattle.printed.proofs.Theorems.{nothing-after-stop}
-use Rattle.stream.specs.Reads.{Takes}
-use Rattle.stream.specs.declared.Moved.{Moved}
+use Rattle.sheet_spec.specs.States.{State, takeBytes, bytesText}
+use Rattle.sheet_position.specs.Places.{sound, stateOf, lineRoom}
+use Rattle.sheet_feed.specs.Calls.{Feeds}
+use Rattle.sheet_position.specs.declared.Place.{Place}
+use Rattle.sheet_feed.specs.declared.Fed.{Fed}
+use Rattle.sheet_spec.proofs.Bytes.{states-join}
+use Rattle.sheet_spec.proofs.Theorems.{nothing-after-stop}
+use Rattle.sheet_stream.specs.Reads.{Takes}
+use Rattle.sheet_stream.specs.declared.Moved.{Moved}
 
 pub not-false : (b : Bool) → not b ≡ false → b ≡ true
 not-false true e = refl

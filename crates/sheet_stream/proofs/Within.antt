@@ -5,9 +5,9 @@ use Prim.Native.Nat.{ℕ, _≤_}
 use native.Mathlib.Decide.{decLe}
 use native.Mathlib.Omega.{arith}
 use lib.ListN.{length, take, drop, length-append, length-drop}
-use Rattle.printed.specs.States.{State, bytesText, closeText}
-use Rattle.printer.specs.Calls.{Starts, lastRoom, Feeds, Ends}
-use Rattle.printer.specs.declared.Fed.{Fed}
+use Rattle.sheet_spec.specs.States.{State, bytesText, closeText}
+use Rattle.sheet_feed.specs.Calls.{Starts, lastRoom, Feeds, Ends}
+use Rattle.sheet_feed.specs.declared.Fed.{Fed}
 
 starts-within : (out text : List ℕ) (n : ℕ) (out' : List ℕ) → Starts out text n out' → length out' ≡ length out → n ≤ length out'
 starts-within out text n out' s e =

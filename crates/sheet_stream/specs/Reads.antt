@@ -5,10 +5,10 @@ use mathlib.Core.Path.{_≡_}
 use mathlib.Core.Bool.{true, false}
 use mathlib.Core.List.{List}
 use lib.ListN.{length, take}
-use Rattle.printed.specs.States.{State, takeBytes}
-use Rattle.places.specs.Places.{lineRoom}
-use Rattle.stream.specs.declared.Moved.{Moved}
-use Rattle.stream.specs.declared.Turn.{Turn}
+use Rattle.sheet_spec.specs.States.{State, takeBytes}
+use Rattle.sheet_position.specs.Places.{lineRoom}
+use Rattle.sheet_stream.specs.declared.Moved.{Moved}
+use Rattle.sheet_stream.specs.declared.Turn.{Turn}
 
 -- one fill of the buffer, which has this many bytes: the first ones are taken, and none only after `stop`; no more are to be taken only where a
 -- write failed, or after `stop`

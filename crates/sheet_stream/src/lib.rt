@@ -1,9 +1,9 @@
 // Reads questions to the input's end and writes their model sheets. Of all crates only this one reads and writes; the text is `printer`'s.
 // No contract can say what a call read or wrote; what is done with the bytes of a read, `take` says.
-use printer::Place;
+use sheet_feed::Place;
 ghost use lib.ListN.{length};
-ghost use Rattle.places.specs.Places.{stateOf};
-ghost use Rattle.stream.specs.Reads.{Takes, TakesAll};
+ghost use Rattle.sheet_position.specs.Places.{stateOf};
+ghost use Rattle.sheet_stream.specs.Reads.{Takes, TakesAll};
 
 // The place in the input; whether there may be more of it to take; and whether every call has done its work so far.
 pub struct Turn {
@@ -24,7 +24,7 @@ pub fn run(input: i32, output: i32) {
     let mut line = [0u8; 22];
     let mut total = [0u32; 21];
     let mut here = Turn {
-        place: printer::begin(),
+        place: sheet_feed::begin(),
         reading: true,
         whole: true,
     };
@@ -108,7 +108,7 @@ fn some(
 ) -> Moved
     ensures { λ r. ⌜ Takes (now (bytes .entry)) (length (now (out .entry))) (stateOf place (now (line .entry)) (now (total .entry))) r (stateOf (r .turn .place) (now (line .exit)) (now (total .exit))) ⌝ }
 {
-    let fed = printer::feed(bytes, place, line, total, out);
+    let fed = sheet_feed::feed(bytes, place, line, total, out);
     let n = fed.written;
     let whole = io::write_all(output, &out[..n]);
     let taken = fed.taken;
@@ -134,6 +134,6 @@ fn some(
 }
 
 fn close(output: i32, place: Place, line: &[u8; 22], total: &mut [u32], out: &mut [u8]) {
-    let n = printer::finish(place, line, total, out);
+    let n = sheet_feed::finish(place, line, total, out);
     io::write_all(output, &out[..n]);
 }

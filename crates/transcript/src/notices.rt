@@ -1,11 +1,11 @@
 // The lines that belong to no answered question. Each function writes its text at the start of the lent buffer and answers its length;
 // where the buffer is too short, no byte is written and the answer is 0.
-use fields::bytes::put_four;
-use text_lines::lengths;
-use text_lines::put_counts;
-use text_lines::put_total;
+use transcript_fields::bytes::put_four;
+use transcript_lines::lengths;
+use transcript_lines::put_counts;
+use transcript_lines::put_total;
 ghost use mathlib.Core.Path.{_≡_};
-ghost use Rattle.texts.specs.Texts.{badText, totalText, endText, stopText, written, afterWriting};
+ghost use Rattle.transcript_spec.specs.Texts.{badText, totalText, endText, stopText, written, afterWriting};
 
 pub fn bad(out: &mut [u8], number: u32, refusal: u32) -> usize
     ensures { λ r. ⌜ (r ≡ written (now (out .entry)) (badText number refusal)) × (now (out .exit) ≡ afterWriting (now (out .entry)) (badText number refusal)) ⌝ }

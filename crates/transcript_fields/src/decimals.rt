@@ -1,8 +1,8 @@
 // Decimal figures.
 ghost use Prim.Native.Nat.{_+_, _≤_};
 ghost use lib.ListN.{length};
-ghost use Rattle.texts.specs.Texts.{decimal};
-ghost use Rattle.texts.specs.Inner.{Put};
+ghost use Rattle.transcript_spec.specs.Texts.{decimal};
+ghost use Rattle.transcript_spec.specs.Inner.{Put};
 
 pub fn put_decimal(out: &mut [u8], at: usize, n: u32) -> usize
     requires { ⌜ at + length (decimal n) ≤ length (now out) ⌝ }

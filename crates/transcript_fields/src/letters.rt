@@ -4,9 +4,9 @@ ghost use mathlib.Core.Path.{_≡_};
 ghost use mathlib.Core.List.{_∷_};
 ghost use Prim.Native.Nat.{_+_, _≤_};
 ghost use lib.ListN.{length};
-ghost use Rattle.question.specs.Questions.{letters};
-ghost use Rattle.texts.specs.Texts.{stepLetters};
-ghost use Rattle.texts.specs.Inner.{Put};
+ghost use Rattle.question_spec.specs.Questions.{letters};
+ghost use Rattle.transcript_spec.specs.Texts.{stepLetters};
+ghost use Rattle.transcript_spec.specs.Inner.{Put};
 
 fn question(operation: u32) -> [u8; 3]
     ensures { λ r. ⌜ r ≡ letters operation ⌝ }

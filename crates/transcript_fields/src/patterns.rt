@@ -6,9 +6,9 @@ ghost use mathlib.Core.List.{[], _∷_, _++_};
 ghost use Prim.Native.Nat.{_+_, _/_, _%_, _≤_};
 ghost use lib.Dec.{eqb};
 ghost use lib.ListN.{length};
-ghost use Rattle.question.specs.Questions.{digit, patternText};
-ghost use Rattle.texts.specs.Texts.{thirdText};
-ghost use Rattle.texts.specs.Inner.{Put};
+ghost use Rattle.question_spec.specs.Questions.{digit, patternText};
+ghost use Rattle.transcript_spec.specs.Texts.{thirdText};
+ghost use Rattle.transcript_spec.specs.Inner.{Put};
 
 fn hexadecimal(x: u32) -> u8
     ensures { λ r. ⌜ r ≡ digit (x % 16) ⌝ }

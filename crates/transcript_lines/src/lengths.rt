@@ -1,10 +1,10 @@
 // How long the texts are.
-use fields::patterns::takes_two;
-use pairs::Flags;
+use transcript_fields::patterns::takes_two;
+use augmented_spec::Flags;
 ghost use mathlib.Core.Path.{_≡_};
 ghost use Prim.Native.Nat.{ℕ, _+_, _≤_};
 ghost use lib.ListN.{length};
-ghost use Rattle.texts.specs.Texts.{decimal, flagsText, stepText, stepsText};
+ghost use Rattle.transcript_spec.specs.Texts.{decimal, flagsText, stepText, stepsText};
 
 pub fn decimal(n: u32) -> usize
     ensures { λ r. ⌜ (r ≡ length (decimal n)) × (r ≤ 10) ⌝ }

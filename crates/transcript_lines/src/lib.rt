@@ -1,22 +1,22 @@
 // The printed lines. Each writer puts its text at a place of the buffer and answers the place after it.
 pub mod lengths;
 
-use fields::bytes::put_byte;
-use fields::bytes::put_four;
-use fields::decimals::put_decimal;
-use fields::flags::put_flags;
-use fields::letters::put_letters;
-use fields::letters::put_step_letters;
-use fields::patterns::put_pattern;
-use fields::patterns::put_patterns;
-use fields::patterns::put_third;
-use pairs::Pair;
+use transcript_fields::bytes::put_byte;
+use transcript_fields::bytes::put_four;
+use transcript_fields::decimals::put_decimal;
+use transcript_fields::flags::put_flags;
+use transcript_fields::letters::put_letters;
+use transcript_fields::letters::put_step_letters;
+use transcript_fields::patterns::put_pattern;
+use transcript_fields::patterns::put_patterns;
+use transcript_fields::patterns::put_third;
+use augmented_spec::Pair;
 ghost use mathlib.Core.List.{[], _∷_, _++_};
 ghost use Prim.Native.Nat.{_+_, _*_, _≤_, _<_};
 ghost use lib.ListN.{length, getD};
-ghost use Rattle.question.specs.Questions.{patternText};
-ghost use Rattle.texts.specs.Texts.{decimal, thirdText, flagsText, askText, stepText, pairText, totalText, stepsText};
-ghost use Rattle.texts.specs.Inner.{Put};
+ghost use Rattle.question_spec.specs.Questions.{patternText};
+ghost use Rattle.transcript_spec.specs.Texts.{decimal, thirdText, flagsText, askText, stepText, pairText, totalText, stepsText};
+ghost use Rattle.transcript_spec.specs.Inner.{Put};
 
 pub fn put_ask(out: &mut [u8], at: usize, number: u32, operation: u32, x: u32, y: u32) -> usize
     requires { ⌜ at + 27 + length (decimal number) ≤ length (now out) ⌝ }

@@ -6,9 +6,9 @@ use mathlib.Core.List.{List, [], _∷_, _++_}
 use native.Mathlib.Nat.{pow-succ'}
 use native.Mathlib.Omega.{arith}
 use lib.ListN.{length, getD, List·getD-append}
-use Rattle.texts.specs.Texts.{decimalUpTo, decimal}
-use Rattle.texts.specs.Theorems.{fromDigits, Digits}
-use Rattle.texts.proofs.DecimalLaws.{small-or-not, one, last, some}
+use Rattle.transcript_spec.specs.Texts.{decimalUpTo, decimal}
+use Rattle.transcript_spec.specs.Theorems.{fromDigits, Digits}
+use Rattle.transcript_spec.proofs.DecimalLaws.{small-or-not, one, last, some}
 
 -- one digit more
 from-last : (n : ℕ) (t : List ℕ) (c : ℕ) → fromDigits n (t ++ (c ∷ [])) ≡ fromDigits n t * 10 + (c - 48)

@@ -9,7 +9,7 @@ use native.Mathlib.Omega.{arith}
 use borrow.Author.Tests.{lt-ltb, le-ltb, ltb-true, ltb-false}
 use lib.Dec.{ltb}
 use lib.ListN.{length, length-append}
-use Rattle.texts.specs.Texts.{decimalUpTo, decimal}
+use Rattle.transcript_spec.specs.Texts.{decimalUpTo, decimal}
 
 pub small-or-not : (n : ℕ) → (n < 10) ⊎ (10 ≤ n)
 small-or-not n = go (ltb n 10) (ltb-true n 10) (ltb-false n 10)

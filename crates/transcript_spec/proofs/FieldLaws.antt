@@ -9,9 +9,9 @@ use borrow.Author.Tests.{eq-eqb, ne-eqb, eqb-true, eqb-false}
 use mir.Val.{boolByte}
 use lib.Dec.{eqb}
 use lib.ListN.{length, getD, length-append}
-use Rattle.pairs.specs.declared.Flags.{Flags}
-use Rattle.question.specs.Questions.{letters, sumLetters, difLetters, mulLetters, digit, patternText}
-use Rattle.texts.specs.Texts.{stepLetters, thirdText, mark, marks, flagsText}
+use Rattle.augmented_spec.specs.declared.Flags.{Flags}
+use Rattle.question_spec.specs.Questions.{letters, sumLetters, difLetters, mulLetters, digit, patternText}
+use Rattle.transcript_spec.specs.Texts.{stepLetters, thirdText, mark, marks, flagsText}
 
 of-three : (a b c : Bool) (x y z w : List ℕ) → length x ≡ 3 → length y ≡ 3 → length z ≡ 3 → length w ≡ 3 → length (cond a x (cond b y (cond c z w))) ≡ 3
 of-three true b c x y z w p q r s = p

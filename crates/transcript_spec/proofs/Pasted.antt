@@ -5,7 +5,7 @@ use mathlib.Core.List.{List, _++_, append-assoc}
 use native.Mathlib.Omega.{arith}
 use lib.ListN.{length, take, drop, length-append, length-take, length-drop}
 use lib.Seq.{take-at, drop-at, drop-drop}
-use Rattle.texts.specs.Inner.{pasted, Put}
+use Rattle.transcript_spec.specs.Inner.{pasted, Put}
 
 pub pasted-length : (s : List ℕ) (at : ℕ) (t : List ℕ) → at + length t ≤ length s → length (pasted s at t) ≡ length s
 unfolding pasted

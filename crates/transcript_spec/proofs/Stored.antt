@@ -6,8 +6,8 @@ use native.Mathlib.Numerals.{add-one}
 use native.Mathlib.Omega.{arith}
 use lib.ListN.{length, set, take-append-drop, length-set}
 use lib.Seq.{set-split, drop-drop}
-use Rattle.texts.specs.Inner.{pasted, Put}
-use Rattle.texts.proofs.Pasted.{then}
+use Rattle.transcript_spec.specs.Inner.{pasted, Put}
+use Rattle.transcript_spec.proofs.Pasted.{then}
 
 -- a byte stored
 pub stored : (s : List ℕ) (at b r : ℕ) → at + 1 ≤ length s → r ≡ at + 1 → Put s at (b ∷ []) r (set s at b)

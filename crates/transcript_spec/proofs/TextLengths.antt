@@ -6,10 +6,10 @@ use mathlib.Core.List.{List, [], _∷_, _++_, append-assoc}
 use native.Mathlib.Omega.{arith}
 use lib.Dec.{eqb}
 use lib.ListN.{length, length-append}
-use Rattle.pairs.specs.declared.Pair.{Pair}
-use Rattle.question.specs.Questions.{letters, patternText, questionText}
-use Rattle.texts.specs.Texts.{decimal, stepLetters, thirdText, flagsText, askText, stepText, pairText, stepsText, answeredText}
-use Rattle.texts.proofs.FieldLaws.{letters-length, step-letters-length, third-unused, third-used}
+use Rattle.augmented_spec.specs.declared.Pair.{Pair}
+use Rattle.question_spec.specs.Questions.{letters, patternText, questionText}
+use Rattle.transcript_spec.specs.Texts.{decimal, stepLetters, thirdText, flagsText, askText, stepText, pairText, stepsText, answeredText}
+use Rattle.transcript_spec.proofs.FieldLaws.{letters-length, step-letters-length, third-unused, third-used}
 
 pub ask-fields : (n o x y : ℕ)
     → askText n o x y

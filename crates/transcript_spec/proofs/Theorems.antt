@@ -2,15 +2,15 @@
 use Prim.Native.Nat.{ℕ, suc, min, _≤_, _<_}
 use mathlib.Core.Path.{refl, sym}
 use native.Mathlib.Omega.{arith}
-use Rattle.question.specs.Questions.{letters, questionText}
-use Rattle.texts.specs.Texts.{decimalUpTo, stepLetters, thirdText, flagsText, askText, stepText, pairText, badText, totalText, endText, answeredText}
-use Rattle.texts.specs.Theorems.{Decimals, FlagTexts, WrittenWhole, AtMost, Example, NoneEmpty, All}
-use Rattle.texts.proofs.Buffers.{too-short, text-first}
-use Rattle.texts.proofs.DecimalLaws.{decimal-most, decimal-least}
-use Rattle.texts.proofs.DecimalDigits.{makes-number, are-digits, no-zero-first}
-use Rattle.texts.proofs.FieldLaws.{flags-most}
-use Rattle.texts.proofs.TextLengths.{answered-length}
-use Rattle.texts.proofs.WholeSteps.{steps-most}
+use Rattle.question_spec.specs.Questions.{letters, questionText}
+use Rattle.transcript_spec.specs.Texts.{decimalUpTo, stepLetters, thirdText, flagsText, askText, stepText, pairText, badText, totalText, endText, answeredText}
+use Rattle.transcript_spec.specs.Theorems.{Decimals, FlagTexts, WrittenWhole, AtMost, Example, NoneEmpty, All}
+use Rattle.transcript_spec.proofs.Buffers.{too-short, text-first}
+use Rattle.transcript_spec.proofs.DecimalLaws.{decimal-most, decimal-least}
+use Rattle.transcript_spec.proofs.DecimalDigits.{makes-number, are-digits, no-zero-first}
+use Rattle.transcript_spec.proofs.FieldLaws.{flags-most}
+use Rattle.transcript_spec.proofs.TextLengths.{answered-length}
+use Rattle.transcript_spec.proofs.WholeSteps.{steps-most}
 
 pub decimals : Decimals
 decimals n h = (makes-number n h, are-digits n, decimal-least n, decimal-most n, no-zero-first n h)

@@ -6,10 +6,10 @@ use mathlib.Core.List.{List, _++_, append-nil, append-assoc}
 use native.Mathlib.Omega.{arith}
 use lib.ListN.{length, getD, drop, length-append}
 use lib.Seq.{getD-drop}
-use Rattle.texts.specs.Texts.{stepText, stepsText}
-use Rattle.texts.proofs.DecimalLaws.{one-length, two-lengths, small-or-not}
-use Rattle.texts.proofs.FieldLaws.{third-most}
-use Rattle.texts.proofs.TextLengths.{step-length}
+use Rattle.transcript_spec.specs.Texts.{stepText, stepsText}
+use Rattle.transcript_spec.proofs.DecimalLaws.{one-length, two-lengths, small-or-not}
+use Rattle.transcript_spec.proofs.FieldLaws.{third-most}
+use Rattle.transcript_spec.proofs.TextLengths.{step-length}
 
 -- the step at five words from `from` on
 abbrev at-words : ℕ → List ℕ → ℕ → List ℕ

@@ -4,13 +4,13 @@ use mathlib.Core.Path.{_≡_, sym, _∙_}
 use mathlib.Core.List.{List, [], _∷_, _++_}
 use native.Mathlib.Omega.{arith}
 use lib.ListN.{length, getD}
-use Rattle.pairs.specs.declared.Flags.{Flags}
-use Rattle.question.specs.Questions.{digit, patternText}
-use Rattle.texts.specs.Texts.{marks, flagsText, written, afterWriting}
-use Rattle.texts.specs.Inner.{pasted, Put}
-use Rattle.texts.proofs.Buffers.{fits}
-use Rattle.texts.proofs.Stored.{nothing-put}
-use Rattle.texts.proofs.FieldLaws.{by-letters, half, halves, empty, no-flags}
+use Rattle.augmented_spec.specs.declared.Flags.{Flags}
+use Rattle.question_spec.specs.Questions.{digit, patternText}
+use Rattle.transcript_spec.specs.Texts.{marks, flagsText, written, afterWriting}
+use Rattle.transcript_spec.specs.Inner.{pasted, Put}
+use Rattle.transcript_spec.proofs.Buffers.{fits}
+use Rattle.transcript_spec.proofs.Stored.{nothing-put}
+use Rattle.transcript_spec.proofs.FieldLaws.{by-letters, half, halves, empty, no-flags}
 
 pub whole : {s v t : List ℕ} {r : ℕ} → Put s 0 t r v → (r ≡ written s t) × (v ≡ afterWriting s t)
 unfolding pasted

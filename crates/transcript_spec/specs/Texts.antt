@@ -5,9 +5,9 @@ use mathlib.Core.Bool.{Bool, cond, _||_}
 use mathlib.Core.List.{List, [], _∷_, _++_}
 use lib.Dec.{eqb, ltb, leb}
 use lib.ListN.{length, getD, drop}
-use Rattle.pairs.specs.declared.Flags.{Flags}
-use Rattle.pairs.specs.declared.Pair.{Pair}
-use Rattle.question.specs.Questions.{patternText, questionText}
+use Rattle.augmented_spec.specs.declared.Flags.{Flags}
+use Rattle.augmented_spec.specs.declared.Pair.{Pair}
+use Rattle.question_spec.specs.Questions.{patternText, questionText}
 
 -- ---- fields
 -- "other figures are decimal": without zeros in front; up to `most` digits

@@ -4,9 +4,9 @@ use mathlib.Core.Path.{_≡_}
 use mathlib.Core.Logic.{_≢_}
 use mathlib.Core.List.{List, [], _∷_}
 use lib.ListN.{length, getD, take, drop}
-use Rattle.pairs.specs.Direct.{none, I, OX, UX}
-use Rattle.pairs.specs.declared.Pair.{Pair}
-use Rattle.texts.specs.Texts.{decimal, flagsText, askText, stepText, pairText, badText, totalText, endText, stopText, answeredText, written, afterWriting}
+use Rattle.augmented_spec.specs.Direct.{none, I, OX, UX}
+use Rattle.augmented_spec.specs.declared.Pair.{Pair}
+use Rattle.transcript_spec.specs.Texts.{decimal, flagsText, askText, stepText, pairText, badText, totalText, endText, stopText, answeredText, written, afterWriting}
 
 -- the number that decimal digits make, the most significant first
 unfoldable pub fromDigits : ℕ → List ℕ → ℕ

@@ -8,18 +8,18 @@ use native.Mathlib.Omega.{arith}
 use borrow.Author.Tests.{le-leb}
 use lib.ListN.{length, drop, replicate, length-append}
 use lib.Seq.{set-append-seam, append-snoc}
-use Rattle.rounding.specs.Format.{binary32}
-use Rattle.pairs.specs.declared.Flags.{Flags}
-use Rattle.pairs.specs.Direct.{Operation, directPair}
-use Rattle.emulation.specs.Lines.{Line}
-use Rattle.emulation.specs.Sheets.{sheetOf}
-use Rattle.emulation.specs.Filling.{isOperation, operationOf, lineWords, wordsOf, sheetWords, Answer, refused, filled, answerOf, filling, afterFilling, HasDirectPair}
-use Rattle.emulation.proofs.Filling.{fills, filled-words}
-use Rattle.emulation.proofs.Theorems.{at-most-13, filling-refused, filled-pair}
-use Rattle.sheet_lines.specs.Inner.{placed, Follows, flat}
-use Rattle.sheet_lines.specs.declared.Foot.{Foot}
-use Rattle.sheet_lines.proofs.Placed.{Places}
-use Rattle.sheet_lines.proofs.Copied.{flat-snoc}
+use Rattle.rounding_spec.specs.Format.{binary32}
+use Rattle.augmented_spec.specs.declared.Flags.{Flags}
+use Rattle.augmented_spec.specs.Direct.{Operation, directPair}
+use Rattle.worksheet_spec.specs.Lines.{Line}
+use Rattle.worksheet_spec.specs.Sheets.{sheetOf}
+use Rattle.worksheet_spec.specs.Filling.{isOperation, operationOf, lineWords, wordsOf, sheetWords, Answer, refused, filled, answerOf, filling, afterFilling, HasDirectPair}
+use Rattle.worksheet_spec.proofs.Filling.{fills, filled-words}
+use Rattle.worksheet_spec.proofs.Theorems.{at-most-13, filling-refused, filled-pair}
+use Rattle.worksheet_lines.specs.Inner.{placed, Follows, flat}
+use Rattle.worksheet_lines.specs.declared.Foot.{Foot}
+use Rattle.worksheet_lines.proofs.Placed.{Places}
+use Rattle.worksheet_lines.proofs.Copied.{flat-snoc}
 
 -- ---- words
 abbrev pub blank : ℕ → Places

@@ -6,13 +6,13 @@ use native.Mathlib.Decide.{decLe}
 use native.Mathlib.Omega.{arith}
 use lib.Dec.{leb, eqb}
 use borrow.Author.Tests.{le-leb, lt-leb}
-use Rattle.rounding.specs.Value.{isInfinite}
-use Rattle.pairs.proofs.Patterns.{picked-and}
-use Rattle.emulation.specs.Constants.{twoTo127, twoTo102, twoToMinus102, twoToMinus126}
-use Rattle.emulation.specs.Lines.{value, minus, equal, copySign, zero}
-use Rattle.emulation.specs.Sheets.{atEdge, overflows, tinyTie, restTie}
-use Rattle.emulation.proofs.Patterns.{minus-width, sign-width}
-use Rattle.comparisons.proofs.Equality.{equal-one}
+use Rattle.rounding_spec.specs.Value.{isInfinite}
+use Rattle.augmented_spec.proofs.Patterns.{chosen-and}
+use Rattle.worksheet_spec.specs.Constants.{twoTo127, twoTo102, twoToMinus102, twoToMinus126}
+use Rattle.worksheet_spec.specs.Lines.{value, minus, equal, copySign, zero}
+use Rattle.worksheet_spec.specs.Sheets.{atEdge, overflows, tinyTie, restTie}
+use Rattle.worksheet_spec.proofs.Patterns.{minus-width, sign-width}
+use Rattle.worksheet_choices.proofs.Equality.{equal-one}
 
 -- ---- constants with a sign
 minus-below : (x : ℕ) → x < 2 ^ 32 → minus x % 2 ^ 31 ≡ x % 2 ^ 31
@@ -54,13 +54,13 @@ overflow-is second a p q d e = unless p q ∙ ap₂ (λ (b c : Bool). not b && c
 pub edge-is : (a b : ℕ) → a < 2 ^ 32 → b < 2 ^ 32 → (p q r : ℕ) → p ≡ copySign twoTo127 a → q ≡ copySign twoTo102 a → r ≡ minus q → cond (eqb a p) (eqb b r) false ≡ atEdge a b
 unfolding atEdge
 edge-is a b v w p q r d e f =
-    picked-and (eqb a p) (eqb b r)
+    chosen-and (eqb a p) (eqb b r)
     ∙ ap₂ _&&_ (ap (eqb a) d ∙ like-sign a a twoTo127 v (omega arith) (omega arith)) (ap (eqb b) (f ∙ ap minus e) ∙ other-sign b a twoTo102 w (omega arith) (omega arith))
 
 pub tiny-tie-is : (a z w t2 : ℕ) → z < 2 ^ 32 → (p q : ℕ) (b : Bool) → p ≡ copySign twoToMinus102 a → q ≡ minus p → b ≡ equal w t2 → cond (eqb z q) b false ≡ tinyTie a z w t2
 unfolding tinyTie
 tiny-tie-is a z w t2 v p q b d e f =
-    picked-and (eqb z q) b ∙ ap₂ _&&_ (ap (eqb z) (e ∙ ap minus d) ∙ other-sign z a twoToMinus102 v (omega arith) (omega arith)) f
+    chosen-and (eqb z q) b ∙ ap₂ _&&_ (ap (eqb z) (e ∙ ap minus d) ∙ other-sign z a twoToMinus102 v (omega arith) (omega arith)) f
 
 pub rest-tie-is : (β r : ℕ) → r < 2 ^ 32 → (p : ℕ) (b : Bool) → p ≡ copySign twoToMinus126 β → b ≡ zero β → cond b false (eqb r p) ≡ restTie β r
 unfolding restTie

@@ -7,13 +7,13 @@ use native.Mathlib.Decide.{decLe}
 use native.Mathlib.Omega.{arith}
 use lib.Dec.{leb, eqb}
 use borrow.Author.Tests.{le-leb, lt-leb, eqb-true, eqb-false, eq-eqb, ne-eqb}
-use Rattle.rounding.specs.Format.{binary32, infinity}
-use Rattle.rounding.specs.Value.{infinite, finite, magnitude, unsigned, decode}
-use Rattle.rounding.proofs.Compare.{tri}
-use Rattle.rounding.proofs.Codec.{unsigned-finite, unsigned-infinite, unsigned-nan}
-use Rattle.errorfree.specs.Comparisons.{same}
-use Rattle.emulation.specs.Lines.{equal}
-use Rattle.comparisons.proofs.Orders.{magnitude-none, magnitude-eqb}
+use Rattle.rounding_spec.specs.Format.{binary32, infinity}
+use Rattle.rounding_spec.specs.Value.{infinite, finite, magnitude, unsigned, decode}
+use Rattle.rounding_spec.proofs.Compare.{tri}
+use Rattle.rounding_spec.proofs.Codec.{unsigned-finite, unsigned-infinite, unsigned-nan}
+use Rattle.errorfree_spec.specs.Comparisons.{same}
+use Rattle.worksheet_spec.specs.Lines.{equal}
+use Rattle.worksheet_choices.proofs.Orders.{magnitude-none, magnitude-eqb}
 
 own-sign : (s : Bool) → Bool·beq s s ≡ true
 own-sign true = refl

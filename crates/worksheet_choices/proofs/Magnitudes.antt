@@ -8,14 +8,14 @@ use native.Mathlib.Decide.{decLe}
 use native.Mathlib.Omega.{arith}
 use lib.Dec.{ltb, leb, eqb}
 use borrow.Author.Tests.{lt-ltb, le-ltb, le-leb, lt-leb, ne-eqb}
-use Rattle.rounding.specs.Format.{binary32, infinity}
-use Rattle.rounding.specs.Value.{Value, finite, magnitude, unsigned, decode, isZero}
-use Rattle.rounding.proofs.Compare.{tri}
-use Rattle.rounding.proofs.Codec.{unsigned-finite, unsigned-infinite, unsigned-nan}
-use Rattle.errorfree.specs.Comparisons.{lessMagnitude}
-use Rattle.emulation.specs.Lines.{zero}
-use Rattle.emulation.specs.Sheets.{swaps}
-use Rattle.comparisons.proofs.Orders.{magnitude-none, magnitude-ltb}
+use Rattle.rounding_spec.specs.Format.{binary32, infinity}
+use Rattle.rounding_spec.specs.Value.{Value, finite, magnitude, unsigned, decode, isZero}
+use Rattle.rounding_spec.proofs.Compare.{tri}
+use Rattle.rounding_spec.proofs.Codec.{unsigned-finite, unsigned-infinite, unsigned-nan}
+use Rattle.errorfree_spec.specs.Comparisons.{lessMagnitude}
+use Rattle.worksheet_spec.specs.Lines.{zero}
+use Rattle.worksheet_spec.specs.Sheets.{swaps}
+use Rattle.worksheet_choices.proofs.Orders.{magnitude-none, magnitude-ltb}
 
 -- ---- +0 or -0
 zero-unsigned : (s : Bool) (c : ℕ) → eqb c 0 ≡ isZero (unsigned binary32 s c)

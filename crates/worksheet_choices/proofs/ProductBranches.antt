@@ -6,12 +6,12 @@ use native.Mathlib.Decide.{decLe}
 use native.Mathlib.Omega.{arith}
 use lib.Dec.{ltb, leb, eqb}
 use borrow.Author.Tests.{lt-ltb, le-ltb, le-leb, lt-leb, eq-eqb, ne-eqb}
-use Rattle.rounding.specs.Format.{binary32, infinity}
-use Rattle.rounding.specs.Value.{magnitude, unsigned, decode}
-use Rattle.rounding.proofs.Codec.{unsigned-finite, unsigned-infinite, unsigned-nan}
-use Rattle.emulation.specs.Lines.{value}
-use Rattle.emulation.specs.Sheets.{Branch, whenInfinite, whenZero, whenTiny, whenMiddle, otherwise, branchOf}
-use Rattle.comparisons.proofs.Orders.{magnitude-none, magnitude-leb, magnitude-ltb}
+use Rattle.rounding_spec.specs.Format.{binary32, infinity}
+use Rattle.rounding_spec.specs.Value.{magnitude, unsigned, decode}
+use Rattle.rounding_spec.proofs.Codec.{unsigned-finite, unsigned-infinite, unsigned-nan}
+use Rattle.worksheet_spec.specs.Lines.{value}
+use Rattle.worksheet_spec.specs.Sheets.{Branch, whenInfinite, whenZero, whenTiny, whenMiddle, otherwise, branchOf}
+use Rattle.worksheet_choices.proofs.Orders.{magnitude-none, magnitude-leb, magnitude-ltb}
 
 -- ---- the bounds, in units of u
 tiny-bound : magnitude 23 0x0100_0000 ≡ 2 ^ 24

@@ -1,7 +1,7 @@
 -- The branches of a product (document 01, "Product": "Line a = x·y, then by a") for the cases of the code's enum. Assumes nothing.
-use Rattle.emulation.specs.Sheets as sheet
-use Rattle.comparisons.specs.declared.Branch.{Branch}
-use Rattle.comparisons.specs.declared.Branch.the-variants.{Infinite, Zero, Tiny, Middle, Other}
+use Rattle.worksheet_spec.specs.Sheets as sheet
+use Rattle.worksheet_choices.specs.declared.Branch.{Branch}
+use Rattle.worksheet_choices.specs.declared.Branch.the-variants.{Infinite, Zero, Tiny, Middle, Other}
 
 -- "infinite", "zero", "0 < |a| < 2^-125", "2^-125 ≤ |a| ≤ 2^-102", "otherwise (NaN too)"
 abbrev pub branchCase : Branch → sheet.Branch

@@ -6,7 +6,7 @@ use native.Mathlib.Omega.{arith}
 use native.Mathlib.Numerals.{add-one}
 use lib.ListN.{length, take, drop, getD, set, drop-of-length-le, length-append}
 use lib.Seq.{drop-cons, take-suc, take-at, drop-at, drop-drop}
-use Rattle.sheet_lines.specs.Inner.{flat}
+use Rattle.worksheet_lines.specs.Inner.{flat}
 
 -- ---- one place
 as-five : (l : List ℕ) → length l ≡ 5 → l ≡ getD l 0 0 ∷ getD l 1 0 ∷ getD l 2 0 ∷ getD l 3 0 ∷ getD l 4 0 ∷ []

@@ -4,9 +4,9 @@ use mathlib.Core.List.{List, [], _∷_, _++_}
 use Prim.Native.Nat.{ℕ, _+_}
 use native.Mathlib.Omega.{arith}
 use lib.ListN.{length, length-append}
-use Rattle.emulation.specs.Lines.{Line, Sheet, before, ends}
-use Rattle.sheet_lines.specs.Inner.{Written, placed, Follows}
-use Rattle.sheet_lines.specs.declared.Foot.{Foot}
+use Rattle.worksheet_spec.specs.Lines.{Line, Sheet, before, ends}
+use Rattle.worksheet_lines.specs.Inner.{Written, placed, Follows}
+use Rattle.worksheet_lines.specs.declared.Foot.{Foot}
 
 abbrev pub Places : Type 0
 Places = List (List ℕ)

@@ -5,12 +5,12 @@ use mathlib.Core.List.{[], _∷_}
 use Prim.Native.Nat.{ℕ, _+_, _<_}
 use native.Mathlib.Omega.{arith}
 use lib.ListN.{length}
-use Rattle.emulation.specs.Constants.{psi, two, minusTwo, kappa, plusZero}
-use Rattle.emulation.specs.Lines.{subtract, multiply, line, minus, equal, zero}
-use Rattle.emulation.specs.Sheets.{recomposition, zeroFinish, recomposedFinished, atEdge, edgeFinish}
-use Rattle.sheet_lines.specs.Inner.{Written, Follows}
-use Rattle.sheet_lines.specs.declared.Foot.{Foot}
-use Rattle.sheet_lines.proofs.Placed.{Places, Standing, none-yet, foot-follows, then-line, then-lines, then-sheet}
+use Rattle.worksheet_spec.specs.Constants.{psi, two, minusTwo, kappa, plusZero}
+use Rattle.worksheet_spec.specs.Lines.{subtract, multiply, line, minus, equal, zero}
+use Rattle.worksheet_spec.specs.Sheets.{recomposition, zeroFinish, recomposedFinished, atEdge, edgeFinish}
+use Rattle.worksheet_lines.specs.Inner.{Written, Follows}
+use Rattle.worksheet_lines.specs.declared.Foot.{Foot}
+use Rattle.worksheet_lines.proofs.Placed.{Places, Standing, none-yet, foot-follows, then-line, then-lines, then-sheet}
 
 -- ---- zero finish
 module _ (n first second : ℕ) where

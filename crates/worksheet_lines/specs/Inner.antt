@@ -3,10 +3,10 @@ use Prim.Native.Nat.{ℕ, _+_}
 use mathlib.Core.Path.{_≡_}
 use mathlib.Core.List.{List, [], _∷_, _++_}
 use lib.ListN.{length, set}
-use Rattle.emulation.specs.Lines.{Line, Sheet}
-use Rattle.emulation.specs.Filling.{lineWords}
-use Rattle.emulation.specs.Theorems.{Gives}
-use Rattle.sheet_lines.specs.declared.Foot.{Foot}
+use Rattle.worksheet_spec.specs.Lines.{Line, Sheet}
+use Rattle.worksheet_spec.specs.Filling.{lineWords}
+use Rattle.worksheet_spec.specs.Theorems.{Gives}
+use Rattle.worksheet_lines.specs.declared.Foot.{Foot}
 
 -- ---- places of five words
 -- A line went into the nth place. Its result is what Steps gives for its operation and operands.

@@ -6,10 +6,10 @@ use crate::constants::MINUS_TWO;
 use crate::constants::PLUS_ZERO;
 use crate::constants::PSI;
 use crate::constants::TWO;
-use operands::flipped;
+use pattern::flipped;
 ghost use Prim.Native.Nat.{_<_, _≤_};
-ghost use Rattle.emulation.specs.Sheets.{recomposition, zeroFinish, recomposedFinished, edgeFinish};
-ghost use Rattle.sheet_lines.specs.Inner.{Follows};
+ghost use Rattle.worksheet_spec.specs.Sheets.{recomposition, zeroFinish, recomposedFinished, edgeFinish};
+ghost use Rattle.worksheet_lines.specs.Inner.{Follows};
 
 pub fn recomposition(lines: &mut Places, n: usize, a: u32, b: u32) -> Foot
     requires { ⌜ n ≤ 10 ⌝ }
@@ -18,7 +18,7 @@ pub fn recomposition(lines: &mut Places, n: usize, a: u32, b: u32) -> Foot
     let z = crate::mul(lines, n, PSI, a);
     let d = crate::sub(lines, n + 1, z, a);
     let e = crate::mul(lines, n + 2, TWO, b);
-    if comparisons::equal(e, d) {
+    if worksheet_choices::equal(e, d) {
         return Foot {
             first: z,
             second: flipped(b),
@@ -37,7 +37,7 @@ pub fn zero_finish(lines: &mut Places, n: usize, first: u32, second: u32) -> Foo
     requires { ⌜ n < 13 ⌝ }
     ensures { λ r. ⌜ Follows (now (lines .entry)) (now (lines .exit)) n (zeroFinish first second) r ⌝ }
 {
-    if comparisons::is_zero(second) {
+    if worksheet_choices::is_zero(second) {
         let nought = crate::mul(lines, n, PLUS_ZERO, first);
         return Foot {
             first,
@@ -65,7 +65,7 @@ pub fn edge_finish(lines: &mut Places, n: usize, a: u32, half: u32, rest: u32) -
     requires { ⌜ n < 12 ⌝ }
     ensures { λ r. ⌜ Follows (now (lines .entry)) (now (lines .exit)) n (edgeFinish a half rest) r ⌝ }
 {
-    if comparisons::at_edge(half, rest) {
+    if worksheet_choices::at_edge(half, rest) {
         let first = crate::mul(lines, n, KAPPA, half);
         let second = crate::mul(lines, n + 1, MINUS_TWO, rest);
         return Foot {

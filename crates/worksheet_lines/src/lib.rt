@@ -6,8 +6,8 @@ ghost use mathlib.Core.Path.{_≡_};
 ghost use mathlib.Core.List.{_++_};
 ghost use Prim.Native.Nat.{_<_, _≤_};
 ghost use lib.ListN.{length, drop};
-ghost use Rattle.emulation.specs.Lines.{add, subtract, multiply, line, fusedLine};
-ghost use Rattle.sheet_lines.specs.Inner.{Written, flat};
+ghost use Rattle.worksheet_spec.specs.Lines.{add, subtract, multiply, line, fusedLine};
+ghost use Rattle.worksheet_lines.specs.Inner.{Written, flat};
 
 // A sheet has at most 13 lines.
 pub type Places = [[u32; 5]; 13];

@@ -4,13 +4,13 @@ use mathlib.Core.Bool.{true, false}
 use mathlib.Core.List.{[], _∷_}
 use Prim.Native.Nat.{ℕ}
 use native.Mathlib.Omega.{arith}
-use Rattle.emulation.specs.Constants.{half, twoTo24, twoTo48, twoToMinus24, plusZero, smallest}
-use Rattle.emulation.specs.Lines.{add, subtract, multiply, line, fusedLine, value, minus, copySign}
-use Rattle.emulation.specs.Sheets.{recomposition, zeroFinish, recomposedFinished, edgeFinish, infiniteProduct, lowered, lowering, tinyTie, tinyProduct, restTie, scaledDown, middleProduct, otherProduct, Branch, branchOf, productBy, productSheet}
-use Rattle.sheet_lines.specs.Inner.{Written, Follows}
-use Rattle.sheet_lines.specs.declared.Foot.{Foot}
-use Rattle.sheet_lines.proofs.Placed.{Places, Standing, none-yet, foot-follows, then-line, then-lines, then-sheet}
-use Rattle.sheet_lines.proofs.SharedLines.{recomposition-length}
+use Rattle.worksheet_spec.specs.Constants.{half, twoTo24, twoTo48, twoToMinus24, plusZero, smallest}
+use Rattle.worksheet_spec.specs.Lines.{add, subtract, multiply, line, fusedLine, value, minus, copySign}
+use Rattle.worksheet_spec.specs.Sheets.{recomposition, zeroFinish, recomposedFinished, edgeFinish, infiniteProduct, lowered, lowering, tinyTie, tinyProduct, restTie, scaledDown, middleProduct, otherProduct, Branch, branchOf, productBy, productSheet}
+use Rattle.worksheet_lines.specs.Inner.{Written, Follows}
+use Rattle.worksheet_lines.specs.declared.Foot.{Foot}
+use Rattle.worksheet_lines.proofs.Placed.{Places, Standing, none-yet, foot-follows, then-line, then-lines, then-sheet}
+use Rattle.worksheet_lines.proofs.SharedLines.{recomposition-length}
 
 -- ---- an infinite product
 module _ (x y a : ℕ) {l₀ l₁ l₂ l₃ l₄ : Places} {h s m r : ℕ} {foot : Foot} where

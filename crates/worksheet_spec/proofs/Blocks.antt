@@ -4,25 +4,25 @@ use mathlib.Core.Bool.{Bool, true, false, not, cond, _&&_}
 use Prim.Native.Nat.{ℕ, _*_, _^_}
 use native.Mathlib.Omega.{arith}
 use lib.Dec.{T, leb}
-use Rattle.rounding.specs.Format.{binary32, low, signBit}
-use Rattle.rounding.specs.Value.{Value, nan, infinite, finite, isZero, isFinite, round}
-use Rattle.steps.specs.Exact.{negate, plus, times, finer}
-use Rattle.steps.specs.Steps.{addValue, subValue, mulValue, subStep, mulStep}
-use Rattle.steps.proofs.Theorems.{sub-decodes, mul-decodes}
-use Rattle.errorfree.specs.Comparisons.{same}
-use Rattle.errorfree.specs.Constants as factor
-use Rattle.errorfree.proofs.Factors as factors
-use Rattle.errorfree.proofs.Steps.{toZero}
-use Rattle.errorfree.proofs.Split.{Split, Split0, finished-first, finished-second}
-use Rattle.errorfree.proofs.Recomposed as split
-use Rattle.errorfree.proofs.Edge.{halfLimit, edgeRest}
-use Rattle.errorfree.proofs.Halved.{EdgePair}
-use Rattle.emulation.specs.Constants.{psi, two, minusTwo, kappa, plusZero, twoTo127, twoTo102}
-use Rattle.emulation.specs.Lines.{Sheet, value, minus, equal, copySign, zero}
-use Rattle.emulation.specs.Sheets.{recomposition, zeroFinish, recomposedFinished, atEdge, edgeFinish}
-use Rattle.emulation.proofs.Patterns.{Pattern, mul-width, minus-width, minus-value, negate-finite, sign-value, sign-width}
-use Rattle.emulation.proofs.Constants.{psi-value, two-value, minus-two-value, kappa-value, zero-value, half-limit-value, edge-rest-value}
-use Rattle.emulation.proofs.Foots.{Foots, foots}
+use Rattle.rounding_spec.specs.Format.{binary32, low, signBit}
+use Rattle.rounding_spec.specs.Value.{Value, nan, infinite, finite, isZero, isFinite, round}
+use Rattle.pattern_spec.specs.Exact.{negate, plus, times, finer}
+use Rattle.binary32_spec.specs.Steps.{addValue, subValue, mulValue, subStep, mulStep}
+use Rattle.binary32_spec.proofs.Theorems.{sub-decodes, mul-decodes}
+use Rattle.errorfree_spec.specs.Comparisons.{same}
+use Rattle.errorfree_spec.specs.Constants as factor
+use Rattle.errorfree_spec.proofs.Factors as factors
+use Rattle.errorfree_spec.proofs.Steps.{toZero}
+use Rattle.errorfree_spec.proofs.Split.{Split, Split0, finished-first, finished-second}
+use Rattle.errorfree_spec.proofs.Recomposed as split
+use Rattle.errorfree_spec.proofs.Edge.{halfLimit, edgeRest}
+use Rattle.errorfree_spec.proofs.Halved.{EdgePair}
+use Rattle.worksheet_spec.specs.Constants.{psi, two, minusTwo, kappa, plusZero, twoTo127, twoTo102}
+use Rattle.worksheet_spec.specs.Lines.{Sheet, value, minus, equal, copySign, zero}
+use Rattle.worksheet_spec.specs.Sheets.{recomposition, zeroFinish, recomposedFinished, atEdge, edgeFinish}
+use Rattle.worksheet_spec.proofs.Patterns.{Pattern, mul-width, minus-width, minus-value, negate-finite, sign-value, sign-width}
+use Rattle.worksheet_spec.proofs.Constants.{psi-value, two-value, minus-two-value, kappa-value, zero-value, half-limit-value, edge-rest-value}
+use Rattle.worksheet_spec.proofs.Foots.{Foots, foots}
 
 -- ---- choices
 pub value-cond : (c : Bool) (x y : ℕ) → value (cond c x y) ≡ cond c (value x) (value y)

@@ -2,13 +2,13 @@
 use mathlib.Core.Path.{_≡_, refl}
 use mathlib.Core.Bool.{false}
 use Prim.Native.Nat.{_^_}
-use Rattle.rounding.specs.Format.{binary32}
-use Rattle.rounding.specs.Value.{finite, decode}
-use Rattle.errorfree.specs.Constants as factor
-use Rattle.errorfree.proofs.Factors as factors
-use Rattle.errorfree.proofs.Edge.{halfLimit, edgeRest}
-use Rattle.emulation.specs.Constants.{psi, two, minusTwo, half, kappa, twoTo24, twoTo48, twoToMinus24, plusZero, smallest, twoTo127, twoTo102, twoToMinus102, twoToMinus126}
-use Rattle.emulation.specs.Lines.{value}
+use Rattle.rounding_spec.specs.Format.{binary32}
+use Rattle.rounding_spec.specs.Value.{finite, decode}
+use Rattle.errorfree_spec.specs.Constants as factor
+use Rattle.errorfree_spec.proofs.Factors as factors
+use Rattle.errorfree_spec.proofs.Edge.{halfLimit, edgeRest}
+use Rattle.worksheet_spec.specs.Constants.{psi, two, minusTwo, half, kappa, twoTo24, twoTo48, twoToMinus24, plusZero, smallest, twoTo127, twoTo102, twoToMinus102, twoToMinus126}
+use Rattle.worksheet_spec.specs.Lines.{value}
 
 -- ---- the factors
 pub psi-value : value psi ≡ factor.psi binary32

@@ -3,15 +3,15 @@ use mathlib.Core.Bool.{Bool, true, false, cond}
 use mathlib.Core.List.{List, [], _∷_}
 use Prim.Native.Nat.{ℕ}
 use lib.Dec.{leb}
-use Rattle.rounding.specs.Format.{binary32, signBit}
-use Rattle.steps.specs.Steps.{addStep, subStep, mulStep, fmaStep}
-use Rattle.pairs.specs.Direct.{Operation, sum, difference, product}
-use Rattle.emulation.specs.Constants.{half, twoTo24, twoTo48, twoToMinus24, plusZero, smallest}
-use Rattle.emulation.specs.Lines.{multiply, line, Sheet, before, ends, value, minus, copySign}
-use Rattle.emulation.specs.Sheets.{Branch, whenInfinite, whenZero, whenTiny, whenMiddle, otherwise, recomposition, zeroFinish, recomposedFinished, halvedSum, overflows, sumInOrder, swaps, sumSheet, infiniteProduct, lowered, lowering, tinyProduct, restTie, scaledDown, middleProduct, otherProduct, branchOf, productBy, productSheet, sheetOf}
-use Rattle.emulation.specs.Theorems.{Among, Known, results, Derived}
-use Rattle.emulation.proofs.TinyResults as tiny
-use Rattle.emulation.proofs.Derivation.{here, flipped, there, left, right, after, grown, own, half-in, up-in, up-up-in, down-in, zero-in, Leads, adds, subtracts, lowers, multiplies, scales, fuses, stop, leads-cond, lines, recomposition-leads, finish-leads, recomposed-leads, edge-leads}
+use Rattle.rounding_spec.specs.Format.{binary32, signBit}
+use Rattle.binary32_spec.specs.Steps.{addStep, subStep, mulStep, fmaStep}
+use Rattle.augmented_spec.specs.Direct.{Operation, sum, difference, product}
+use Rattle.worksheet_spec.specs.Constants.{half, twoTo24, twoTo48, twoToMinus24, plusZero, smallest}
+use Rattle.worksheet_spec.specs.Lines.{multiply, line, Sheet, before, ends, value, minus, copySign}
+use Rattle.worksheet_spec.specs.Sheets.{Branch, whenInfinite, whenZero, whenTiny, whenMiddle, otherwise, recomposition, zeroFinish, recomposedFinished, halvedSum, overflows, sumInOrder, swaps, sumSheet, infiniteProduct, lowered, lowering, tinyProduct, restTie, scaledDown, middleProduct, otherProduct, branchOf, productBy, productSheet, sheetOf}
+use Rattle.worksheet_spec.specs.Theorems.{Among, Known, results, Derived}
+use Rattle.worksheet_spec.proofs.TinyResults as tiny
+use Rattle.worksheet_spec.proofs.Derivation.{here, flipped, there, left, right, after, grown, own, half-in, up-in, up-up-in, down-in, zero-in, Leads, adds, subtracts, lowers, multiplies, scales, fuses, stop, leads-cond, lines, recomposition-leads, finish-leads, recomposed-leads, edge-leads}
 
 module _ (B : List ℕ) where
   -- ---- sums

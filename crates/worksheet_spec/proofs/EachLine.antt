@@ -3,13 +3,13 @@ use mathlib.Core.Path.{refl}
 use mathlib.Core.Bool.{Bool, true, false, cond}
 use mathlib.Core.List.{List, [], _∷_, _++_}
 use Prim.Native.Nat.{ℕ}
-use Rattle.steps.specs.Steps.{addStep, subStep, mulStep, fmaStep}
-use Rattle.pairs.specs.Direct.{sum, difference, product}
-use Rattle.emulation.specs.Lines.{add, subtract, multiply, Line, line, fusedLine, Sheet, before, ends, value, minus, copySign, zero}
-use Rattle.emulation.specs.Constants.{psi, two, minusTwo, half, kappa, twoTo24, twoTo48, twoToMinus24, plusZero, smallest}
-use Rattle.emulation.specs.Sheets.{Branch, whenInfinite, whenZero, whenTiny, whenMiddle, otherwise, recomposition, zeroFinish, recomposedFinished, atEdge, edgeFinish, halvedSum, overflows, sumInOrder, swaps, sumSheet, infiniteProduct, lowered, lowering, tinyProduct, restTie, scaledDown, middleProduct, otherProduct, branchOf, productBy, productSheet, sheetOf}
-use Rattle.emulation.proofs.TinyResults as tiny
-use Rattle.emulation.specs.Theorems.{Each, EachLine}
+use Rattle.binary32_spec.specs.Steps.{addStep, subStep, mulStep, fmaStep}
+use Rattle.augmented_spec.specs.Direct.{sum, difference, product}
+use Rattle.worksheet_spec.specs.Lines.{add, subtract, multiply, Line, line, fusedLine, Sheet, before, ends, value, minus, copySign, zero}
+use Rattle.worksheet_spec.specs.Constants.{psi, two, minusTwo, half, kappa, twoTo24, twoTo48, twoToMinus24, plusZero, smallest}
+use Rattle.worksheet_spec.specs.Sheets.{Branch, whenInfinite, whenZero, whenTiny, whenMiddle, otherwise, recomposition, zeroFinish, recomposedFinished, atEdge, edgeFinish, halvedSum, overflows, sumInOrder, swaps, sumSheet, infiniteProduct, lowered, lowering, tinyProduct, restTie, scaledDown, middleProduct, otherProduct, branchOf, productBy, productSheet, sheetOf}
+use Rattle.worksheet_spec.proofs.TinyResults as tiny
+use Rattle.worksheet_spec.specs.Theorems.{Each, EachLine}
 
 -- ---- lists and choices
 each-append : (ls ms : List Line) → Each ls → Each ms → Each (ls ++ ms)

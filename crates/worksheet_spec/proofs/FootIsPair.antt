@@ -1,13 +1,13 @@
 -- The foot of every sheet is the direct pair. Assumes nothing.
 use mathlib.Core.Path.{sym, _∙_}
-use Rattle.rounding.specs.Format.{binary32}
-use Rattle.pairs.specs.Direct.{sum, difference, product}
-use Rattle.pairs.proofs.Read.{first-pattern, second-pattern}
-use Rattle.emulation.specs.Lines.{minus}
-use Rattle.emulation.specs.Sheets.{sheetOf}
-use Rattle.emulation.specs.Theorems.{FootIsPair}
-use Rattle.emulation.proofs.Sums.{sum-foot}
-use Rattle.emulation.proofs.ProductSheet.{product-foot}
+use Rattle.rounding_spec.specs.Format.{binary32}
+use Rattle.augmented_spec.specs.Direct.{sum, difference, product}
+use Rattle.augmented_spec.proofs.Read.{first-pattern, second-pattern}
+use Rattle.worksheet_spec.specs.Lines.{minus}
+use Rattle.worksheet_spec.specs.Sheets.{sheetOf}
+use Rattle.worksheet_spec.specs.Theorems.{FootIsPair}
+use Rattle.worksheet_spec.proofs.Sums.{sum-foot}
+use Rattle.worksheet_spec.proofs.ProductSheet.{product-foot}
 
 pub foot-is-pair : FootIsPair
 unfolding sheetOf

@@ -6,12 +6,12 @@ use Prim.Native.Nat.{ℕ, _<_}
 use native.Mathlib.Decide.{decLe}
 use native.Mathlib.Omega.{arith}
 use lib.Dec.{T}
-use Rattle.rounding.specs.Format.{binary32, limit}
-use Rattle.rounding.specs.Value.{Value, nan, infinite, finite, isNaN, encode, round}
-use Rattle.pairs.specs.Pairs.{pairOf, secondOf}
-use Rattle.pairs.proofs.Second.{head, first-finite, pair-second, first-infinite, second-infinite}
-use Rattle.emulation.specs.Lines.{Sheet, value}
-use Rattle.emulation.proofs.Patterns.{Pattern, pattern-of}
+use Rattle.rounding_spec.specs.Format.{binary32, limit}
+use Rattle.rounding_spec.specs.Value.{Value, nan, infinite, finite, isNaN, encode, round}
+use Rattle.augmented_spec.specs.Pairs.{pairOf, secondOf}
+use Rattle.augmented_spec.proofs.Second.{head, first-finite, pair-second, first-infinite, second-infinite}
+use Rattle.worksheet_spec.specs.Lines.{Sheet, value}
+use Rattle.worksheet_spec.proofs.Patterns.{Pattern, pattern-of}
 
 -- the foot of a sheet is the pair of the exact result v
 abbrev pub Foots : Value → Sheet → Type 0

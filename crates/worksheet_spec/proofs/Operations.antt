@@ -6,26 +6,26 @@ use Prim.Native.Nat.{ℕ}
 use native.Mathlib.Omega.{arith}
 use borrow.Author.Tests.{eqb-true}
 use lib.Dec.{leb, eqb}
-use Rattle.rounding.specs.Format.{binary32, signBit}
-use Rattle.rounding.specs.Value.{Value, nan, infinite, finite, Fits, isFinite, isInfinite, isZero, RNe}
-use Rattle.rounding.proofs.Codec.{decode-fits}
-use Rattle.steps.specs.Exact.{negate, finer}
-use Rattle.steps.specs.Steps.{addValue, mulValue, addStep, subStep, mulStep}
-use Rattle.steps.proofs.Theorems.{add-decodes, mul-decodes}
-use Rattle.steps.proofs.Special.{plus-comm}
-use Rattle.errorfree.specs.Comparisons.{same}
-use Rattle.errorfree.proofs.NoNumber.{not-both, none-zero, number-of, both-of}
-use Rattle.errorfree.proofs.Steps.{zero-times}
-use Rattle.errorfree.proofs.Recomposed.{psi-finite}
-use Rattle.errorfree.proofs.Edge.{halfLimit, kappa-is}
-use Rattle.emulation.specs.Constants.{psi, two, half, kappa, plusZero, twoTo127, twoTo102}
-use Rattle.emulation.specs.Lines.{number, Line, Sheet, ends, value, minus, equal, copySign, zero}
-use Rattle.emulation.specs.Sheets.{recomposition, zeroFinish, recomposedFinished, atEdge, edgeFinish, halvedSum, overflows, sumInOrder, swaps, sumSheet}
-use Rattle.emulation.specs.Theorems.{operations, sumOperations}
-use Rattle.emulation.proofs.Patterns.{minus-value, negate-finite}
-use Rattle.emulation.proofs.Constants.{psi-value, kappa-value, zero-value, half-limit-value}
-use Rattle.emulation.proofs.Blocks.{value-cond, finish-pattern, recomposition-none, edge-first}
-use Rattle.emulation.proofs.Sums.{first-is, second-is, b-none, no-edge, asks-edge}
+use Rattle.rounding_spec.specs.Format.{binary32, signBit}
+use Rattle.rounding_spec.specs.Value.{Value, nan, infinite, finite, Fits, isFinite, isInfinite, isZero, RNe}
+use Rattle.rounding_spec.proofs.Codec.{decode-fits}
+use Rattle.pattern_spec.specs.Exact.{negate, finer}
+use Rattle.binary32_spec.specs.Steps.{addValue, mulValue, addStep, subStep, mulStep}
+use Rattle.binary32_spec.proofs.Theorems.{add-decodes, mul-decodes}
+use Rattle.pattern_spec.proofs.Exchanged.{plus-comm}
+use Rattle.errorfree_spec.specs.Comparisons.{same}
+use Rattle.errorfree_spec.proofs.NoNumber.{not-both, none-zero, number-of, both-of}
+use Rattle.errorfree_spec.proofs.Steps.{zero-times}
+use Rattle.errorfree_spec.proofs.Recomposed.{psi-finite}
+use Rattle.errorfree_spec.proofs.Edge.{halfLimit, kappa-is}
+use Rattle.worksheet_spec.specs.Constants.{psi, two, half, kappa, plusZero, twoTo127, twoTo102}
+use Rattle.worksheet_spec.specs.Lines.{number, Line, Sheet, ends, value, minus, equal, copySign, zero}
+use Rattle.worksheet_spec.specs.Sheets.{recomposition, zeroFinish, recomposedFinished, atEdge, edgeFinish, halvedSum, overflows, sumInOrder, swaps, sumSheet}
+use Rattle.worksheet_spec.specs.Theorems.{operations, sumOperations}
+use Rattle.worksheet_spec.proofs.Patterns.{minus-value, negate-finite}
+use Rattle.worksheet_spec.proofs.Constants.{psi-value, kappa-value, zero-value, half-limit-value}
+use Rattle.worksheet_spec.proofs.Blocks.{value-cond, finish-pattern, recomposition-none, edge-first}
+use Rattle.worksheet_spec.proofs.Sums.{first-is, second-is, b-none, no-edge, asks-edge}
 
 -- ---- lists and choices
 operations-append : (ls ms : List Line) → operations (ls ++ ms) ≡ operations ls ++ operations ms

@@ -8,18 +8,18 @@ use native.Mathlib.Decide.{decLe}
 use native.Mathlib.Omega.{arith}
 use borrow.Author.Tests.{le-leb, lt-leb}
 use lib.Dec.{leb}
-use Rattle.rounding.specs.declared.Ties.the-variants.{ToEven}
-use Rattle.rounding.specs.Format.{binary32, infinity, signBit}
-use Rattle.rounding.specs.Value.{Value, nan, finite, unsigned, decode, encode, round}
-use Rattle.rounding.proofs.Codec.{unsigned-finite, unsigned-infinite, unsigned-nan, encode-decode}
-use Rattle.rounding.proofs.Compare.{tri}
-use Rattle.rounding.proofs.RoundValue.{round-fits}
-use Rattle.steps.specs.Exact.{negate, plus, times, finer}
-use Rattle.steps.specs.Steps.{addValue, subValue, mulValue, fmaValue, addStep, subStep, mulStep, fmaStep}
-use Rattle.steps.proofs.Classified.{decode-flip}
-use Rattle.steps.proofs.Result.{add-step, sub-step, mul-step, fma-step}
-use Rattle.pairs.proofs.Width.{encode-width}
-use Rattle.emulation.specs.Lines.{value, minus, copySign}
+use Rattle.rounding_spec.specs.declared.Ties.the-variants.{ToEven}
+use Rattle.rounding_spec.specs.Format.{binary32, infinity, signBit}
+use Rattle.rounding_spec.specs.Value.{Value, nan, finite, unsigned, decode, encode, round}
+use Rattle.rounding_spec.proofs.Codec.{unsigned-finite, unsigned-infinite, unsigned-nan, encode-decode}
+use Rattle.rounding_spec.proofs.Compare.{tri}
+use Rattle.rounding_spec.proofs.RoundValue.{round-fits}
+use Rattle.pattern_spec.specs.Exact.{negate, plus, times, finer}
+use Rattle.binary32_spec.specs.Steps.{addValue, subValue, mulValue, fmaValue, addStep, subStep, mulStep, fmaStep}
+use Rattle.pattern_spec.proofs.Classified.{decode-flip}
+use Rattle.binary32_spec.proofs.Result.{add-step, sub-step, mul-step, fma-step}
+use Rattle.augmented_spec.proofs.Width.{encode-width}
+use Rattle.worksheet_spec.specs.Lines.{value, minus, copySign}
 
 -- ---- a pattern of 32 bits
 abbrev pub Pattern : ℕ → Type 0

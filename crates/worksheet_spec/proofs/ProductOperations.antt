@@ -9,29 +9,29 @@ use native.Mathlib.Omega.{arith}
 use borrow.Author.Tests.{eq-eqb, ne-eqb, lt-ltb, le-ltb, le-leb, lt-leb}
 use lib.Dec.{T}
 use lib.Ieee.{unlike}
-use Rattle.rounding.specs.declared.Ties.the-variants.{ToEven}
-use Rattle.rounding.specs.Format.{binary32, limit}
-use Rattle.rounding.specs.Nearest.{dist}
-use Rattle.rounding.specs.Value.{Value, nan, infinite, finite, Fits, isFinite, isZero}
-use Rattle.rounding.proofs.Representable.{rep-lt}
-use Rattle.rounding.proofs.RoundValue.{round-finite}
-use Rattle.rounding.proofs.Codec.{decode-fits}
-use Rattle.steps.specs.Steps.{subValue, fmaValue, subStep, mulStep, fmaStep}
-use Rattle.steps.proofs.Theorems.{sub-decodes, mul-decodes, fma-decodes}
-use Rattle.errorfree.specs.Comparisons.{same}
-use Rattle.errorfree.proofs.NoNumber.{not-both, number-of, both-of, mul-none, fma-nan}
-use Rattle.errorfree.proofs.Signed.{Is, rel-own, same-eq}
-use Rattle.errorfree.proofs.Steps.{toEven, is-sub}
-use Rattle.errorfree.proofs.Theorems.{same-means}
-use Rattle.emulation.specs.Constants.{half, plusZero, smallest}
-use Rattle.emulation.specs.Lines.{Line, line, multiply, Sheet, before, value, minus, equal, copySign, zero}
-use Rattle.emulation.specs.Sheets.{Branch, whenInfinite, whenZero, whenTiny, whenMiddle, otherwise, recomposition, zeroFinish, infiniteProduct, lowered, lowering, tinyProduct, scaledDown, middleProduct, otherProduct, branchOf, productBy, productSheet}
-use Rattle.emulation.specs.Theorems.{operations, ProductOperations}
-use Rattle.emulation.proofs.Patterns.{mul-width, minus-nan, sign-value}
-use Rattle.emulation.proofs.Constants.{smallest-value}
-use Rattle.emulation.proofs.TinyResults as tiny
-use Rattle.emulation.proofs.Products.{first, β, tie, corrected, p-value, corrected-nonzero, first-number}
-use Rattle.emulation.proofs.Operations.{finish-operations, recomposed-operations, edge-operations, finish-zero, recomposed-zero, recomposed-none-operations, edge-told}
+use Rattle.rounding_spec.specs.declared.Ties.the-variants.{ToEven}
+use Rattle.rounding_spec.specs.Format.{binary32, limit}
+use Rattle.rounding_spec.specs.Nearest.{dist}
+use Rattle.rounding_spec.specs.Value.{Value, nan, infinite, finite, Fits, isFinite, isZero}
+use Rattle.rounding_spec.proofs.Representable.{rep-lt}
+use Rattle.rounding_spec.proofs.RoundValue.{round-finite}
+use Rattle.rounding_spec.proofs.Codec.{decode-fits}
+use Rattle.binary32_spec.specs.Steps.{subValue, fmaValue, subStep, mulStep, fmaStep}
+use Rattle.binary32_spec.proofs.Theorems.{sub-decodes, mul-decodes, fma-decodes}
+use Rattle.errorfree_spec.specs.Comparisons.{same}
+use Rattle.errorfree_spec.proofs.NoNumber.{not-both, number-of, both-of, mul-none, fma-nan}
+use Rattle.errorfree_spec.proofs.Signed.{Is, rel-own, same-eq}
+use Rattle.errorfree_spec.proofs.Steps.{toEven, is-sub}
+use Rattle.errorfree_spec.proofs.Theorems.{same-means}
+use Rattle.worksheet_spec.specs.Constants.{half, plusZero, smallest}
+use Rattle.worksheet_spec.specs.Lines.{Line, line, multiply, Sheet, before, value, minus, equal, copySign, zero}
+use Rattle.worksheet_spec.specs.Sheets.{Branch, whenInfinite, whenZero, whenTiny, whenMiddle, otherwise, recomposition, zeroFinish, infiniteProduct, lowered, lowering, tinyProduct, scaledDown, middleProduct, otherProduct, branchOf, productBy, productSheet}
+use Rattle.worksheet_spec.specs.Theorems.{operations, ProductOperations}
+use Rattle.worksheet_spec.proofs.Patterns.{mul-width, minus-nan, sign-value}
+use Rattle.worksheet_spec.proofs.Constants.{smallest-value}
+use Rattle.worksheet_spec.proofs.TinyResults as tiny
+use Rattle.worksheet_spec.proofs.Products.{first, β, tie, corrected, p-value, corrected-nonzero, first-number}
+use Rattle.worksheet_spec.proofs.Operations.{finish-operations, recomposed-operations, edge-operations, finish-zero, recomposed-zero, recomposed-none-operations, edge-told}
 
 one-less : (m W : ℕ) → m < W → m - 1 < W
 one-less m W h = omega arith

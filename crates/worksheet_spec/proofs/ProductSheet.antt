@@ -9,25 +9,25 @@ use native.Mathlib.Omega.{arith}
 use borrow.Author.Tests.{ltb-true, ltb-false, leb-true, leb-false, eqb-true, eqb-false}
 use lib.Dec.{ltb, leb, eqb}
 use lib.Ieee.{unlike}
-use Rattle.rounding.specs.declared.Ties.the-variants.{ToEven}
-use Rattle.rounding.specs.Format.{binary32, limit}
-use Rattle.rounding.specs.Nearest.{Rep}
-use Rattle.rounding.specs.Value.{Value, nan, infinite, finite, Fits, encode, isFinite, isZero}
-use Rattle.rounding.proofs.RoundValue.{round-above}
-use Rattle.rounding.proofs.Codec.{decode-fits}
-use Rattle.steps.specs.Exact.{times}
-use Rattle.steps.specs.Steps.{fmaValue, mulStep, fmaStep}
-use Rattle.steps.proofs.Theorems.{mul-decodes, fma-decodes}
-use Rattle.steps.proofs.Result.{mul-step, fma-step}
-use Rattle.errorfree.proofs.Steps.{toEven}
-use Rattle.emulation.specs.Constants.{half}
-use Rattle.emulation.specs.Lines.{value, minus}
-use Rattle.emulation.specs.Sheets.{whenZero, Branch, whenTiny, whenMiddle, otherwise, infiniteProduct, otherProduct, branchOf, productBy, productSheet}
-use Rattle.emulation.proofs.Patterns.{mul-width, minus-nan}
-use Rattle.emulation.proofs.Foots.{Foots, foots-infinite, foots-nan}
-use Rattle.emulation.proofs.Blocks.{recomposed-none, edge-none}
-use Rattle.errorfree.proofs.NoNumber.{not-both, number-of, one-of, both-of, product-none, mul-left, mul-right, fma-nan, mul-kept}
-use Rattle.emulation.proofs.Products.{p-value, pi, infinite-foot, zero-foot, tiny-foot, middle-foot, other-foot}
+use Rattle.rounding_spec.specs.declared.Ties.the-variants.{ToEven}
+use Rattle.rounding_spec.specs.Format.{binary32, limit}
+use Rattle.rounding_spec.specs.Nearest.{Rep}
+use Rattle.rounding_spec.specs.Value.{Value, nan, infinite, finite, Fits, encode, isFinite, isZero}
+use Rattle.rounding_spec.proofs.RoundValue.{round-above}
+use Rattle.rounding_spec.proofs.Codec.{decode-fits}
+use Rattle.pattern_spec.specs.Exact.{times}
+use Rattle.binary32_spec.specs.Steps.{fmaValue, mulStep, fmaStep}
+use Rattle.binary32_spec.proofs.Theorems.{mul-decodes, fma-decodes}
+use Rattle.binary32_spec.proofs.Result.{mul-step, fma-step}
+use Rattle.errorfree_spec.proofs.Steps.{toEven}
+use Rattle.worksheet_spec.specs.Constants.{half}
+use Rattle.worksheet_spec.specs.Lines.{value, minus}
+use Rattle.worksheet_spec.specs.Sheets.{whenZero, Branch, whenTiny, whenMiddle, otherwise, infiniteProduct, otherProduct, branchOf, productBy, productSheet}
+use Rattle.worksheet_spec.proofs.Patterns.{mul-width, minus-nan}
+use Rattle.worksheet_spec.proofs.Foots.{Foots, foots-infinite, foots-nan}
+use Rattle.worksheet_spec.proofs.Blocks.{recomposed-none, edge-none}
+use Rattle.errorfree_spec.proofs.NoNumber.{not-both, number-of, one-of, both-of, product-none, mul-left, mul-right, fma-nan, mul-kept}
+use Rattle.worksheet_spec.proofs.Products.{p-value, pi, infinite-foot, zero-foot, tiny-foot, middle-foot, other-foot}
 
 -- ---- finite operands: by the magnitude of a
 module _ (x y : ℕ) (s t : Bool) (a b : ℕ) (xi : value x ≡ finite s a) (yi : value y ≡ finite t b) (xr : Rep 24 0 a) (yr : Rep 24 0 b) (xb : a < limit binary32) (yb : b < limit binary32) where

@@ -6,34 +6,34 @@ use Prim.Native.Nat.{ℕ, _*_, _^_, _≤_, _<_}
 use native.Mathlib.Nat.{lt-of-le-of-lt}
 use native.Mathlib.Omega.{arith}
 use lib.Ieee.{unlike}
-use Rattle.rounding.specs.declared.Ties.the-variants.{ToEven}
-use Rattle.rounding.specs.Format.{binary32, low, limit}
-use Rattle.rounding.specs.Nearest.{Rep}
-use Rattle.rounding.specs.Value.{Value, infinite, finite, isFinite, isZero, roundFinite}
-use Rattle.rounding.proofs.RoundValue.{round-below, round-above}
-use Rattle.rounding.proofs.Rounded.{rounded-zero-le}
-use Rattle.steps.specs.Exact.{negate}
-use Rattle.steps.specs.Steps.{mulValue, fmaValue, subValue, subStep, mulStep, fmaStep}
-use Rattle.steps.proofs.Theorems.{add-decodes, sub-decodes, mul-decodes, fma-decodes}
-use Rattle.pairs.proofs.Second.{first-finite}
-use Rattle.errorfree.specs.Comparisons.{same}
-use Rattle.errorfree.proofs.Factors as factors
-use Rattle.errorfree.proofs.Steps.{toEven, toZero, mul-finite}
-use Rattle.errorfree.proofs.Split.{Split0}
-use Rattle.errorfree.proofs.Powers.{pow-above}
-use Rattle.errorfree.proofs.ProductSplit.{whole, product-split}
-use Rattle.errorfree.proofs.Halved.{product-edge}
-use Rattle.errorfree.proofs.Tiny.{zero-pair, tiny-pair}
-use Rattle.errorfree.proofs.MiddleSecond.{stepped}
-use Rattle.errorfree.proofs.Middle.{Scaled, Finished, middle-split, middle-first, middle-second}
-use Rattle.emulation.specs.Constants.{half, twoTo24, twoTo48, twoToMinus24, plusZero, smallest, twoToMinus102, twoToMinus126}
-use Rattle.emulation.specs.Lines.{ends, value, minus, copySign, zero}
-use Rattle.emulation.specs.Sheets.{recomposition, recomposedFinished, infiniteProduct, lowered, tinyTie, tinyProduct, restTie, scaledDown, middleProduct, otherProduct}
-use Rattle.emulation.proofs.Patterns.{Pattern, sub-width, mul-width, fma-width, minus-value, negate-finite, sign-value, sign-width}
-use Rattle.emulation.proofs.Constants.{half-value, up-value, up-up-value, down-value, zero-value, tie-value, lowest-value, smallest-value}
-use Rattle.emulation.proofs.TinyResults as tiny
-use Rattle.emulation.proofs.Foots.{Foots, foots}
-use Rattle.emulation.proofs.Blocks.{value-cond, width-cond, recomposition-split, finish-first, finish-second, finish-width, recomposed-foot, edge-foot, edge-none}
+use Rattle.rounding_spec.specs.declared.Ties.the-variants.{ToEven}
+use Rattle.rounding_spec.specs.Format.{binary32, low, limit}
+use Rattle.rounding_spec.specs.Nearest.{Rep}
+use Rattle.rounding_spec.specs.Value.{Value, infinite, finite, isFinite, isZero, roundFinite}
+use Rattle.rounding_spec.proofs.RoundValue.{round-below, round-above}
+use Rattle.rounding_spec.proofs.Rounded.{rounded-zero-le}
+use Rattle.pattern_spec.specs.Exact.{negate}
+use Rattle.binary32_spec.specs.Steps.{mulValue, fmaValue, subValue, subStep, mulStep, fmaStep}
+use Rattle.binary32_spec.proofs.Theorems.{add-decodes, sub-decodes, mul-decodes, fma-decodes}
+use Rattle.augmented_spec.proofs.Second.{first-finite}
+use Rattle.errorfree_spec.specs.Comparisons.{same}
+use Rattle.errorfree_spec.proofs.Factors as factors
+use Rattle.errorfree_spec.proofs.Steps.{toEven, toZero, mul-finite}
+use Rattle.errorfree_spec.proofs.Split.{Split0}
+use Rattle.errorfree_spec.proofs.Powers.{pow-above}
+use Rattle.errorfree_spec.proofs.ProductSplit.{whole, product-split}
+use Rattle.errorfree_spec.proofs.Halved.{product-edge}
+use Rattle.errorfree_spec.proofs.Tiny.{zero-pair, tiny-pair}
+use Rattle.errorfree_spec.proofs.MiddleSecond.{stepped}
+use Rattle.errorfree_spec.proofs.Middle.{Scaled, Finished, middle-split, middle-first, middle-second}
+use Rattle.worksheet_spec.specs.Constants.{half, twoTo24, twoTo48, twoToMinus24, plusZero, smallest, twoToMinus102, twoToMinus126}
+use Rattle.worksheet_spec.specs.Lines.{ends, value, minus, copySign, zero}
+use Rattle.worksheet_spec.specs.Sheets.{recomposition, recomposedFinished, infiniteProduct, lowered, tinyTie, tinyProduct, restTie, scaledDown, middleProduct, otherProduct}
+use Rattle.worksheet_spec.proofs.Patterns.{Pattern, sub-width, mul-width, fma-width, minus-value, negate-finite, sign-value, sign-width}
+use Rattle.worksheet_spec.proofs.Constants.{half-value, up-value, up-up-value, down-value, zero-value, tie-value, lowest-value, smallest-value}
+use Rattle.worksheet_spec.proofs.TinyResults as tiny
+use Rattle.worksheet_spec.proofs.Foots.{Foots, foots}
+use Rattle.worksheet_spec.proofs.Blocks.{value-cond, width-cond, recomposition-split, finish-first, finish-second, finish-width, recomposed-foot, edge-foot, edge-none}
 
 -- ---- the middle branch's results
 module _ (x y : ℕ) where

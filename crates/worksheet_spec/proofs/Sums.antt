@@ -7,33 +7,33 @@ use native.Mathlib.Nat.{lt-of-le-of-lt}
 use native.Mathlib.Decide.{decLe}
 use native.Mathlib.Omega.{arith}
 use borrow.Author.Tests.{le-ltb, ltb-true, ltb-false}
-use Rattle.rounding.specs.declared.Ties.the-variants.{ToEven}
-use Rattle.rounding.specs.Format.{binary32, low, limit}
-use Rattle.rounding.specs.Nearest.{Rep}
-use Rattle.rounding.specs.Value.{Value, nan, infinite, finite, Fits, encode, isFinite, isInfinite, isZero, round}
-use Rattle.rounding.proofs.NearLaws.{near-le}
-use Rattle.rounding.proofs.RoundValue.{round-below, round-above}
-use Rattle.rounding.proofs.Codec.{decode-fits}
-use Rattle.steps.specs.Exact.{plus, finer}
-use Rattle.steps.specs.Steps.{addValue, subValue, mulValue, addStep, subStep, mulStep}
-use Rattle.steps.proofs.Theorems.{add-decodes, sub-decodes, mul-decodes}
-use Rattle.steps.proofs.Result.{add-step, sub-step}
-use Rattle.steps.proofs.Special.{plus-comm}
-use Rattle.steps.proofs.Sums.{like?, like-eq, like-own, sum-same, sum-left, sum-none}
-use Rattle.errorfree.specs.Comparisons.{lessMagnitude}
-use Rattle.errorfree.proofs.Factors as factors
-use Rattle.errorfree.proofs.Steps.{toEven, even-at}
-use Rattle.errorfree.proofs.FastTwoSum.{add-finite, fast-two-sum}
-use Rattle.errorfree.proofs.Halved.{sum-edge}
-use Rattle.emulation.specs.Constants.{half}
-use Rattle.emulation.specs.Lines.{value, zero}
-use Rattle.emulation.specs.Sheets.{recomposedFinished, halvedSum, overflows, sumInOrder, swaps, sumSheet}
-use Rattle.emulation.proofs.Patterns.{add-width, sub-width}
-use Rattle.emulation.proofs.Constants.{half-value}
-use Rattle.emulation.proofs.Foots.{Foots, foots-infinite, foots-nan}
-use Rattle.emulation.proofs.Blocks.{first-cond, second-cond, recomposed-foot, recomposed-none, edge-foot, edge-none}
-use Rattle.errorfree.proofs.NoNumber as no-number
-use Rattle.errorfree.proofs.NoNumber.{not-both, none-zero, number-of, one-of, both-of, add-left, add-right, sub-left, sub-right, mul-right, sub-nan, nan-sub, add-kept}
+use Rattle.rounding_spec.specs.declared.Ties.the-variants.{ToEven}
+use Rattle.rounding_spec.specs.Format.{binary32, low, limit}
+use Rattle.rounding_spec.specs.Nearest.{Rep}
+use Rattle.rounding_spec.specs.Value.{Value, nan, infinite, finite, Fits, encode, isFinite, isInfinite, isZero, round}
+use Rattle.rounding_spec.proofs.NearLaws.{near-le}
+use Rattle.rounding_spec.proofs.RoundValue.{round-below, round-above}
+use Rattle.rounding_spec.proofs.Codec.{decode-fits}
+use Rattle.pattern_spec.specs.Exact.{plus, finer}
+use Rattle.binary32_spec.specs.Steps.{addValue, subValue, mulValue, addStep, subStep, mulStep}
+use Rattle.binary32_spec.proofs.Theorems.{add-decodes, sub-decodes, mul-decodes}
+use Rattle.binary32_spec.proofs.Result.{add-step, sub-step}
+use Rattle.pattern_spec.proofs.Exchanged.{plus-comm}
+use Rattle.pattern_spec.proofs.Sums.{like?, like-eq, like-own, sum-same, sum-left, sum-none}
+use Rattle.errorfree_spec.specs.Comparisons.{lessMagnitude}
+use Rattle.errorfree_spec.proofs.Factors as factors
+use Rattle.errorfree_spec.proofs.Steps.{toEven, even-at}
+use Rattle.errorfree_spec.proofs.FastTwoSum.{add-finite, fast-two-sum}
+use Rattle.errorfree_spec.proofs.Halved.{sum-edge}
+use Rattle.worksheet_spec.specs.Constants.{half}
+use Rattle.worksheet_spec.specs.Lines.{value, zero}
+use Rattle.worksheet_spec.specs.Sheets.{recomposedFinished, halvedSum, overflows, sumInOrder, swaps, sumSheet}
+use Rattle.worksheet_spec.proofs.Patterns.{add-width, sub-width}
+use Rattle.worksheet_spec.proofs.Constants.{half-value}
+use Rattle.worksheet_spec.proofs.Foots.{Foots, foots-infinite, foots-nan}
+use Rattle.worksheet_spec.proofs.Blocks.{first-cond, second-cond, recomposed-foot, recomposed-none, edge-foot, edge-none}
+use Rattle.errorfree_spec.proofs.NoNumber as no-number
+use Rattle.errorfree_spec.proofs.NoNumber.{not-both, none-zero, number-of, one-of, both-of, add-left, add-right, sub-left, sub-right, mul-right, sub-nan, nan-sub, add-kept}
 
 -- ---- which lines lead to the foot
 module _ (x y : ℕ) where

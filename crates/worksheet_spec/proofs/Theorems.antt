@@ -9,20 +9,20 @@ use native.Mathlib.Decide.{decLe}
 use native.Mathlib.Omega.{arith}
 use lib.Dec.{T}
 use lib.ListN.{length, take}
-use Rattle.rounding.specs.Value.{Value, nan, infinite, finite, isNaN, isFinite, decode}
-use Rattle.steps.specs.Steps.{addStep, mulStep}
-use Rattle.pairs.specs.Direct.{sum, difference, product}
-use Rattle.emulation.specs.Constants.{psi, two, half, kappa, twoTo24, twoTo48, twoToMinus24, plusZero, smallest, twoTo127, twoTo102, twoToMinus102, twoToMinus126}
-use Rattle.emulation.specs.Lines.{Line, line, add, value, minus, equal, zero}
-use Rattle.emulation.specs.Sheets.{sumInOrder, swaps, sumSheet, productSheet, sheetOf}
-use Rattle.emulation.specs.Theorems.{patternOf, ConstantPatterns, EachLine, Derived, FirstLine, operations, sumOperations, ProductOperations, InOrder, AtMost13, FootIsPair, OperationNumbers, FillingRefused, SheetFilled, FilledPair, All}
-use Rattle.emulation.proofs.Patterns.{Pattern, pattern-of}
-use Rattle.emulation.proofs.EachLine as lines
-use Rattle.emulation.proofs.Derived as derivation
-use Rattle.emulation.proofs.FootIsPair as feet
-use Rattle.emulation.proofs.Filling as answers
-use Rattle.emulation.proofs.Operations.{sum-operations}
-use Rattle.emulation.proofs.ProductOperations.{product-operations}
+use Rattle.rounding_spec.specs.Value.{Value, nan, infinite, finite, isNaN, isFinite, decode}
+use Rattle.binary32_spec.specs.Steps.{addStep, mulStep}
+use Rattle.augmented_spec.specs.Direct.{sum, difference, product}
+use Rattle.worksheet_spec.specs.Constants.{psi, two, half, kappa, twoTo24, twoTo48, twoToMinus24, plusZero, smallest, twoTo127, twoTo102, twoToMinus102, twoToMinus126}
+use Rattle.worksheet_spec.specs.Lines.{Line, line, add, value, minus, equal, zero}
+use Rattle.worksheet_spec.specs.Sheets.{sumInOrder, swaps, sumSheet, productSheet, sheetOf}
+use Rattle.worksheet_spec.specs.Theorems.{patternOf, ConstantPatterns, EachLine, Derived, FirstLine, operations, sumOperations, ProductOperations, InOrder, AtMost13, FootIsPair, OperationNumbers, FillingRefused, SheetFilled, FilledPair, All}
+use Rattle.worksheet_spec.proofs.Patterns.{Pattern, pattern-of}
+use Rattle.worksheet_spec.proofs.EachLine as lines
+use Rattle.worksheet_spec.proofs.Derived as derivation
+use Rattle.worksheet_spec.proofs.FootIsPair as feet
+use Rattle.worksheet_spec.proofs.Filling as answers
+use Rattle.worksheet_spec.proofs.Operations.{sum-operations}
+use Rattle.worksheet_spec.proofs.ProductOperations.{product-operations}
 
 -- ---- the constants
 constant : (x m : ℕ) → Pattern x → value x ≡ finite false m → x ≡ patternOf m

@@ -1,10 +1,10 @@
 -- The results of a tiny product's lines, by the names that its rules have. Assumes nothing.
 use mathlib.Core.Bool.{Bool, cond}
 use Prim.Native.Nat.{ℕ}
-use Rattle.steps.specs.Steps.{addStep, subStep, mulStep, fmaStep}
-use Rattle.emulation.specs.Constants.{twoTo24, twoTo48}
-use Rattle.emulation.specs.Lines.{minus}
-use Rattle.emulation.specs.Sheets.{lowered, tinyTie}
+use Rattle.binary32_spec.specs.Steps.{addStep, subStep, mulStep, fmaStep}
+use Rattle.worksheet_spec.specs.Constants.{twoTo24, twoTo48}
+use Rattle.worksheet_spec.specs.Lines.{minus}
+use Rattle.worksheet_spec.specs.Sheets.{lowered, tinyTie}
 
 module _ (x y a : ℕ) where
   abbrev pub m : ℕ

@@ -5,11 +5,11 @@ use mathlib.Core.Bool.{Bool, true, false, not, cond, _&&_}
 use mathlib.Core.List.{List, [], _∷_, _++_}
 use lib.Dec.{eqb, leb, ltb}
 use lib.ListN.{length, drop, replicate}
-use Rattle.rounding.specs.Format.{binary32}
-use Rattle.pairs.specs.declared.Pair.{Pair}
-use Rattle.pairs.specs.Direct.{Operation, sum, difference, product, directPair}
-use Rattle.emulation.specs.Lines.{number, Line}
-use Rattle.emulation.specs.Sheets.{sheetOf}
+use Rattle.rounding_spec.specs.Format.{binary32}
+use Rattle.augmented_spec.specs.declared.Pair.{Pair}
+use Rattle.augmented_spec.specs.Direct.{Operation, sum, difference, product, directPair}
+use Rattle.worksheet_spec.specs.Lines.{number, Line}
+use Rattle.worksheet_spec.specs.Sheets.{sheetOf}
 
 -- ---- "operation number outside 1 to 3 (sum, difference, product)"
 abbrev pub isOperation : ℕ → Bool

@@ -3,10 +3,10 @@ use Prim.Native.Nat.{ℕ}
 use mathlib.Core.Bool.{Bool, cond}
 use mathlib.Core.List.{List, [], _++_}
 use lib.Dec.{leb}
-use Rattle.rounding.specs.Format.{binary32, signBit}
-use Rattle.rounding.specs.Value.{Value, decode, isZero}
-use Rattle.steps.specs.Classes.{flip}
-use Rattle.errorfree.specs.Comparisons.{same}
+use Rattle.rounding_spec.specs.Format.{binary32, signBit}
+use Rattle.rounding_spec.specs.Value.{Value, decode, isZero}
+use Rattle.pattern_spec.specs.Classes.{flip}
+use Rattle.errorfree_spec.specs.Comparisons.{same}
 
 -- ---- a line
 -- "operation (1 add, 2 subtract, 3 multiply, 4 fused)"

@@ -5,12 +5,12 @@ use Prim.Native.Nat.{ℕ, _^_}
 use mathlib.Core.Bool.{Bool, not, cond, _&&_}
 use mathlib.Core.List.{[], _∷_}
 use lib.Dec.{ltb, leb, eqb}
-use Rattle.rounding.specs.Value.{Value, nan, infinite, finite, isInfinite}
-use Rattle.steps.specs.Steps.{addStep, subStep, mulStep, fmaStep}
-use Rattle.pairs.specs.Direct.{Operation, sum, difference, product}
-use Rattle.errorfree.specs.Comparisons.{lessMagnitude}
-use Rattle.emulation.specs.Constants.{psi, two, minusTwo, half, kappa, twoTo24, twoTo48, twoToMinus24, plusZero, smallest, twoTo127, twoTo102, twoToMinus102, twoToMinus126}
-use Rattle.emulation.specs.Lines.{add, subtract, multiply, Line, line, fusedLine, Sheet, before, ends, value, minus, equal, copySign, zero}
+use Rattle.rounding_spec.specs.Value.{Value, nan, infinite, finite, isInfinite}
+use Rattle.binary32_spec.specs.Steps.{addStep, subStep, mulStep, fmaStep}
+use Rattle.augmented_spec.specs.Direct.{Operation, sum, difference, product}
+use Rattle.errorfree_spec.specs.Comparisons.{lessMagnitude}
+use Rattle.worksheet_spec.specs.Constants.{psi, two, minusTwo, half, kappa, twoTo24, twoTo48, twoToMinus24, plusZero, smallest, twoTo127, twoTo102, twoToMinus102, twoToMinus126}
+use Rattle.worksheet_spec.specs.Lines.{add, subtract, multiply, Line, line, fusedLine, Sheet, before, ends, value, minus, equal, copySign, zero}
 
 -- "Recomposition of (a, b), three lines: z = ψ·a; d = z - a; e = 2·b. If e = d the pair is (z, -b), otherwise (a, b)."
 unfoldable pub recomposition : ℕ → ℕ → Sheet

@@ -5,18 +5,18 @@ use mathlib.Core.List.{List, [], _∷_}
 use Prim.Native.Nat.{ℕ, suc}
 use native.Mathlib.Omega.{arith}
 use lib.ListN.{length}
-use Rattle.rounding.specs.Value.{Value, nan, infinite, finite, isFinite, isInfinite}
-use Rattle.steps.specs.Steps.{addStep, subStep}
-use Rattle.errorfree.proofs.NoNumber.{not-both, none-zero, both-of}
-use Rattle.emulation.specs.Constants.{half}
-use Rattle.emulation.specs.Lines.{add, subtract, multiply, Line, line, value, zero}
-use Rattle.emulation.specs.Sheets.{recomposedFinished, edgeFinish, halvedSum, overflows, sumInOrder, swaps, sumSheet}
-use Rattle.emulation.specs.Theorems.{operations}
-use Rattle.emulation.proofs.Sums.{b-none}
-use Rattle.emulation.proofs.Operations.{recomposed-none-operations}
-use Rattle.sheet_lines.specs.Inner.{Written, Follows}
-use Rattle.sheet_lines.specs.declared.Foot.{Foot}
-use Rattle.sheet_lines.proofs.Placed.{Places, Standing, none-yet, foot-follows, then-line, then-lines, then-sheet}
+use Rattle.rounding_spec.specs.Value.{Value, nan, infinite, finite, isFinite, isInfinite}
+use Rattle.binary32_spec.specs.Steps.{addStep, subStep}
+use Rattle.errorfree_spec.proofs.NoNumber.{not-both, none-zero, both-of}
+use Rattle.worksheet_spec.specs.Constants.{half}
+use Rattle.worksheet_spec.specs.Lines.{add, subtract, multiply, Line, line, value, zero}
+use Rattle.worksheet_spec.specs.Sheets.{recomposedFinished, edgeFinish, halvedSum, overflows, sumInOrder, swaps, sumSheet}
+use Rattle.worksheet_spec.specs.Theorems.{operations}
+use Rattle.worksheet_spec.proofs.Sums.{b-none}
+use Rattle.worksheet_spec.proofs.Operations.{recomposed-none-operations}
+use Rattle.worksheet_lines.specs.Inner.{Written, Follows}
+use Rattle.worksheet_lines.specs.declared.Foot.{Foot}
+use Rattle.worksheet_lines.proofs.Placed.{Places, Standing, none-yet, foot-follows, then-line, then-lines, then-sheet}
 
 -- ---- half the operands
 module _ (x y a : ℕ) {l₀ l₁ l₂ l₃ l₄ l₅ l₆ : Places} {p q s v r : ℕ} {foot : Foot} where

@@ -1,15 +1,15 @@
 // The lines of a sum. All begin at the first place.
-use sheet_lines::Foot;
-use sheet_lines::Places;
-use sheet_lines::blocks;
-use sheet_lines::constants::HALF;
-ghost use Rattle.emulation.specs.Sheets.{halvedSum, sumInOrder, sumSheet};
-ghost use Rattle.sheet_lines.specs.Inner.{Follows};
+use worksheet_lines::Foot;
+use worksheet_lines::Places;
+use worksheet_lines::blocks;
+use worksheet_lines::constants::HALF;
+ghost use Rattle.worksheet_spec.specs.Sheets.{halvedSum, sumInOrder, sumSheet};
+ghost use Rattle.worksheet_lines.specs.Inner.{Follows};
 
 pub fn sum(lines: &mut Places, x: u32, y: u32) -> Foot
     ensures { λ r. ⌜ Follows (now (lines .entry)) (now (lines .exit)) 0 (sumSheet x y) r ⌝ }
 {
-    if comparisons::swaps(x, y) {
+    if worksheet_choices::swaps(x, y) {
         in_order(lines, y, x)
     } else {
         in_order(lines, x, y)
@@ -20,11 +20,11 @@ pub fn sum(lines: &mut Places, x: u32, y: u32) -> Foot
 fn in_order(lines: &mut Places, x: u32, y: u32) -> Foot
     ensures { λ r. ⌜ Follows (now (lines .entry)) (now (lines .exit)) 0 (sumInOrder x y) r ⌝ }
 {
-    let a = sheet_lines::add(lines, 0, x, y);
-    let v = sheet_lines::sub(lines, 1, a, x);
-    let b = sheet_lines::sub(lines, 2, y, v);
+    let a = worksheet_lines::add(lines, 0, x, y);
+    let v = worksheet_lines::sub(lines, 1, a, x);
+    let b = worksheet_lines::sub(lines, 2, y, v);
     let pair = blocks::recomposed_finished(lines, 3, a, b);
-    if comparisons::overflows(pair.second, a) {
+    if worksheet_choices::overflows(pair.second, a) {
         return halved(lines, x, y, a);
     }
     pair
@@ -34,10 +34,10 @@ fn in_order(lines: &mut Places, x: u32, y: u32) -> Foot
 fn halved(lines: &mut Places, x: u32, y: u32, a: u32) -> Foot
     ensures { λ r. ⌜ Follows (now (lines .entry)) (now (lines .exit)) 6 (halvedSum x y a) r ⌝ }
 {
-    let p = sheet_lines::mul(lines, 6, HALF, x);
-    let q = sheet_lines::mul(lines, 7, HALF, y);
-    let half = sheet_lines::add(lines, 8, p, q);
-    let v = sheet_lines::sub(lines, 9, half, p);
-    let rest = sheet_lines::sub(lines, 10, q, v);
+    let p = worksheet_lines::mul(lines, 6, HALF, x);
+    let q = worksheet_lines::mul(lines, 7, HALF, y);
+    let half = worksheet_lines::add(lines, 8, p, q);
+    let v = worksheet_lines::sub(lines, 9, half, p);
+    let rest = worksheet_lines::sub(lines, 10, q, v);
     blocks::edge_finish(lines, 11, a, half, rest)
 }

@@ -2,9 +2,9 @@ use borrow.Author.Needs.{needs}
 use mathlib.Core.Path.{refl}
 use borrow.Author.Tests.{eq-eqb, ne-eqb}
 use lib.ListN.{getD}
-use Rattle.totals.proofs.Placed.{total-placed}
-use Rattle.term.proofs.add.Statement.{statement}
-use Rattle.term.proofs.add.Tie as tie
+use Rattle.accumulator_spec.proofs.Placed.{total-placed}
+use Rattle.accumulator_add.proofs.add.Statement.{statement}
+use Rattle.accumulator_add.proofs.add.Tie as tie
 
 slice-read-n : tie.Need-slice-read-n
 slice-read-n c = search needs

@@ -1,21 +1,21 @@
 use borrow.Author.Needs.{needs}
 use mathlib.Core.Path.{refl, sym, ap, _∙_}
 use native.Mathlib.Omega.{arith}
-use Rattle.rounding.specs.Format.{binary32}
-use Rattle.rounding.specs.Value.{isFinite}
-use Rattle.steps.specs.declared.Class.{Class}
-use Rattle.steps.specs.Exact.{finer}
-use Rattle.steps.specs.Classes.{valueOf}
-use Rattle.steps.proofs.Classified.{class-operand}
-use Rattle.totals.specs.Totals.{ofPattern}
-use Rattle.totals.proofs.Adding.{fit-bounds}
-use Rattle.totals.proofs.Terms.{tried, special}
-use Rattle.fit.proofs.Lent.{sound}
-use Rattle.term.specs.Inner.{numbered, hasRoom}
-use Rattle.term.proofs.Numbers.{lent-adds, room-numbered}
-use Rattle.term.proofs.Scaled.{pattern-value, finer-digits}
-use Rattle.term.proofs.add_pattern.Statement.{statement}
-use Rattle.term.proofs.add_pattern.Tie as tie
+use Rattle.rounding_spec.specs.Format.{binary32}
+use Rattle.rounding_spec.specs.Value.{isFinite}
+use Rattle.pattern_spec.specs.declared.Class.{Class}
+use Rattle.pattern_spec.specs.Exact.{finer}
+use Rattle.pattern_spec.specs.Classes.{valueOf}
+use Rattle.pattern_spec.proofs.Classified.{class-operand}
+use Rattle.accumulator_spec.specs.Totals.{ofPattern}
+use Rattle.accumulator_spec.proofs.Adding.{fit-bounds}
+use Rattle.accumulator_spec.proofs.Terms.{tried, special}
+use Rattle.accumulator_fit.proofs.Lent.{sound}
+use Rattle.accumulator_add.specs.Inner.{numbered, hasRoom}
+use Rattle.accumulator_add.proofs.Numbers.{lent-adds, room-numbered}
+use Rattle.accumulator_add.proofs.Scaled.{pattern-value, finer-digits}
+use Rattle.accumulator_add.proofs.add_pattern.Statement.{statement}
+use Rattle.accumulator_add.proofs.add_pattern.Tie as tie
 
 refusal-requires : tie.Need-refusal-requires
 refusal-requires c κs = search needs

@@ -3,13 +3,13 @@ use mathlib.Core.Path.{_≡_, refl, sym, ap, _∙_}
 use Prim.Native.Nat.{ℕ, _*_}
 use lib.Dec.{leb}
 use lib.ListN.{take, getD}
-use Rattle.words.specs.Words.{Words}
-use Rattle.totals.specs.Totals.{count}
-use Rattle.totals.proofs.Fitness.{unfit-count, over-top, over-next}
-use Rattle.fit.specs.Inner.{belowLimit}
-use Rattle.fit.proofs.Limit.{within-fit}
-use Rattle.fit.proofs.is_fit.Statement.{statement}
-use Rattle.fit.proofs.is_fit.Tie as tie
+use Rattle.accumulator_spec.specs.Words.{Words}
+use Rattle.accumulator_spec.specs.Totals.{count}
+use Rattle.accumulator_spec.proofs.Fitness.{unfit-count, over-top, over-next}
+use Rattle.accumulator_fit.specs.Inner.{belowLimit}
+use Rattle.accumulator_fit.proofs.Limit.{within-fit}
+use Rattle.accumulator_fit.proofs.is_fit.Statement.{statement}
+use Rattle.accumulator_fit.proofs.is_fit.Tie as tie
 
 shared-slice-read-n : tie.Need-shared-slice-read-n
 shared-slice-read-n c = search needs

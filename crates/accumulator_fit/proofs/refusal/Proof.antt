@@ -2,8 +2,8 @@ use borrow.Author.Needs.{needs}
 use mathlib.Core.Path.{sym, _∙_}
 use borrow.Author.Tests.{eq-eqb, ne-eqb, not-true, not-false}
 use lib.ListN.{length}
-use Rattle.fit.proofs.refusal.Statement.{statement}
-use Rattle.fit.proofs.refusal.Tie as tie
+use Rattle.accumulator_fit.proofs.refusal.Statement.{statement}
+use Rattle.accumulator_fit.proofs.refusal.Tie as tie
 
 returns : tie.Need-returns
 returns c = rw (ne-eqb (length (c .before .before .args .total .now)) 21 (c .if1 .taken))

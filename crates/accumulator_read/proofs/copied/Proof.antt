@@ -5,8 +5,8 @@ use native.Mathlib.Numerals.{add-one}
 use native.Mathlib.Omega.{arith}
 use lib.ListN.{length, take, getD, length-set}
 use lib.Seq.{take-all, take-suc, take-suc-set}
-use Rattle.halves.proofs.copied.Statement.{statement}
-use Rattle.halves.proofs.copied.Tie as tie
+use Rattle.accumulator_read.proofs.copied.Statement.{statement}
+use Rattle.accumulator_read.proofs.copied.Tie as tie
 
 abbrev Inv-loop : tie.InvT-loop
 Inv-loop total number₀ i₀ number i = (i ≤ 20) × (length number ≡ 20) × (take i number ≡ take i total)

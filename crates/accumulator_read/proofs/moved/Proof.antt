@@ -1,8 +1,8 @@
 use borrow.Author.Needs.{needs}
-use Rattle.leading.proofs.Arrays.{array-length, array-words}
-use Rattle.totals.proofs.Placed.{all-placed}
-use Rattle.halves.proofs.moved.Statement.{statement}
-use Rattle.halves.proofs.moved.Tie as tie
+use Rattle.accumulator_read.proofs.Arrays.{array-length, array-words}
+use Rattle.accumulator_spec.proofs.Placed.{all-placed}
+use Rattle.accumulator_read.proofs.moved.Statement.{statement}
+use Rattle.accumulator_read.proofs.moved.Tie as tie
 
 cast-w : tie.Need-cast-w
 cast-w c = search needs

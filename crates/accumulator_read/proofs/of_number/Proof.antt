@@ -1,12 +1,12 @@
 use borrow.Author.Needs.{needs}
 use mathlib.Core.Path.{refl, sym, _∙_}
 use native.Mathlib.Omega.{arith}
-use Rattle.steps.specs.Classes.{valueOf}
-use Rattle.steps.proofs.Classified.{class-operand}
-use Rattle.words.specs.Words.{integer}
-use Rattle.totals.proofs.TotalPair.{halves-finite, halves-other}
-use Rattle.halves.proofs.of_number.Statement.{statement}
-use Rattle.halves.proofs.of_number.Tie as tie
+use Rattle.pattern_spec.specs.Classes.{valueOf}
+use Rattle.pattern_spec.proofs.Classified.{class-operand}
+use Rattle.accumulator_spec.specs.Words.{integer}
+use Rattle.accumulator_spec.proofs.TotalPair.{halves-finite, halves-other}
+use Rattle.accumulator_read.proofs.of_number.Statement.{statement}
+use Rattle.accumulator_read.proofs.of_number.Tie as tie
 
 rounded-requires : tie.Need-rounded-requires
 rounded-requires c κs = search needs

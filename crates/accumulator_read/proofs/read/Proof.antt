@@ -3,17 +3,17 @@ use mathlib.Core.Path.{sym, ap, _∙_}
 use mathlib.Core.List.{List}
 use Prim.Native.Nat.{ℕ}
 use lib.IntN.{natAbs}
-use Rattle.rounding.specs.Format.{binary32}
-use Rattle.pairs.specs.Pairs.{pairOf}
-use Rattle.words.specs.Words.{integer}
-use Rattle.totals.specs.Totals.{number, count, exact, pairAnswer}
-use Rattle.totals.proofs.Adding.{fit-bounds, sum-room}
-use Rattle.totals.proofs.Answers.{reading-pair}
-use Rattle.fit.proofs.Lent.{sound}
-use Rattle.halves.specs.Inner.{replied}
-use Rattle.halves.proofs.Replies.{lent-replied}
-use Rattle.halves.proofs.read.Statement.{statement}
-use Rattle.halves.proofs.read.Tie as tie
+use Rattle.rounding_spec.specs.Format.{binary32}
+use Rattle.augmented_spec.specs.Pairs.{pairOf}
+use Rattle.accumulator_spec.specs.Words.{integer}
+use Rattle.accumulator_spec.specs.Totals.{number, count, exact, pairAnswer}
+use Rattle.accumulator_spec.proofs.Adding.{fit-bounds, sum-room}
+use Rattle.accumulator_spec.proofs.Answers.{reading-pair}
+use Rattle.accumulator_fit.proofs.Lent.{sound}
+use Rattle.accumulator_read.specs.Inner.{replied}
+use Rattle.accumulator_read.proofs.Replies.{lent-replied}
+use Rattle.accumulator_read.proofs.read.Statement.{statement}
+use Rattle.accumulator_read.proofs.read.Tie as tie
 
 refusal-requires : tie.Need-refusal-requires
 refusal-requires c κs = search needs

@@ -4,16 +4,16 @@ use Prim.Native.Nat.{_^_}
 use lib.Dec.{leb}
 use lib.IntN.{natAbs}
 use lib.ListN.{getD}
-use Rattle.rounding.specs.declared.Ties.the-variants.{ToZero}
-use Rattle.rounding.specs.Format.{binary32}
-use Rattle.rounding.specs.Value.{finite, encode, round, roundFinite}
-use Rattle.words.specs.Words.{natural, integer}
-use Rattle.totals.specs.Totals.{exact}
-use Rattle.leading.proofs.Arrays.{array-length, array-words}
-use Rattle.totals.proofs.LeadingDigits.{leading-rounds}
-use Rattle.totals.proofs.Top.{exact-top}
-use Rattle.halves.proofs.rounded.Statement.{statement}
-use Rattle.halves.proofs.rounded.Tie as tie
+use Rattle.rounding_spec.specs.declared.Ties.the-variants.{ToZero}
+use Rattle.rounding_spec.specs.Format.{binary32}
+use Rattle.rounding_spec.specs.Value.{finite, encode, round, roundFinite}
+use Rattle.accumulator_spec.specs.Words.{natural, integer}
+use Rattle.accumulator_spec.specs.Totals.{exact}
+use Rattle.accumulator_read.proofs.Arrays.{array-length, array-words}
+use Rattle.accumulator_spec.proofs.LeadingDigits.{leading-rounds}
+use Rattle.accumulator_spec.proofs.Top.{exact-top}
+use Rattle.accumulator_read.proofs.rounded.Statement.{statement}
+use Rattle.accumulator_read.proofs.rounded.Tie as tie
 
 array-read-minus : tie.Need-array-read-minus
 array-read-minus c = search needs

@@ -7,12 +7,12 @@ use native.Mathlib.Nat.{mod-eq-of-lt, lt-of-lt-of-le}
 use native.Mathlib.Omega.{arith}
 use lib.Seq.{drop-set-lt}
 use lib.ListN.{take-append-drop, length, take, drop, getD, length-set}
-use Rattle.words.specs.Words.{Words}
-use Rattle.words.proofs.Carry.{turn, walk, turned, lowest, pending, walked, walk-none, turn-xor, read-lt}
-use Rattle.words.proofs.Parts.{walk-is, drop-words}
-use Rattle.words.proofs.Significand.{split, low-lt, high-lt}
-use Rattle.words.proofs.add.Statement.{statement}
-use Rattle.words.proofs.add.Tie as tie
+use Rattle.accumulator_spec.specs.Words.{Words}
+use Rattle.accumulator_spec.proofs.Carry.{turn, walk, turned, lowest, pending, walked, walk-none, turn-xor, read-lt}
+use Rattle.accumulator_spec.proofs.Parts.{walk-is, drop-words}
+use Rattle.accumulator_words.proofs.Significand.{split, low-lt, high-lt}
+use Rattle.accumulator_words.proofs.add.Statement.{statement}
+use Rattle.accumulator_words.proofs.add.Tie as tie
 
 abbrev Inv-loop : tie.InvT-loop
 Inv-loop words₀ minus sig shift mask low₀ high₀ i₀ words low high i =
@@ -22,8 +22,8 @@ Inv-loop words₀ minus sig shift mask low₀ high₀ i₀ words low high i =
 abbrev μ-loop : tie.MeasureT-loop
 μ-loop words₀ minus sig shift mask low₀ high₀ i₀ words low high i = length words - i
 
-pick-pattern-requires : tie.Need-pick-pattern-requires Inv-loop μ-loop
-pick-pattern-requires c κs = search needs
+choose-pattern-requires : tie.Need-choose-pattern-requires Inv-loop μ-loop
+choose-pattern-requires c κs = search needs
 
 cast-low : tie.Need-cast-low Inv-loop μ-loop
 cast-low c = search needs
@@ -51,7 +51,7 @@ loop-holds c =
       rw eh h,
       λ z. absurd (omega arith),
       (λ i. c .before .slice-known .given i .fits),
-      c .pick-pattern .ensures,
+      c .choose-pattern .ensures,
       ap (walk (a .minus) (a .words .now)) (rw (el, eh) (split (a .sig) (2 ^ (a .shift % 32)))),
     )
 
@@ -142,7 +142,7 @@ add-spec =
     (tie.spec
     Inv-loop
     μ-loop
-    pick-pattern-requires
+    choose-pattern-requires
     cast-low
     shl-low
     cast-high

@@ -2,13 +2,13 @@ use borrow.Author.Needs.{needs}
 use mathlib.Core.Path.{sym, ap, _∙_}
 use Prim.Native.Nat.{_*_, _^_}
 use native.Mathlib.Omega.{arith}
-use Rattle.rounding.specs.Format.{binary32}
-use Rattle.rounding.specs.Value.{finite}
-use Rattle.pairs.specs.Pairs.{pairOf}
-use Rattle.pairs.specs.Inner.{finitePair}
-use Rattle.pairs.proofs.Rests.{product-short, short-loses-nothing}
-use Rattle.product_pairs.proofs.of_number.Statement.{statement}
-use Rattle.product_pairs.proofs.of_number.Tie as tie
+use Rattle.rounding_spec.specs.Format.{binary32}
+use Rattle.rounding_spec.specs.Value.{finite}
+use Rattle.augmented_spec.specs.Pairs.{pairOf}
+use Rattle.augmented_spec.specs.Inner.{finitePair}
+use Rattle.augmented_spec.proofs.Rests.{product-short, short-loses-nothing}
+use Rattle.augmented_product.proofs.of_number.Statement.{statement}
+use Rattle.augmented_product.proofs.of_number.Tie as tie
 
 twice-rounded-requires : tie.Need-twice-rounded-requires
 twice-rounded-requires c κs = search needs

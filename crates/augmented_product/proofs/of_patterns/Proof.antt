@@ -1,10 +1,10 @@
 use borrow.Author.Needs.{needs}
 use mathlib.Core.Path.{refl, sym, _∙_}
-use Rattle.rounding.specs.Value.{Fits, encode}
-use Rattle.steps.specs.Classes.{valueOf}
-use Rattle.pairs.proofs.Answered.{product-finite, product-special}
-use Rattle.product_pairs.proofs.of_patterns.Statement.{statement}
-use Rattle.product_pairs.proofs.of_patterns.Tie as tie
+use Rattle.rounding_spec.specs.Value.{Fits, encode}
+use Rattle.pattern_spec.specs.Classes.{valueOf}
+use Rattle.augmented_spec.proofs.Answered.{product-finite, product-special}
+use Rattle.augmented_product.proofs.of_patterns.Statement.{statement}
+use Rattle.augmented_product.proofs.of_patterns.Tie as tie
 
 product-requires : tie.Need-product-requires
 product-requires c κs = search needs

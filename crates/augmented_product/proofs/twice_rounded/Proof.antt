@@ -1,8 +1,8 @@
 use borrow.Author.Needs.{needs}
 use mathlib.Core.Path.{sym, _∙_}
-use Rattle.pairs.proofs.Rests.{shown-infinite, shown-finite, twice-infinite, twice-is}
-use Rattle.product_pairs.proofs.twice_rounded.Statement.{statement}
-use Rattle.product_pairs.proofs.twice_rounded.Tie as tie
+use Rattle.augmented_spec.proofs.Rests.{shown-infinite, shown-finite, twice-infinite, twice-is}
+use Rattle.augmented_product.proofs.twice_rounded.Statement.{statement}
+use Rattle.augmented_product.proofs.twice_rounded.Tie as tie
 
 round-with-rest-requires : tie.Need-round-with-rest-requires
 round-with-rest-requires c κs = search needs

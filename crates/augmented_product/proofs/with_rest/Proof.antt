@@ -2,9 +2,9 @@ use borrow.Author.Needs.{needs}
 use mathlib.Core.Path.{_∙_}
 use mathlib.Core.Bool.{false}
 use Prim.Native.Nat.{_*_, _^_}
-use Rattle.pairs.proofs.Rests.{rest-fits, with-rest-is, halved-pair}
-use Rattle.product_pairs.proofs.with_rest.Statement.{statement}
-use Rattle.product_pairs.proofs.with_rest.Tie as tie
+use Rattle.augmented_spec.proofs.Rests.{rest-fits, with-rest-is, halved-pair}
+use Rattle.augmented_product.proofs.with_rest.Statement.{statement}
+use Rattle.augmented_product.proofs.with_rest.Tie as tie
 
 round-with-rest-requires : tie.Need-round-with-rest-requires
 round-with-rest-requires c κs = search needs
@@ -12,20 +12,20 @@ round-with-rest-requires c κs = search needs
 is-infinite-requires : tie.Need-is-infinite-requires
 is-infinite-requires c κs = search needs
 
-sub-pick-exponent : tie.Need-sub-pick-exponent
-sub-pick-exponent c = search needs
+sub-choose-exponent : tie.Need-sub-choose-exponent
+sub-choose-exponent c = search needs
 
-pick-exponent-requires : tie.Need-pick-exponent-requires
-pick-exponent-requires c κs = search needs
+choose-exponent-requires : tie.Need-choose-exponent-requires
+choose-exponent-requires c κs = search needs
 
 packed-requires : tie.Need-packed-requires
 packed-requires c κs =
     let f = c .before .before in
     let b = f .before in
-    rest-fits (b .args .sign) (b .args .sig) (b .args .exp) (b .pre) _ (f .round-with-rest .ensures .1 .0) _ _ (f .round-with-rest .ensures .0) (c .before .is-infinite .ensures) _ (c .pick-exponent .ensures)
+    rest-fits (b .args .sign) (b .args .sig) (b .args .exp) (b .pre) _ (f .round-with-rest .ensures .1 .0) _ _ (f .round-with-rest .ensures .0) (c .before .is-infinite .ensures) _ (c .choose-exponent .ensures)
 
-pick-pattern-requires : tie.Need-pick-pattern-requires
-pick-pattern-requires c κs = search needs
+choose-pattern-requires : tie.Need-choose-pattern-requires
+choose-pattern-requires c κs = search needs
 
 pair-requires : tie.Need-pair-requires
 pair-requires c κs = search needs
@@ -36,7 +36,7 @@ returns c =
     let u = p .before in
     let f = u .before .before in
     let b = f .before in
-    let halves = with-rest-is (b .args .sign) (b .args .sig) (b .args .exp) (b .pre) _ (f .round-with-rest .ensures .1 .0) _ _ (f .round-with-rest .ensures .0) (u .before .is-infinite .ensures) _ (u .pick-exponent .ensures) _ (f .round-with-rest .ensures .1 .1) _ _ (p .packed .ensures) (c .before .pick-pattern .ensures) in
+    let halves = with-rest-is (b .args .sign) (b .args .sig) (b .args .exp) (b .pre) _ (f .round-with-rest .ensures .1 .0) _ _ (f .round-with-rest .ensures .0) (u .before .is-infinite .ensures) _ (u .choose-exponent .ensures) _ (f .round-with-rest .ensures .1 .1) _ _ (p .packed .ensures) (c .before .choose-pattern .ensures) in
     c .pair .ensures ∙ halved-pair (b .args .sign) (b .args .sig * 2 ^ b .args .exp) false halves
 
 pub with-rest-spec : {M : Type 1} → statement M
@@ -45,9 +45,9 @@ with-rest-spec =
     (tie.spec
     round-with-rest-requires
     is-infinite-requires
-    sub-pick-exponent
-    pick-exponent-requires
+    sub-choose-exponent
+    choose-exponent-requires
     packed-requires
-    pick-pattern-requires
+    choose-pattern-requires
     pair-requires
     returns)

@@ -1,9 +1,9 @@
 use borrow.Author.Needs.{needs}
 use mathlib.Core.Path.{ap, _∙_}
 use Prim.Native.Nat.{ℕ, _+_, _*_, _^_}
-use Rattle.pairs.proofs.Unrounded.{apart-word}
-use Rattle.sum_halves.proofs.apart.Statement.{statement}
-use Rattle.sum_halves.proofs.apart.Tie as tie
+use Rattle.augmented_spec.proofs.Unrounded.{apart-word}
+use Rattle.augmented_sum.proofs.apart.Statement.{statement}
+use Rattle.augmented_sum.proofs.apart.Tie as tie
 
 zero-takes-requires : tie.Need-zero-takes-requires
 zero-takes-requires c κs = search needs

@@ -1,16 +1,16 @@
 use borrow.Author.Needs.{needs}
 use mathlib.Core.Path.{refl, sym, ap, ap₂, _∙_}
 use native.Mathlib.Omega.{arith}
-use Rattle.rounding.specs.declared.Ties.the-variants.{ToZero}
-use Rattle.rounding.specs.Format.{binary32}
-use Rattle.rounding.specs.Value.{Value}
-use Rattle.steps.specs.Exact.{plus, finer}
-use Rattle.steps.specs.Classes.{valueOf}
-use Rattle.pairs.specs.Pairs.{pairOf}
-use Rattle.pairs.specs.Inner.{join}
-use Rattle.pairs.proofs.Unrounded.{finite-class, special-class, second-special, below-class, near-short}
-use Rattle.sum_halves.proofs.finite_plus.Statement.{statement}
-use Rattle.sum_halves.proofs.finite_plus.Tie as tie
+use Rattle.rounding_spec.specs.declared.Ties.the-variants.{ToZero}
+use Rattle.rounding_spec.specs.Format.{binary32}
+use Rattle.rounding_spec.specs.Value.{Value}
+use Rattle.pattern_spec.specs.Exact.{plus, finer}
+use Rattle.pattern_spec.specs.Classes.{valueOf}
+use Rattle.augmented_spec.specs.Pairs.{pairOf}
+use Rattle.augmented_spec.specs.Inner.{join}
+use Rattle.augmented_spec.proofs.Unrounded.{finite-class, special-class, second-special, below-class, near-short}
+use Rattle.augmented_sum.proofs.finite_plus.Statement.{statement}
+use Rattle.augmented_sum.proofs.finite_plus.Tie as tie
 
 classify-requires : tie.Need-classify-requires
 classify-requires c κs = search needs

@@ -1,18 +1,18 @@
 use borrow.Author.Needs.{needs}
 use mathlib.Core.Path.{_≡_, refl, sym, ap, ap₂, _∙_}
 use Prim.Native.Nat.{ℕ}
-use Rattle.rounding.specs.Format.{binary32}
-use Rattle.rounding.specs.Value.{Value}
-use Rattle.steps.specs.Exact.{finer}
-use Rattle.steps.specs.Classes.{classOf, valueOf, Descending}
-use Rattle.steps.specs.Unrounded.{larger, smaller}
-use Rattle.steps.proofs.Classified.{picked-descending}
-use Rattle.steps.proofs.Exacts.{ordered-sum}
-use Rattle.pairs.specs.Pairs.{pairOf, exactSum}
-use Rattle.pairs.specs.Inner.{join}
-use Rattle.pairs.proofs.Unrounded.{finite-class, special-class, first-special}
-use Rattle.sum_halves.proofs.of_patterns.Statement.{statement}
-use Rattle.sum_halves.proofs.of_patterns.Tie as tie
+use Rattle.rounding_spec.specs.Format.{binary32}
+use Rattle.rounding_spec.specs.Value.{Value}
+use Rattle.pattern_spec.specs.Exact.{finer}
+use Rattle.pattern_spec.specs.Classes.{classOf, valueOf, Descending}
+use Rattle.pattern_spec.specs.Unrounded.{larger, smaller}
+use Rattle.pattern_spec.proofs.Classified.{chosen-descending}
+use Rattle.pattern_spec.proofs.Exacts.{ordered-sum}
+use Rattle.augmented_spec.specs.Pairs.{pairOf, exactSum}
+use Rattle.augmented_spec.specs.Inner.{join}
+use Rattle.augmented_spec.proofs.Unrounded.{finite-class, special-class, first-special}
+use Rattle.augmented_sum.proofs.of_patterns.Statement.{statement}
+use Rattle.augmented_sum.proofs.of_patterns.Tie as tie
 
 -- the halves of the operands in order are those of the operands
 same-halves : (x y p q : ℕ) → p ≡ larger x y → q ≡ smaller x y → join (pairOf binary32 (exactSum binary32 p q)) ≡ join (pairOf binary32 (exactSum binary32 x y))
@@ -38,7 +38,7 @@ finite-plus-requires c κs =
     let is = f .classify .ensures in
     let o = finite-class _ _ _ _ _ is (k .a .given .1) in
     let order : Descending (classOf (f .before .before .larger .result)) (classOf (f .before .smaller .result)) =
-    rw (f .before .before .larger .ensures, f .before .smaller .ensures) (picked-descending (b .args .x) (b .args .y)) in
+    rw (f .before .before .larger .ensures, f .before .smaller .ensures) (chosen-descending (b .args .x) (b .args .y)) in
     (o .0, (o .1, rw (sym is ∙ k .a .given .1) at order))
 
 enum-told : tie.Need-enum-told

@@ -1,10 +1,10 @@
 use borrow.Author.Needs.{needs}
 use mathlib.Core.Path.{_∙_}
-use Rattle.steps.specs.Steps.{addValue}
-use Rattle.steps.proofs.Result.{add-step}
-use Rattle.pairs.proofs.Unrounded.{special-word}
-use Rattle.sum_halves.proofs.special.Statement.{statement}
-use Rattle.sum_halves.proofs.special.Tie as tie
+use Rattle.binary32_spec.specs.Steps.{addValue}
+use Rattle.binary32_spec.proofs.Result.{add-step}
+use Rattle.augmented_spec.proofs.Unrounded.{special-word}
+use Rattle.augmented_sum.proofs.special.Statement.{statement}
+use Rattle.augmented_sum.proofs.special.Tie as tie
 
 add-requires : tie.Need-add-requires
 add-requires c κs = search needs

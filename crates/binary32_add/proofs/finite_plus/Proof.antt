@@ -1,10 +1,10 @@
 use borrow.Author.Needs.{needs}
-use Rattle.rounding.specs.Value.{encode, round}
-use Rattle.steps.specs.Exact.{plus, finer}
-use Rattle.steps.specs.Steps.{addValue}
-use Rattle.steps.specs.Classes.{valueOf}
-use Rattle.addition.proofs.finite_plus.Statement.{statement}
-use Rattle.addition.proofs.finite_plus.Tie as tie
+use Rattle.rounding_spec.specs.Value.{encode, round}
+use Rattle.pattern_spec.specs.Exact.{plus, finer}
+use Rattle.binary32_spec.specs.Steps.{addValue}
+use Rattle.pattern_spec.specs.Classes.{valueOf}
+use Rattle.binary32_add.proofs.finite_plus.Statement.{statement}
+use Rattle.binary32_add.proofs.finite_plus.Tie as tie
 
 enum-told : tie.Need-enum-told
 enum-told c = search needs

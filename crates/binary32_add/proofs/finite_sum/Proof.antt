@@ -2,14 +2,15 @@ use borrow.Author.Needs.{needs}
 use mathlib.Core.Path.{sym, ap, _∙_}
 use Prim.Native.Nat.{_-_}
 use native.Mathlib.Omega.{arith}
-use Rattle.rounding.specs.declared.Ties.the-variants.{ToEven}
-use Rattle.rounding.specs.Format.{binary32}
-use Rattle.steps.specs.Steps.{addValue}
-use Rattle.rounding.specs.Value.{encode}
-use Rattle.steps.proofs.Near.{moved, near-sum}
-use Rattle.steps.proofs.Far.{far-sum}
-use Rattle.addition.proofs.finite_sum.Statement.{statement}
-use Rattle.addition.proofs.finite_sum.Tie as tie
+use Rattle.rounding_spec.specs.declared.Ties.the-variants.{ToEven}
+use Rattle.rounding_spec.specs.Format.{binary32}
+use Rattle.binary32_spec.specs.Steps.{addValue}
+use Rattle.rounding_spec.specs.Value.{encode}
+use Rattle.pattern_spec.proofs.Moved.{moved}
+use Rattle.binary32_spec.proofs.Near.{near-sum}
+use Rattle.pattern_spec.proofs.Far.{far-sum}
+use Rattle.binary32_add.proofs.finite_sum.Statement.{statement}
+use Rattle.binary32_add.proofs.finite_sum.Tie as tie
 
 sub-gap : tie.Need-sub-gap
 sub-gap c = search needs

@@ -1,9 +1,9 @@
 use borrow.Author.Needs.{needs}
-use Rattle.rounding.specs.Value.{encode}
-use Rattle.steps.specs.Exact.{plus}
-use Rattle.steps.specs.Classes.{valueOf}
-use Rattle.addition.proofs.infinite_plus.Statement.{statement}
-use Rattle.addition.proofs.infinite_plus.Tie as tie
+use Rattle.rounding_spec.specs.Value.{encode}
+use Rattle.pattern_spec.specs.Exact.{plus}
+use Rattle.pattern_spec.specs.Classes.{valueOf}
+use Rattle.binary32_add.proofs.infinite_plus.Statement.{statement}
+use Rattle.binary32_add.proofs.infinite_plus.Tie as tie
 
 enum-told : tie.Need-enum-told
 enum-told c = search needs

@@ -2,15 +2,15 @@ use borrow.Author.Needs.{needs}
 use mathlib.Core.Path.{_≡_, ap, ap₂, _∙_}
 use Prim.Native.Nat.{_%_, _^_}
 use lib.Dec.{ltb}
-use Rattle.rounding.specs.Format.{binary32}
-use Rattle.rounding.specs.Value.{Value, encode}
-use Rattle.steps.specs.Steps.{addValue}
-use Rattle.steps.specs.Classes.{classOf}
-use Rattle.steps.specs.Unrounded.{larger, smaller}
-use Rattle.steps.proofs.Classified.{class-value, class-operand, picked-descending}
-use Rattle.steps.proofs.Near.{add-picked}
-use Rattle.addition.proofs.of_patterns.Statement.{statement}
-use Rattle.addition.proofs.of_patterns.Tie as tie
+use Rattle.rounding_spec.specs.Format.{binary32}
+use Rattle.rounding_spec.specs.Value.{Value, encode}
+use Rattle.binary32_spec.specs.Steps.{addValue}
+use Rattle.pattern_spec.specs.Classes.{classOf}
+use Rattle.pattern_spec.specs.Unrounded.{larger, smaller}
+use Rattle.pattern_spec.proofs.Classified.{class-value, class-operand, chosen-descending}
+use Rattle.binary32_spec.proofs.Near.{add-chosen}
+use Rattle.binary32_add.proofs.of_patterns.Statement.{statement}
+use Rattle.binary32_add.proofs.of_patterns.Tie as tie
 
 larger-requires : tie.Need-larger-requires
 larger-requires c κs = search needs
@@ -31,7 +31,7 @@ plus-requires c κs =
     let y = b .args .y in
     let first : c .before .before .classify .result ≡ classOf (larger x y) = c .before .before .classify .ensures ∙ ap classOf (c .before .before .before .larger .ensures) in
     let second : c .classify2 .result ≡ classOf (smaller x y) = c .classify2 .ensures ∙ ap classOf (c .before .smaller .ensures) in
-    (class-operand (larger x y) _ first, (class-operand (smaller x y) _ second, rw (first, second) (picked-descending x y)))
+    (class-operand (larger x y) _ first, (class-operand (smaller x y) _ second, rw (first, second) (chosen-descending x y)))
 
 returns : tie.Need-returns
 returns c =
@@ -42,7 +42,7 @@ returns c =
     ∙ ap₂ (λ (u v : Value). encode binary32 (addValue binary32 u v))
     (class-value (larger x y) _ (c .before .before .before .classify .ensures ∙ ap classOf (c .before .before .before .before .larger .ensures)))
     (class-value (smaller x y) _ (c .before .classify2 .ensures ∙ ap classOf (c .before .before .smaller .ensures)))
-    ∙ ap (encode binary32) (add-picked (ltb (x % 2 ^ 31) (y % 2 ^ 31)) x y)
+    ∙ ap (encode binary32) (add-chosen (ltb (x % 2 ^ 31) (y % 2 ^ 31)) x y)
 
 pub of-patterns-spec : {M : Type 1} → statement M
 of-patterns-spec =

@@ -1,10 +1,10 @@
 use borrow.Author.Needs.{needs}
 use mathlib.Core.Path.{sym}
 use native.Mathlib.Nat.{zero-add}
-use Rattle.rounding.specs.Value.{encode}
-use Rattle.steps.proofs.Near.{operand-bits}
-use Rattle.addition.proofs.packed.Statement.{statement}
-use Rattle.addition.proofs.packed.Tie as tie
+use Rattle.rounding_spec.specs.Value.{encode}
+use Rattle.binary32_spec.proofs.Near.{operand-bits}
+use Rattle.binary32_add.proofs.packed.Statement.{statement}
+use Rattle.binary32_add.proofs.packed.Tie as tie
 
 mul-c : tie.Need-mul-c
 mul-c c = search needs

@@ -1,13 +1,13 @@
 use borrow.Author.Needs.{needs}
 use mathlib.Core.Path.{sym, ap, _∙_}
-use Rattle.rounding.specs.Format.{binary32}
-use Rattle.rounding.specs.Value.{encode, round}
-use Rattle.steps.specs.Exact.{plus, finer}
-use Rattle.steps.specs.Steps.{addValue}
-use Rattle.steps.specs.Classes.{valueOf}
-use Rattle.steps.proofs.Special.{add-infinite}
-use Rattle.addition.proofs.plus.Statement.{statement}
-use Rattle.addition.proofs.plus.Tie as tie
+use Rattle.rounding_spec.specs.Format.{binary32}
+use Rattle.rounding_spec.specs.Value.{encode, round}
+use Rattle.pattern_spec.specs.Exact.{plus, finer}
+use Rattle.binary32_spec.specs.Steps.{addValue}
+use Rattle.pattern_spec.specs.Classes.{valueOf}
+use Rattle.binary32_spec.proofs.Special.{add-infinite}
+use Rattle.binary32_add.proofs.plus.Statement.{statement}
+use Rattle.binary32_add.proofs.plus.Tie as tie
 
 enum-told : tie.Need-enum-told
 enum-told c = search needs

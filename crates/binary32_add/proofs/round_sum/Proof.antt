@@ -1,8 +1,8 @@
 use borrow.Author.Needs.{needs}
 use mathlib.Core.Path.{_∙_}
-use Rattle.steps.proofs.Near.{round-sum-is}
-use Rattle.addition.proofs.round_sum.Statement.{statement}
-use Rattle.addition.proofs.round_sum.Tie as tie
+use Rattle.binary32_spec.proofs.Near.{round-sum-is}
+use Rattle.binary32_add.proofs.round_sum.Statement.{statement}
+use Rattle.binary32_add.proofs.round_sum.Tie as tie
 
 signed-sum-requires : tie.Need-signed-sum-requires
 signed-sum-requires c κs = search needs

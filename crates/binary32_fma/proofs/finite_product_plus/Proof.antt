@@ -1,15 +1,15 @@
 use borrow.Author.Needs.{needs}
-use Rattle.rounding.specs.Format.{binary32}
-use Rattle.rounding.specs.Value.{encode, round}
-use Rattle.steps.specs.Exact.{plusFinite, plus, finer}
-use Rattle.steps.specs.Classes.{valueOf, Operand}
+use Rattle.rounding_spec.specs.Format.{binary32}
+use Rattle.rounding_spec.specs.Value.{encode, round}
+use Rattle.pattern_spec.specs.Exact.{plusFinite, plus, finer}
+use Rattle.pattern_spec.specs.Classes.{valueOf, Operand}
 use mathlib.Core.Path.{refl, sym, ap, _∙_}
 use Prim.Native.Nat.{ℕ, _+_, _*_, _^_}
 use native.Mathlib.Omega.{arith}
-use Rattle.rounding.specs.declared.Ties.the-variants.{ToEven}
-use Rattle.rounding.proofs.Multiple.{joined}
-use Rattle.fused.proofs.finite_product_plus.Statement.{statement}
-use Rattle.fused.proofs.finite_product_plus.Tie as tie
+use Rattle.rounding_spec.specs.declared.Ties.the-variants.{ToEven}
+use Rattle.rounding_spec.proofs.Multiple.{joined}
+use Rattle.binary32_fma.proofs.finite_product_plus.Statement.{statement}
+use Rattle.binary32_fma.proofs.finite_product_plus.Tie as tie
 
 enum-told : tie.Need-enum-told
 enum-told c = search needs

@@ -1,13 +1,13 @@
 use borrow.Author.Needs.{needs}
 use mathlib.Core.Path.{ap, _∙_}
 use native.Mathlib.Omega.{arith}
-use Rattle.rounding.specs.declared.Ties.the-variants.{ToEven}
-use Rattle.rounding.specs.Format.{binary32}
-use Rattle.rounding.specs.Value.{Value, encode, round}
-use Rattle.steps.proofs.Products.{vanished}
-use Rattle.fused.proofs.Ordering.{ordered-reaches, ordered-sum}
-use Rattle.fused.proofs.fused_sum.Statement.{statement}
-use Rattle.fused.proofs.fused_sum.Tie as tie
+use Rattle.rounding_spec.specs.declared.Ties.the-variants.{ToEven}
+use Rattle.rounding_spec.specs.Format.{binary32}
+use Rattle.rounding_spec.specs.Value.{Value, encode, round}
+use Rattle.pattern_spec.proofs.Products.{vanished}
+use Rattle.binary32_fma.proofs.Ordering.{ordered-reaches, ordered-sum}
+use Rattle.binary32_fma.proofs.fused_sum.Statement.{statement}
+use Rattle.binary32_fma.proofs.fused_sum.Tie as tie
 
 round-sum-requires : tie.Need-round-sum-requires
 round-sum-requires c κs = search needs

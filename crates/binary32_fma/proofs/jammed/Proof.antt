@@ -1,47 +1,47 @@
 use borrow.Author.Needs.{needs}
 use native.Mathlib.Omega.{arith}
 use lib.Pow.{shr-le}
-use Rattle.steps.proofs.Jam.{jam-is, jam-shift}
-use Rattle.fused.proofs.jammed.Statement.{statement}
-use Rattle.fused.proofs.jammed.Tie as tie
+use Rattle.binary32_spec.proofs.Jam.{jam-is, jam-shift}
+use Rattle.binary32_fma.proofs.jammed.Statement.{statement}
+use Rattle.binary32_fma.proofs.jammed.Tie as tie
 
-pick-exponent-requires : tie.Need-pick-exponent-requires
-pick-exponent-requires c κs = search needs
+choose-exponent-requires : tie.Need-choose-exponent-requires
+choose-exponent-requires c κs = search needs
 
 cast-q : tie.Need-cast-q
 cast-q c = search needs
 
 shr-q : tie.Need-shr-q
-shr-q c = jam-shift (c .before .args .g) _ (c .pick-exponent .ensures)
+shr-q c = jam-shift (c .before .args .g) _ (c .choose-exponent .ensures)
 
-cast-pick : tie.Need-cast-pick
-cast-pick c = search needs
+cast-choose : tie.Need-cast-choose
+cast-choose c = search needs
 
-shl-pick : tie.Need-shl-pick
-shl-pick c = jam-shift (c .before .args .g) _ (c .pick-exponent .ensures)
+shl-choose : tie.Need-shl-choose
+shl-choose c = jam-shift (c .before .args .g) _ (c .choose-exponent .ensures)
 
-sub-pick : tie.Need-sub-pick
-sub-pick c = search needs
+sub-choose : tie.Need-sub-choose
+sub-choose c = search needs
 
-add-pick : tie.Need-add-pick
-add-pick c = omega (arith, shr-le (c .before .args .b) (c .pick-exponent .result))
+add-choose : tie.Need-add-choose
+add-choose c = omega (arith, shr-le (c .before .args .b) (c .choose-exponent .result))
 
-pick-requires : tie.Need-pick-requires
-pick-requires c κs = search needs
+choose-requires : tie.Need-choose-requires
+choose-requires c κs = search needs
 
 returns : tie.Need-returns
-returns c = jam-is _ _ _ _ (c .before .before .pre) (c .before .pick-exponent .ensures) (c .pick .ensures)
+returns c = jam-is _ _ _ _ (c .before .before .pre) (c .before .choose-exponent .ensures) (c .choose .ensures)
 
 pub jammed-spec : {M : Type 1} → statement M
 jammed-spec =
     tie.close
     (tie.spec
-    pick-exponent-requires
+    choose-exponent-requires
     cast-q
     shr-q
-    cast-pick
-    shl-pick
-    sub-pick
-    add-pick
-    pick-requires
+    cast-choose
+    shl-choose
+    sub-choose
+    add-choose
+    choose-requires
     returns)

@@ -1,8 +1,8 @@
 use native.Mathlib.Omega.{arith}
 use lib.Count.{leading-le}
-use Rattle.steps.proofs.Products.{zeros-ge, normalised-is}
-use Rattle.fused.proofs.normalised.Statement.{statement}
-use Rattle.fused.proofs.normalised.Tie as tie
+use Rattle.binary32_spec.proofs.ThirdOperand.{zeros-ge, normalised-is}
+use Rattle.binary32_fma.proofs.normalised.Statement.{statement}
+use Rattle.binary32_fma.proofs.normalised.Tie as tie
 
 sub-up : tie.Need-sub-up
 sub-up c = zeros-ge (c .args .c) (c .args .j) (c .pre .0) (c .pre .1) (c .pre .2)

@@ -1,14 +1,14 @@
 use borrow.Author.Needs.{needs}
 use mathlib.Core.Path.{sym, ap₂, _∙_}
-use Rattle.rounding.specs.declared.Ties.the-variants.{ToEven}
-use Rattle.rounding.specs.Format.{binary32}
-use Rattle.rounding.specs.Value.{Value, encode, round}
-use Rattle.steps.specs.Exact.{plus, finer}
-use Rattle.steps.specs.Steps.{fmaValue}
-use Rattle.steps.proofs.Classified.{class-value, class-operand}
-use Rattle.steps.proofs.Result.{fma-step}
-use Rattle.fused.proofs.of_patterns.Statement.{statement}
-use Rattle.fused.proofs.of_patterns.Tie as tie
+use Rattle.rounding_spec.specs.declared.Ties.the-variants.{ToEven}
+use Rattle.rounding_spec.specs.Format.{binary32}
+use Rattle.rounding_spec.specs.Value.{Value, encode, round}
+use Rattle.pattern_spec.specs.Exact.{plus, finer}
+use Rattle.binary32_spec.specs.Steps.{fmaValue}
+use Rattle.pattern_spec.proofs.Classified.{class-value, class-operand}
+use Rattle.binary32_spec.proofs.Result.{fma-step}
+use Rattle.binary32_fma.proofs.of_patterns.Statement.{statement}
+use Rattle.binary32_fma.proofs.of_patterns.Tie as tie
 
 product-requires : tie.Need-product-requires
 product-requires c κs = search needs

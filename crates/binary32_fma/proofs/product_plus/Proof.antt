@@ -1,12 +1,12 @@
 use borrow.Author.Needs.{needs}
-use Rattle.rounding.specs.Format.{binary32}
-use Rattle.rounding.specs.Value.{encode, round}
-use Rattle.steps.specs.Exact.{plus}
-use Rattle.steps.specs.Classes.{valueOf}
+use Rattle.rounding_spec.specs.Format.{binary32}
+use Rattle.rounding_spec.specs.Value.{encode, round}
+use Rattle.pattern_spec.specs.Exact.{plus}
+use Rattle.pattern_spec.specs.Classes.{valueOf}
 use mathlib.Core.Path.{sym, ap, _∙_}
-use Rattle.steps.proofs.Special.{round-infinite-plus, infinite-plus-finer}
-use Rattle.fused.proofs.product_plus.Statement.{statement}
-use Rattle.fused.proofs.product_plus.Tie as tie
+use Rattle.binary32_spec.proofs.Special.{round-infinite-plus, infinite-plus-finer}
+use Rattle.binary32_fma.proofs.product_plus.Statement.{statement}
+use Rattle.binary32_fma.proofs.product_plus.Tie as tie
 
 enum-told : tie.Need-enum-told
 enum-told c = search needs

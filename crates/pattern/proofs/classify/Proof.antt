@@ -1,8 +1,8 @@
 use borrow.Author.Needs.{needs}
 use native.Mathlib.Omega.{arith}
-use Rattle.steps.proofs.Classified.{class-zero, class-normal, class-infinite, class-nan}
-use Rattle.operands.proofs.classify.Statement.{statement}
-use Rattle.operands.proofs.classify.Tie as tie
+use Rattle.pattern_spec.proofs.Classified.{class-zero, class-normal, class-infinite, class-nan}
+use Rattle.pattern.proofs.classify.Statement.{statement}
+use Rattle.pattern.proofs.classify.Tie as tie
 
 cast-t7 : tie.Need-cast-t7
 cast-t7 c = search needs

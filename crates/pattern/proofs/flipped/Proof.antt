@@ -1,7 +1,7 @@
 use borrow.Author.Needs.{needs}
 use borrow.Author.Tests.{le-leb, lt-leb}
-use Rattle.operands.proofs.flipped.Statement.{statement}
-use Rattle.operands.proofs.flipped.Tie as tie
+use Rattle.pattern.proofs.flipped.Statement.{statement}
+use Rattle.pattern.proofs.flipped.Tie as tie
 
 add-result : tie.Need-add-result
 add-result c = search needs

@@ -1,6 +1,6 @@
-use Rattle.rounding.specs.Value.{encode}
-use Rattle.operands.proofs.infinity.Statement.{statement}
-use Rattle.operands.proofs.infinity.Tie as tie
+use Rattle.rounding_spec.specs.Value.{encode}
+use Rattle.pattern.proofs.infinity.Statement.{statement}
+use Rattle.pattern.proofs.infinity.Tie as tie
 
 returns : tie.Need-returns
 unfolding encode

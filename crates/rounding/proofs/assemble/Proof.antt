@@ -1,6 +1,6 @@
 use native.Mathlib.Omega.{arith}
-use Rattle.nearest.proofs.assemble.Statement.{statement}
-use Rattle.nearest.proofs.assemble.Tie as tie
+use Rattle.rounding.proofs.assemble.Statement.{statement}
+use Rattle.rounding.proofs.assemble.Tie as tie
 
 mul-c : tie.Need-mul-c
 mul-c c = omega arith

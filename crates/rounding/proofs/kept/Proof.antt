@@ -1,9 +1,9 @@
 use borrow.Author.Needs.{needs}
 use Prim.Native.Nat.{_/_, _^_}
 use native.Mathlib.Omega.{arith}
-use Rattle.rounding.proofs.Remainder.{tie-bit-le, rest-le, rest-lt, quot-lt, word-up, word-down}
-use Rattle.nearest.proofs.kept.Statement.{statement}
-use Rattle.nearest.proofs.kept.Tie as tie
+use Rattle.rounding_spec.proofs.Remainder.{tie-bit-le, rest-le, rest-lt, quot-lt, word-up, word-down}
+use Rattle.rounding.proofs.kept.Statement.{statement}
+use Rattle.rounding.proofs.kept.Tie as tie
 
 kept-far-requires : tie.Need-kept-far-requires
 kept-far-requires c κs = search needs

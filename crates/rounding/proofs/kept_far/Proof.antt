@@ -1,10 +1,10 @@
 use native.Mathlib.Omega.{arith}
 use mathlib.Core.Path.{_≡_, _∙_, ap}
 use Prim.Native.Nat.{ℕ}
-use Rattle.rounding.specs.Round.{keep}
-use Rattle.rounding.proofs.Remainder.{far-none, far-up, far-down}
-use Rattle.nearest.proofs.kept_far.Statement.{statement}
-use Rattle.nearest.proofs.kept_far.Tie as tie
+use Rattle.rounding_spec.specs.Round.{keep}
+use Rattle.rounding_spec.proofs.Remainder.{far-none, far-up, far-down}
+use Rattle.rounding.proofs.kept_far.Statement.{statement}
+use Rattle.rounding.proofs.kept_far.Tie as tie
 
 returns : tie.Need-returns
 returns c = far-none _ _ (c .before .fits .n .fits) _ (c .if1 .taken)

@@ -1,6 +1,6 @@
 use native.Mathlib.Omega.{arith}
-use Rattle.nearest.proofs.last_place.Statement.{statement}
-use Rattle.nearest.proofs.last_place.Tie as tie
+use Rattle.rounding.proofs.last_place.Statement.{statement}
+use Rattle.rounding.proofs.last_place.Tie as tie
 
 sub-result : tie.Need-sub-result
 sub-result c = omega arith

@@ -1,8 +1,8 @@
 use borrow.Author.Needs.{needs}
 use native.Mathlib.Omega.{arith}
-use Rattle.rounding.proofs.LeftOver.{far-none, far-one}
-use Rattle.nearest.proofs.left_far.Statement.{statement}
-use Rattle.nearest.proofs.left_far.Tie as tie
+use Rattle.rounding_spec.proofs.LeftOver.{far-none, far-one}
+use Rattle.rounding.proofs.left_far.Statement.{statement}
+use Rattle.rounding.proofs.left_far.Tie as tie
 
 returns : tie.Need-returns
 returns c = far-none _ _ (c .if1 .taken)

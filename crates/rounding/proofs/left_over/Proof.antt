@@ -2,11 +2,11 @@ use borrow.Author.Needs.{needs}
 use mathlib.Core.Path.{ap, _∙_}
 use Prim.Native.Nat.{ℕ}
 use lib.Dec.{ltb}
-use Rattle.rounding.specs.Nearest.{dist}
-use Rattle.rounding.proofs.Remainder as remainder
-use Rattle.rounding.proofs.LeftOver.{rest-fits, left-is, far-small, far-unit}
-use Rattle.nearest.proofs.left_over.Statement.{statement}
-use Rattle.nearest.proofs.left_over.Tie as tie
+use Rattle.rounding_spec.specs.Nearest.{dist}
+use Rattle.rounding_spec.proofs.Remainder as remainder
+use Rattle.rounding_spec.proofs.LeftOver.{rest-fits, left-is, far-small, far-unit}
+use Rattle.rounding.proofs.left_over.Statement.{statement}
+use Rattle.rounding.proofs.left_over.Tie as tie
 
 left-far-requires : tie.Need-left-far-requires
 left-far-requires c κs = let b = c .before in (
@@ -29,19 +29,19 @@ shl-rest c = search needs
 sub-rest : tie.Need-sub-rest
 sub-rest c = remainder.rest-le (c .before .args .n) (c .before .args .shift) (c .before .fits .n .fits)
 
-shl-pick : tie.Need-shl-pick
-shl-pick c = search needs
+shl-choose : tie.Need-shl-choose
+shl-choose c = search needs
 
-sub-pick : tie.Need-sub-pick
-sub-pick c = let b = c .before in rest-fits (b .args .n) (b .args .shift) (b .args .q) (b .fits .n .fits) (b .pre .0 .0) (b .pre .0 .1) (c .if1 .left)
+sub-choose : tie.Need-sub-choose
+sub-choose c = let b = c .before in rest-fits (b .args .n) (b .args .shift) (b .args .q) (b .fits .n .fits) (b .pre .0 .0) (b .pre .0 .1) (c .if1 .left)
 
-pick-requires : tie.Need-pick-requires
-pick-requires c κs = search needs
+choose-requires : tie.Need-choose-requires
+choose-requires c κs = search needs
 
 returns-2 : tie.Need-returns-2
 returns-2 c =
     let b = c .before .before in
-    left-is (b .args .n) (b .args .shift) (b .args .q) (b .fits .n .fits) (b .pre .0 .0) (b .pre .0 .1) (c .before .if1 .left) _ (c .pick .ensures)
+    left-is (b .args .n) (b .args .shift) (b .args .q) (b .fits .n .fits) (b .pre .0 .0) (b .pre .0 .1) (c .before .if1 .left) _ (c .choose .ensures)
 
 pub left-over-spec : {M : Type 1} → statement M
 left-over-spec =
@@ -52,7 +52,7 @@ left-over-spec =
     shr-down
     shl-rest
     sub-rest
-    shl-pick
-    sub-pick
-    pick-requires
+    shl-choose
+    sub-choose
+    choose-requires
     returns-2)

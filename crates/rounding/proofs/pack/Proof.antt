@@ -1,8 +1,8 @@
 use borrow.Author.Needs.{needs}
 use mathlib.Core.Path.{sym}
 use native.Mathlib.Nat.{zero-add}
-use Rattle.nearest.proofs.pack.Statement.{statement}
-use Rattle.nearest.proofs.pack.Tie as tie
+use Rattle.rounding.proofs.pack.Statement.{statement}
+use Rattle.rounding.proofs.pack.Tie as tie
 
 add-result : tie.Need-add-result
 add-result c = search needs

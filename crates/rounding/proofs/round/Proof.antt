@@ -1,6 +1,6 @@
 use borrow.Author.Needs.{needs}
-use Rattle.nearest.proofs.round.Statement.{statement}
-use Rattle.nearest.proofs.round.Tie as tie
+use Rattle.rounding.proofs.round.Statement.{statement}
+use Rattle.rounding.proofs.round.Tie as tie
 
 round-with-rest-requires : tie.Need-round-with-rest-requires
 round-with-rest-requires c κs = search needs

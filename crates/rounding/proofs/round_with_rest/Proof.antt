@@ -3,13 +3,13 @@ use mathlib.Core.Path.{sym, ap, _∙_}
 use Prim.Native.Nat.{_-_, _*_, _%_, _^_, _+_}
 use native.Mathlib.Omega.{arith}
 use lib.Count.{leading-le, leadingZeros}
-use Rattle.rounding.specs.Format.{binary32}
-use Rattle.rounding.specs.Value.{signed}
-use Rattle.rounding.proofs.Keep.{kept}
-use Rattle.rounding.proofs.Normalised.{round-zero, zeros-lt, kept-small, round-is}
-use Rattle.rounding.proofs.LeftOver.{moved-pos, up-is, rest-is, nothing-left}
-use Rattle.nearest.proofs.round_with_rest.Statement.{statement}
-use Rattle.nearest.proofs.round_with_rest.Tie as tie
+use Rattle.rounding_spec.specs.Format.{binary32}
+use Rattle.rounding_spec.specs.Value.{signed}
+use Rattle.rounding_spec.proofs.Keep.{kept}
+use Rattle.rounding_spec.proofs.Normalised.{round-zero, zeros-lt, kept-small, round-is}
+use Rattle.rounding_spec.proofs.LeftOver.{moved-pos, up-is, rest-is, nothing-left}
+use Rattle.rounding.proofs.round_with_rest.Statement.{statement}
+use Rattle.rounding.proofs.round_with_rest.Tie as tie
 
 pack-requires : tie.Need-pack-requires
 pack-requires c κs = search needs

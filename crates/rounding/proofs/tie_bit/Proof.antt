@@ -1,6 +1,6 @@
 use borrow.Author.Needs.{needs}
-use Rattle.nearest.proofs.tie_bit.Statement.{statement}
-use Rattle.nearest.proofs.tie_bit.Tie as tie
+use Rattle.rounding.proofs.tie_bit.Statement.{statement}
+use Rattle.rounding.proofs.tie_bit.Tie as tie
 
 enum-told : tie.Need-enum-told
 enum-told c = search needs

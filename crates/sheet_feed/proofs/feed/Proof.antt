@@ -3,11 +3,11 @@ use Prim.Native.Nat.{_-_}
 use native.Mathlib.Omega.{arith}
 use borrow.Author.Needs.{needs}
 use lib.ListN.{length}
-use Rattle.places.specs.Places.{stateOf}
-use Rattle.printer.proofs.Feeding.{Taken, none-taken, room-for-line, used-within, one-taken, feeds}
-use Rattle.places.proofs.Placed.{more-left, none-left, running}
-use Rattle.printer.proofs.feed.Statement.{statement}
-use Rattle.printer.proofs.feed.Tie as tie
+use Rattle.sheet_position.specs.Places.{stateOf}
+use Rattle.sheet_feed.proofs.Feeding.{Taken, none-taken, room-for-line, used-within, one-taken, feeds}
+use Rattle.sheet_position.proofs.Placed.{more-left, none-left, running}
+use Rattle.sheet_feed.proofs.feed.Statement.{statement}
+use Rattle.sheet_feed.proofs.feed.Tie as tie
 
 abbrev Inv-loop : tie.InvT-loop
 Inv-loop bytes line₀ total₀ out₀ here₀ at₀ used₀ line total out here at used = Taken bytes (stateOf here₀ line₀ total₀) out₀ at used (stateOf here line total) out × (length total ≡ length total₀)

@@ -1,10 +1,10 @@
 use native.Mathlib.Omega.{arith}
 use borrow.Author.Tests.{not-true, not-false}
-use Rattle.printer.proofs.Closing.{ends-early, last-within, room-behind, ends-most, ends}
-use Rattle.places.proofs.Placed.{is-ready, running}
+use Rattle.sheet_feed.proofs.Closing.{ends-early, last-within, room-behind, ends-most, ends}
+use Rattle.sheet_position.proofs.Placed.{is-ready, running}
 use borrow.Author.Needs.{needs}
-use Rattle.printer.proofs.finish.Statement.{statement}
-use Rattle.printer.proofs.finish.Tie as tie
+use Rattle.sheet_feed.proofs.finish.Statement.{statement}
+use Rattle.sheet_feed.proofs.finish.Tie as tie
 
 ready-requires : tie.Need-ready-requires
 ready-requires c κs = search needs

@@ -1,9 +1,9 @@
 use mathlib.Core.Path.{sym, ap, _∙_}
 use Rattle.worksheet.specs.Answers.{answerFilled}
-use Rattle.answers.proofs.Answering.{sheet-answered, no-sheet}
+use Rattle.sheet_line.proofs.Answering.{sheet-answered, no-sheet}
 use borrow.Author.Needs.{needs}
-use Rattle.answers.proofs.asked.Statement.{statement}
-use Rattle.answers.proofs.asked.Tie as tie
+use Rattle.sheet_line.proofs.asked.Statement.{statement}
+use Rattle.sheet_line.proofs.asked.Tie as tie
 
 slice-aggregate-fill : tie.Need-slice-aggregate-fill
 slice-aggregate-fill c = search needs

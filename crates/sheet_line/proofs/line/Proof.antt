@@ -1,9 +1,9 @@
 use mathlib.Core.Path.{sym, ap, _∙_}
 use Rattle.question.specs.Answers.{answerOf}
-use Rattle.answers.proofs.Answering.{question-answers, bad-answers}
+use Rattle.sheet_line.proofs.Answering.{question-answers, bad-answers}
 use borrow.Author.Needs.{needs}
-use Rattle.answers.proofs.line.Statement.{statement}
-use Rattle.answers.proofs.line.Tie as tie
+use Rattle.sheet_line.proofs.line.Statement.{statement}
+use Rattle.sheet_line.proofs.line.Tie as tie
 
 read-requires : tie.Need-read-requires
 read-requires c κs = search needs

@@ -1,6 +1,6 @@
-use Rattle.places.proofs.Placed.{begins}
-use Rattle.places.proofs.begin.Statement.{statement}
-use Rattle.places.proofs.begin.Tie as tie
+use Rattle.sheet_position.proofs.Placed.{begins}
+use Rattle.sheet_position.proofs.begin.Statement.{statement}
+use Rattle.sheet_position.proofs.begin.Tie as tie
 
 returns : tie.Need-returns
 returns c = begins

@@ -2,9 +2,9 @@ use mathlib.Core.Logic.{inl}
 use mathlib.Core.Bool.{true, false}
 use native.Mathlib.Omega.{arith}
 use borrow.Author.Needs.{needs}
-use Rattle.places.proofs.Placed.{is-sound, more-good, too-long, too-many, as-empty, as-sound}
-use Rattle.places.proofs.goes_on.Statement.{statement}
-use Rattle.places.proofs.goes_on.Tie as tie
+use Rattle.sheet_position.proofs.Placed.{is-sound, more-good, too-long, too-many, as-empty, as-sound}
+use Rattle.sheet_position.proofs.goes_on.Statement.{statement}
+use Rattle.sheet_position.proofs.goes_on.Tie as tie
 
 returns : tie.Need-returns
 returns c = search needs

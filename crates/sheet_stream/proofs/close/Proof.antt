@@ -1,13 +1,13 @@
 use mathlib.Core.Path.{sym}
 use lib.Seq.{length-take-le}
-use Rattle.stream.proofs.Within.{end-within}
+use Rattle.sheet_stream.proofs.Within.{end-within}
 use borrow.Author.Needs.{needs}
-use Rattle.stream.proofs.close.Statement.{statement}
-use Rattle.stream.proofs.close.Tie as tie
-use Rattle.stream.proofs.close.Reads as reads
-use Rattle.stream.proofs.close.Lts as lts
+use Rattle.sheet_stream.proofs.close.Statement.{statement}
+use Rattle.sheet_stream.proofs.close.Tie as tie
+use Rattle.sheet_stream.proofs.close.Reads as reads
+use Rattle.sheet_stream.proofs.close.Lts as lts
 use Rattle.io.proofs.write_all.Reads as write-all-reads
-use Rattle.printer.proofs.finish.Reads as finish-reads
+use Rattle.sheet_feed.proofs.finish.Reads as finish-reads
 
 finish-requires : tie.Need-finish-requires
 finish-requires c κs = search needs

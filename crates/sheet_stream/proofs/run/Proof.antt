@@ -1,14 +1,14 @@
 use mathlib.Core.Path.{_≡_}
 use lib.ListN.{length}
 use borrow.Author.Needs.{needs}
-use Rattle.stream.proofs.run.Statement.{statement}
-use Rattle.stream.proofs.run.Tie as tie
-use Rattle.stream.proofs.run.Reads as reads
-use Rattle.stream.proofs.run.Lts as lts
+use Rattle.sheet_stream.proofs.run.Statement.{statement}
+use Rattle.sheet_stream.proofs.run.Tie as tie
+use Rattle.sheet_stream.proofs.run.Reads as reads
+use Rattle.sheet_stream.proofs.run.Lts as lts
 use Rattle.io.proofs.large_buffer.Reads as large-buffer-reads
-use Rattle.places.proofs.begin.Reads as begin-reads
-use Rattle.stream.proofs.close.Reads as close-reads
-use Rattle.stream.proofs.read_once.Reads as read-once-reads
+use Rattle.sheet_position.proofs.begin.Reads as begin-reads
+use Rattle.sheet_stream.proofs.close.Reads as close-reads
+use Rattle.sheet_stream.proofs.read_once.Reads as read-once-reads
 
 abbrev Inv-loop : tie.InvT-loop
 Inv-loop input output bytes₀ out₀ line₀ total₀ here₀ reads₀ bytes out line total here reads = (65536 ≡ length bytes) × (21 ≡ length total) × (65536 ≡ length out)

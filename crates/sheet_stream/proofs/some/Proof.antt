@@ -1,15 +1,15 @@
 use mathlib.Core.Path.{sym}
 use mathlib.Core.Bool.{true≢false, true, false, not}
 use lib.Seq.{length-take-le}
-use Rattle.stream.proofs.Within.{fed-within}
-use Rattle.stream.proofs.Taking.{not-false, takes}
+use Rattle.sheet_stream.proofs.Within.{fed-within}
+use Rattle.sheet_stream.proofs.Taking.{not-false, takes}
 use borrow.Author.Needs.{needs}
-use Rattle.stream.proofs.some.Statement.{statement}
-use Rattle.stream.proofs.some.Tie as tie
-use Rattle.stream.proofs.some.Reads as reads
-use Rattle.stream.proofs.some.Lts as lts
+use Rattle.sheet_stream.proofs.some.Statement.{statement}
+use Rattle.sheet_stream.proofs.some.Tie as tie
+use Rattle.sheet_stream.proofs.some.Reads as reads
+use Rattle.sheet_stream.proofs.some.Lts as lts
 use Rattle.io.proofs.write_all.Reads as write-all-reads
-use Rattle.printer.proofs.feed.Reads as feed-reads
+use Rattle.sheet_feed.proofs.feed.Reads as feed-reads
 
 feed-requires : tie.Need-feed-requires
 feed-requires c κs = search needs

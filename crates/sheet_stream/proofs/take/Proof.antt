@@ -5,14 +5,14 @@ use native.Mathlib.Nat.{le-trans, le-of-eq}
 use native.Mathlib.Omega.{arith}
 use lib.ListN.{length, take}
 use borrow.Author.Needs.{needs}
-use Rattle.printed.specs.States.{takeBytes}
-use Rattle.places.specs.Places.{stateOf}
-use Rattle.stream.proofs.Taking.{step-within, step-taken, none-taken, rest-after-stop, all-taken}
-use Rattle.stream.proofs.take.Statement.{statement}
-use Rattle.stream.proofs.take.Tie as tie
-use Rattle.stream.proofs.take.Reads as reads
-use Rattle.stream.proofs.take.Lts as lts
-use Rattle.stream.proofs.some.Reads as some-reads
+use Rattle.sheet_spec.specs.States.{takeBytes}
+use Rattle.sheet_position.specs.Places.{stateOf}
+use Rattle.sheet_stream.proofs.Taking.{step-within, step-taken, none-taken, rest-after-stop, all-taken}
+use Rattle.sheet_stream.proofs.take.Statement.{statement}
+use Rattle.sheet_stream.proofs.take.Tie as tie
+use Rattle.sheet_stream.proofs.take.Reads as reads
+use Rattle.sheet_stream.proofs.take.Lts as lts
+use Rattle.sheet_stream.proofs.some.Reads as some-reads
 
 abbrev Inv-loop : tie.InvT-loop
 Inv-loop output bytes line₀ total₀ out₀ here₀ at₀ line total out here at = (at ≤ length bytes) × (length total ≡ length total₀) × (length out ≡ length out₀) × (stateOf (here .place) line total ≡ takeBytes (stateOf (here₀ .place) line₀ total₀) (take at bytes)) × (here .whole ≡ true → here .reading ≡ false → stateOf (here .place) line total .stopped ≡ true)

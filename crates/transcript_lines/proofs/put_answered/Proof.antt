@@ -1,9 +1,9 @@
-use Rattle.texts.proofs.TextLengths.{ask-length}
-use Rattle.texts.proofs.Pasted.{then}
+use Rattle.transcript_spec.proofs.TextLengths.{ask-length}
+use Rattle.transcript_spec.proofs.Pasted.{then}
 use native.Mathlib.Omega.{arith}
 use borrow.Author.Needs.{needs}
-use Rattle.text_lines.proofs.put_answered.Statement.{statement}
-use Rattle.text_lines.proofs.put_answered.Tie as tie
+use Rattle.transcript_lines.proofs.put_answered.Statement.{statement}
+use Rattle.transcript_lines.proofs.put_answered.Tie as tie
 
 put-ask-requires : tie.Need-put-ask-requires
 put-ask-requires c κs = omega arith

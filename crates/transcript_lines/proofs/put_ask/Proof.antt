@@ -1,14 +1,14 @@
-use Rattle.texts.proofs.TextLengths.{ask-fields}
-use Rattle.texts.proofs.FieldLaws.{letters-length}
-use Rattle.texts.proofs.Stored.{stored}
+use Rattle.transcript_spec.proofs.TextLengths.{ask-fields}
+use Rattle.transcript_spec.proofs.FieldLaws.{letters-length}
+use Rattle.transcript_spec.proofs.Stored.{stored}
 use lib.ListN.{length-set}
 use mathlib.Core.Path.{refl, _∙_}
 use Prim.Native.Nat.{_+_}
-use Rattle.texts.proofs.Pasted.{then}
+use Rattle.transcript_spec.proofs.Pasted.{then}
 use native.Mathlib.Omega.{arith}
 use borrow.Author.Needs.{needs}
-use Rattle.text_lines.proofs.put_ask.Statement.{statement}
-use Rattle.text_lines.proofs.put_ask.Tie as tie
+use Rattle.transcript_lines.proofs.put_ask.Statement.{statement}
+use Rattle.transcript_lines.proofs.put_ask.Tie as tie
 
 put-four-requires : tie.Need-put-four-requires
 put-four-requires c κs = search needs

@@ -1,7 +1,7 @@
-use Rattle.texts.proofs.Pasted.{then}
+use Rattle.transcript_spec.proofs.Pasted.{then}
 use borrow.Author.Needs.{needs}
-use Rattle.text_lines.proofs.put_start.Statement.{statement}
-use Rattle.text_lines.proofs.put_start.Tie as tie
+use Rattle.transcript_lines.proofs.put_start.Statement.{statement}
+use Rattle.transcript_lines.proofs.put_start.Tie as tie
 
 put-four-requires : tie.Need-put-four-requires
 put-four-requires c κs = search needs

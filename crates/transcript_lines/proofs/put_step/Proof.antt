@@ -1,12 +1,12 @@
-use Rattle.texts.proofs.TextLengths.{step-length}
-use Rattle.texts.proofs.FieldLaws.{step-letters-length}
-use Rattle.texts.specs.Texts.{stepText}
+use Rattle.transcript_spec.proofs.TextLengths.{step-length}
+use Rattle.transcript_spec.proofs.FieldLaws.{step-letters-length}
+use Rattle.transcript_spec.specs.Texts.{stepText}
 use lib.ListN.{getD}
-use Rattle.texts.proofs.Pasted.{then}
+use Rattle.transcript_spec.proofs.Pasted.{then}
 use native.Mathlib.Omega.{arith}
 use borrow.Author.Needs.{needs}
-use Rattle.text_lines.proofs.put_step.Statement.{statement}
-use Rattle.text_lines.proofs.put_step.Tie as tie
+use Rattle.transcript_lines.proofs.put_step.Statement.{statement}
+use Rattle.transcript_lines.proofs.put_step.Tie as tie
 
 array-read-operation : tie.Need-array-read-operation
 array-read-operation c = search needs

@@ -2,13 +2,13 @@ use Prim.Native.Nat.{_+_, _-_, _≤_}
 use mathlib.Core.Path.{_≡_, refl, sym, _∙_}
 use native.Mathlib.Omega.{arith}
 use lib.ListN.{length}
-use Rattle.texts.specs.Inner.{Put}
-use Rattle.texts.specs.Texts.{stepsText}
-use Rattle.texts.proofs.Pasted.{then}
-use Rattle.texts.proofs.Stored.{nothing-put}
-use Rattle.texts.proofs.WholeSteps.{one-more, more-length, fewer}
-use Rattle.text_lines.proofs.put_steps.Statement.{statement}
-use Rattle.text_lines.proofs.put_steps.Tie as tie
+use Rattle.transcript_spec.specs.Inner.{Put}
+use Rattle.transcript_spec.specs.Texts.{stepsText}
+use Rattle.transcript_spec.proofs.Pasted.{then}
+use Rattle.transcript_spec.proofs.Stored.{nothing-put}
+use Rattle.transcript_spec.proofs.WholeSteps.{one-more, more-length, fewer}
+use Rattle.transcript_lines.proofs.put_steps.Statement.{statement}
+use Rattle.transcript_lines.proofs.put_steps.Tie as tie
 
 abbrev Inv-loop : tie.InvT-loop
 Inv-loop out₀ at words lines next₀ k₀ out next k = (k ≤ lines) × Put out₀ at (stepsText k 1 words) next out × (length out ≡ length out₀)

@@ -1,13 +1,13 @@
-use Rattle.texts.specs.Texts.{totalText}
-use Rattle.texts.proofs.Stored.{stored}
+use Rattle.transcript_spec.specs.Texts.{totalText}
+use Rattle.transcript_spec.proofs.Stored.{stored}
 use lib.ListN.{length-set}
 use mathlib.Core.Path.{refl, _∙_}
 use Prim.Native.Nat.{_+_}
-use Rattle.texts.proofs.Pasted.{then}
+use Rattle.transcript_spec.proofs.Pasted.{then}
 use native.Mathlib.Omega.{arith}
 use borrow.Author.Needs.{needs}
-use Rattle.text_lines.proofs.put_total.Statement.{statement}
-use Rattle.text_lines.proofs.put_total.Tie as tie
+use Rattle.transcript_lines.proofs.put_total.Statement.{statement}
+use Rattle.transcript_lines.proofs.put_total.Tie as tie
 
 put-four-requires : tie.Need-put-four-requires
 put-four-requires c κs = search needs

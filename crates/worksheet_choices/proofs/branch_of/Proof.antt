@@ -1,7 +1,7 @@
 use native.Mathlib.Omega.{arith}
-use Rattle.comparisons.proofs.ProductBranches.{zero-branch, tiny-branch, middle-branch, infinite-branch, other-branch}
-use Rattle.comparisons.proofs.branch_of.Statement.{statement}
-use Rattle.comparisons.proofs.branch_of.Tie as tie
+use Rattle.worksheet_choices.proofs.ProductBranches.{zero-branch, tiny-branch, middle-branch, infinite-branch, other-branch}
+use Rattle.worksheet_choices.proofs.branch_of.Statement.{statement}
+use Rattle.worksheet_choices.proofs.branch_of.Tie as tie
 
 returns : tie.Need-returns
 returns c = zero-branch (c .before .args .a) (c .match .keys1)

@@ -1,6 +1,6 @@
-use Rattle.pairs.proofs.Patterns.{infinite-is}
-use Rattle.comparisons.proofs.is_infinite.Statement.{statement}
-use Rattle.comparisons.proofs.is_infinite.Tie as tie
+use Rattle.augmented_spec.proofs.Patterns.{infinite-is}
+use Rattle.worksheet_choices.proofs.is_infinite.Statement.{statement}
+use Rattle.worksheet_choices.proofs.is_infinite.Tie as tie
 
 returns : tie.Need-returns
 returns c = infinite-is (c .args .a)

@@ -1,6 +1,6 @@
-use Rattle.comparisons.proofs.Magnitudes.{zero-is}
-use Rattle.comparisons.proofs.is_zero.Statement.{statement}
-use Rattle.comparisons.proofs.is_zero.Tie as tie
+use Rattle.worksheet_choices.proofs.Magnitudes.{zero-is}
+use Rattle.worksheet_choices.proofs.is_zero.Statement.{statement}
+use Rattle.worksheet_choices.proofs.is_zero.Tie as tie
 
 returns : tie.Need-returns
 returns c = zero-is (c .args .x)

@@ -1,8 +1,8 @@
 use borrow.Author.Needs.{needs}
 use mathlib.Core.Path.{_∙_}
-use Rattle.comparisons.proofs.Choices.{rest-tie-is}
-use Rattle.comparisons.proofs.rest_tie.Statement.{statement}
-use Rattle.comparisons.proofs.rest_tie.Tie as tie
+use Rattle.worksheet_choices.proofs.Choices.{rest-tie-is}
+use Rattle.worksheet_choices.proofs.rest_tie.Statement.{statement}
+use Rattle.worksheet_choices.proofs.rest_tie.Tie as tie
 
 copy-sign-requires : tie.Need-copy-sign-requires
 copy-sign-requires c κs = search needs
@@ -10,14 +10,14 @@ copy-sign-requires c κs = search needs
 is-zero-requires : tie.Need-is-zero-requires
 is-zero-requires c κs = search needs
 
-pick-sign-requires : tie.Need-pick-sign-requires
-pick-sign-requires c κs = search needs
+choose-sign-requires : tie.Need-choose-sign-requires
+choose-sign-requires c κs = search needs
 
 returns : tie.Need-returns
 returns c =
     let b = c .before .before .before in
-    c .pick-sign .ensures
+    c .choose-sign .ensures
     ∙ rest-tie-is (b .args .beta) (b .args .r) (b .fits .r .fits) _ _ (c .before .before .copy-sign .ensures) (c .before .is-zero .ensures)
 
 pub rest-tie-spec : {M : Type 1} → statement M
-rest-tie-spec = tie.close (tie.spec copy-sign-requires is-zero-requires pick-sign-requires returns)
+rest-tie-spec = tie.close (tie.spec copy-sign-requires is-zero-requires choose-sign-requires returns)

@@ -2,9 +2,9 @@ use borrow.Author.Needs.{needs}
 use mathlib.Core.Path.{_≡_}
 use native.Mathlib.Omega.{arith}
 use lib.ListN.{length, length-set}
-use Rattle.sheet_lines.proofs.Copied.{five}
-use Rattle.sheet_lines.proofs.copy_line.Statement.{statement}
-use Rattle.sheet_lines.proofs.copy_line.Tie as tie
+use Rattle.worksheet_lines.proofs.Copied.{five}
+use Rattle.worksheet_lines.proofs.copy_line.Statement.{statement}
+use Rattle.worksheet_lines.proofs.copy_line.Tie as tie
 
 array-read-words : tie.Need-array-read-words
 array-read-words c = search needs

@@ -6,10 +6,10 @@ use Prim.Native.Nat.{_+_, _*_, _-_, _≤_}
 use native.Mathlib.Omega.{arith}
 use lib.ListN.{length, take, drop, length-take, length-drop}
 use lib.Seq.{take-all}
-use Rattle.sheet_lines.specs.Inner.{flat}
-use Rattle.sheet_lines.proofs.Copied.{one-more}
-use Rattle.sheet_lines.proofs.copy_out.Statement.{statement}
-use Rattle.sheet_lines.proofs.copy_out.Tie as tie
+use Rattle.worksheet_lines.specs.Inner.{flat}
+use Rattle.worksheet_lines.proofs.Copied.{one-more}
+use Rattle.worksheet_lines.proofs.copy_out.Statement.{statement}
+use Rattle.worksheet_lines.proofs.copy_out.Tie as tie
 
 abbrev Inv-loop : tie.InvT-loop
 Inv-loop words₀ lines i₀ words i = (i ≤ 13) × (length words ≡ length words₀) × (words ≡ flat (take i lines) ++ drop (i * 5) words₀) × (length (flat (take i lines)) ≡ i * 5)

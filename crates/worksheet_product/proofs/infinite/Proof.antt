@@ -1,7 +1,7 @@
 use borrow.Author.Needs.{needs}
-use Rattle.sheet_products.proofs.ProductLines.{infinite}
-use Rattle.sheet_products.proofs.infinite.Statement.{statement}
-use Rattle.sheet_products.proofs.infinite.Tie as tie
+use Rattle.worksheet_product.proofs.ProductLines.{infinite}
+use Rattle.worksheet_product.proofs.infinite.Statement.{statement}
+use Rattle.worksheet_product.proofs.infinite.Tie as tie
 
 mul-requires : tie.Need-mul-requires
 mul-requires c κs = search needs

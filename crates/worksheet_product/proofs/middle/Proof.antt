@@ -1,7 +1,7 @@
 use borrow.Author.Needs.{needs}
-use Rattle.sheet_products.proofs.ProductLines.{middle}
-use Rattle.sheet_products.proofs.middle.Statement.{statement}
-use Rattle.sheet_products.proofs.middle.Tie as tie
+use Rattle.worksheet_product.proofs.ProductLines.{middle}
+use Rattle.worksheet_product.proofs.middle.Statement.{statement}
+use Rattle.worksheet_product.proofs.middle.Tie as tie
 
 mul-requires : tie.Need-mul-requires
 mul-requires c κs = search needs

@@ -1,7 +1,7 @@
 use borrow.Author.Needs.{needs}
-use Rattle.sheet_products.proofs.ProductLines.{other}
-use Rattle.sheet_products.proofs.other.Statement.{statement}
-use Rattle.sheet_products.proofs.other.Tie as tie
+use Rattle.worksheet_product.proofs.ProductLines.{other}
+use Rattle.worksheet_product.proofs.other.Statement.{statement}
+use Rattle.worksheet_product.proofs.other.Tie as tie
 
 flipped-requires : tie.Need-flipped-requires
 flipped-requires c κs = search needs

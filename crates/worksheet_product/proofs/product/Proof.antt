@@ -1,11 +1,11 @@
 use borrow.Author.Needs.{needs}
 use mathlib.Core.Path.{sym, ap, _∙_}
-use Rattle.emulation.specs.Sheets.{productBy}
-use Rattle.comparisons.specs.Branches.{branchCase}
-use Rattle.sheet_lines.proofs.Placed.{foot-follows}
-use Rattle.sheet_products.proofs.ProductLines.{by-branch}
-use Rattle.sheet_products.proofs.product.Statement.{statement}
-use Rattle.sheet_products.proofs.product.Tie as tie
+use Rattle.worksheet_spec.specs.Sheets.{productBy}
+use Rattle.worksheet_choices.specs.Branches.{branchCase}
+use Rattle.worksheet_lines.proofs.Placed.{foot-follows}
+use Rattle.worksheet_product.proofs.ProductLines.{by-branch}
+use Rattle.worksheet_product.proofs.product.Statement.{statement}
+use Rattle.worksheet_product.proofs.product.Tie as tie
 
 mul-requires : tie.Need-mul-requires
 mul-requires c κs = search needs

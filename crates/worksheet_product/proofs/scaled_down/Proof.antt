@@ -1,8 +1,8 @@
 use borrow.Author.Needs.{needs}
 use mathlib.Core.Path.{sym, _∙_}
-use Rattle.sheet_products.proofs.ProductLines.{lowered-rest, scaled-down}
-use Rattle.sheet_products.proofs.scaled_down.Statement.{statement}
-use Rattle.sheet_products.proofs.scaled_down.Tie as tie
+use Rattle.worksheet_product.proofs.ProductLines.{lowered-rest, scaled-down}
+use Rattle.worksheet_product.proofs.scaled_down.Statement.{statement}
+use Rattle.worksheet_product.proofs.scaled_down.Tie as tie
 
 mul-requires : tie.Need-mul-requires
 mul-requires c κs = search needs

@@ -1,8 +1,8 @@
 use borrow.Author.Needs.{needs}
 use mathlib.Core.Path.{sym, _∙_}
-use Rattle.sheet_products.proofs.ProductLines.{lowered-tiny, tiny}
-use Rattle.sheet_products.proofs.tiny.Statement.{statement}
-use Rattle.sheet_products.proofs.tiny.Tie as tie
+use Rattle.worksheet_product.proofs.ProductLines.{lowered-tiny, tiny}
+use Rattle.worksheet_product.proofs.tiny.Statement.{statement}
+use Rattle.worksheet_product.proofs.tiny.Tie as tie
 
 mul-requires : tie.Need-mul-requires
 mul-requires c κs = search needs

@@ -1,7 +1,7 @@
 use borrow.Author.Needs.{needs}
-use Rattle.sheet_sums.proofs.SumLines.{halved}
-use Rattle.sheet_sums.proofs.halved.Statement.{statement}
-use Rattle.sheet_sums.proofs.halved.Tie as tie
+use Rattle.worksheet_sum.proofs.SumLines.{halved}
+use Rattle.worksheet_sum.proofs.halved.Statement.{statement}
+use Rattle.worksheet_sum.proofs.halved.Tie as tie
 
 mul-requires : tie.Need-mul-requires
 mul-requires c κs = search needs

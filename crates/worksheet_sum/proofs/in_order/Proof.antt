@@ -1,8 +1,8 @@
 use borrow.Author.Needs.{needs}
 use mathlib.Core.Path.{sym, _∙_}
-use Rattle.sheet_sums.proofs.SumLines.{not-halved, with-halved}
-use Rattle.sheet_sums.proofs.in_order.Statement.{statement}
-use Rattle.sheet_sums.proofs.in_order.Tie as tie
+use Rattle.worksheet_sum.proofs.SumLines.{not-halved, with-halved}
+use Rattle.worksheet_sum.proofs.in_order.Statement.{statement}
+use Rattle.worksheet_sum.proofs.in_order.Tie as tie
 
 add-requires : tie.Need-add-requires
 add-requires c κs = search needs

@@ -1,8 +1,8 @@
 use borrow.Author.Needs.{needs}
 use mathlib.Core.Path.{sym, _∙_}
-use Rattle.sheet_sums.proofs.SumLines.{swapped, unswapped}
-use Rattle.sheet_sums.proofs.sum.Statement.{statement}
-use Rattle.sheet_sums.proofs.sum.Tie as tie
+use Rattle.worksheet_sum.proofs.SumLines.{swapped, unswapped}
+use Rattle.worksheet_sum.proofs.sum.Statement.{statement}
+use Rattle.worksheet_sum.proofs.sum.Tie as tie
 
 swaps-requires : tie.Need-swaps-requires
 swaps-requires c κs = search needs

@@ -3,12 +3,12 @@ use mathlib.Core.Path.{_≡_, refl, sym, ap, subst}
 use Prim.Native.Nat.{ℕ, _^_, _≤_, _<_}
 use native.Mathlib.Omega.{arith}
 use lib.ListN.{drop, drop-of-length-le}
-use Rattle.words.specs.Words.{natural}
-use Rattle.leading.proofs.Arrays.{array-length, array-words}
-use Rattle.totals.proofs.LeadingDigits.{Digits, sticky-half, taken-in, all-exp, made-sticky, leading-digits}
-use Rattle.totals.proofs.LeadingDigits.Digits.{all}
-use Rattle.leading.proofs.first_digits.Statement.{statement}
-use Rattle.leading.proofs.first_digits.Tie as tie
+use Rattle.accumulator_spec.specs.Words.{natural}
+use Rattle.accumulator_read.proofs.Arrays.{array-length, array-words}
+use Rattle.accumulator_spec.proofs.LeadingDigits.{Digits, sticky-half, taken-in, all-exp, made-sticky, leading-digits}
+use Rattle.accumulator_spec.proofs.LeadingDigits.Digits.{all}
+use Rattle.accumulator_read.proofs.leading.first_digits.Statement.{statement}
+use Rattle.accumulator_read.proofs.leading.first_digits.Tie as tie
 
 abbrev Inv-loop : tie.InvT-loop
 Inv-loop words sig₀ exp₀ i₀ sig exp i = (i ≤ 20) × (sig < 2 ^ 64) × Digits (natural (drop i words)) i sig exp
@@ -65,14 +65,14 @@ loop-again c =
       taken-in (a .args .t1) (l .i) (c .before .wide .result) (omega arith) (omega arith) (c .before .wide .ensures) (array-words 20 (a .args .t1) _ (a .good .0)) (l .sig) (l .exp) (c .if1 .taken) (l .inv .2),
     )
 
-sub-pick : tie.Need-sub-pick Inv-loop μ-loop
-sub-pick c = search needs
+sub-choose : tie.Need-sub-choose Inv-loop μ-loop
+sub-choose c = search needs
 
-add-pick : tie.Need-add-pick Inv-loop μ-loop
-add-pick c = search needs
+add-choose : tie.Need-add-choose Inv-loop μ-loop
+add-choose c = search needs
 
-pick-requires : tie.Need-pick-requires Inv-loop μ-loop
-pick-requires c κs = search needs
+choose-requires : tie.Need-choose-requires Inv-loop μ-loop
+choose-requires c κs = search needs
 
 loop-less-2 : tie.Need-loop-less-2 Inv-loop μ-loop
 loop-less-2 c = search needs
@@ -84,8 +84,8 @@ loop-again-2 c =
     let w = c .before .before .wide in
     let e = array-length 20 (a .args .t1) _ (a .good .0) in (
       omega arith,
-      rw (c .pick .ensures) (omega (arith, sticky-half (w .result) (l .sig))),
-      rw (c .pick .ensures)
+      rw (c .choose .ensures) (omega (arith, sticky-half (w .result) (l .sig))),
+      rw (c .choose .ensures)
           (made-sticky (a .args .t1) (l .i) (w .result) (omega arith) (omega arith) (w .ensures) (array-words 20 (a .args .t1) _ (a .good .0)) (l .sig) (l .exp) (c .before .if1 .left) (l .inv .2)),
     )
 
@@ -112,9 +112,9 @@ first-digits-spec =
     sub-exp
     loop-less
     loop-again
-    sub-pick
-    add-pick
-    pick-requires
+    sub-choose
+    add-choose
+    choose-requires
     loop-less-2
     loop-again-2
     returns)

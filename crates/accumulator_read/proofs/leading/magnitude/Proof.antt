@@ -8,11 +8,11 @@ use native.Mathlib.Omega.{arith}
 use lib.Dec.{leb}
 use lib.ListN.{length, take, getD, drop-of-length-le}
 use lib.Seq.{take-all}
-use Rattle.words.specs.Words.{natural, wordsOf, wordsOfInteger, complement}
-use Rattle.leading.proofs.Arrays.{array-length, array-words}
-use Rattle.totals.proofs.Top.{magnitude-top}
-use Rattle.leading.proofs.magnitude.Statement.{statement}
-use Rattle.leading.proofs.magnitude.Tie as tie
+use Rattle.accumulator_spec.specs.Words.{natural, wordsOf, wordsOfInteger, complement}
+use Rattle.accumulator_read.proofs.Arrays.{array-length, array-words}
+use Rattle.accumulator_spec.proofs.Top.{magnitude-top}
+use Rattle.accumulator_read.proofs.leading.magnitude.Statement.{statement}
+use Rattle.accumulator_read.proofs.leading.magnitude.Tie as tie
 
 array-read-minus : tie.Need-array-read-minus
 array-read-minus c = search needs
@@ -29,8 +29,8 @@ part-words-start c = search needs
 part-words-end : tie.Need-part-words-end
 part-words-end c = search needs
 
-pick-requires : tie.Need-pick-requires
-pick-requires c κs = search needs
+choose-requires : tie.Need-choose-requires
+choose-requires c κs = search needs
 
 add-requires : tie.Need-add-requires
 add-requires c κs = search needs
@@ -48,7 +48,7 @@ returns c =
     let s : natural ts ≡ natural (cond minus (map complement ws) ws) = ap natural (t .ensures) in
     let f : take 20 ts ≡ ts = take-all 20 ts (omega arith) in
     let e : c .before .add .last .0 ≡ wordsOf (length ws) (natural (cond minus (map complement ws) ws) + cond minus 1 0) =
-    c .before .add .ensures ∙ ap₂ (λ (k x : ℕ). wordsOf k x) (ap length f ∙ m ∙ sym n) (ap₂ (λ (x y : ℕ). x + y) (ap natural f ∙ s) (mul-one _ ∙ c .before .before .pick .ensures))
+    c .before .add .ensures ∙ ap₂ (λ (k x : ℕ). wordsOf k x) (ap length f ∙ m ∙ sym n) (ap₂ (λ (x y : ℕ). x + y) (ap natural f ∙ s) (mul-one _ ∙ c .before .before .choose .ensures))
     in
     ap natural (ap₂ (λ (xs ys : List ℕ). xs ++ ys) e (drop-of-length-le ts {i = 20} (omega arith)) ∙ append-nil _) ∙ magnitude-top 19 ws n (array-words 20 ws _ (b .good .0)) minus refl
 
@@ -61,6 +61,6 @@ magnitude-spec =
     sub-add
     part-words-start
     part-words-end
-    pick-requires
+    choose-requires
     add-requires
     returns)

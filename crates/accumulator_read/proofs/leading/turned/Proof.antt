@@ -2,10 +2,10 @@ use borrow.Author.Needs.{needs}
 use mathlib.Core.Path.{_≡_, _∙_}
 use Prim.Native.Nat.{_-_, _≤_}
 use native.Mathlib.Omega.{arith}
-use Rattle.leading.proofs.Arrays.{array-length, array-words}
-use Rattle.leading.proofs.TurnedWords.{upto, next, whole}
-use Rattle.leading.proofs.turned.Statement.{statement}
-use Rattle.leading.proofs.turned.Tie as tie
+use Rattle.accumulator_read.proofs.Arrays.{array-length, array-words}
+use Rattle.accumulator_read.proofs.TurnedWords.{upto, next, whole}
+use Rattle.accumulator_read.proofs.leading.turned.Statement.{statement}
+use Rattle.accumulator_read.proofs.leading.turned.Tie as tie
 
 abbrev Inv-loop : tie.InvT-loop
 Inv-loop minus mask words₀ i₀ words i = (i ≤ 20) × (words ≡ upto minus words₀ i)
@@ -13,8 +13,8 @@ Inv-loop minus mask words₀ i₀ words i = (i ≤ 20) × (words ≡ upto minus 
 abbrev μ-loop : tie.MeasureT-loop
 μ-loop minus mask words₀ i₀ words i = 20 - i
 
-pick-pattern-requires : tie.Need-pick-pattern-requires Inv-loop μ-loop
-pick-pattern-requires c κs = search needs
+choose-pattern-requires : tie.Need-choose-pattern-requires Inv-loop μ-loop
+choose-pattern-requires c κs = search needs
 
 loop-holds : tie.Need-loop-holds Inv-loop μ-loop
 loop-holds c = search needs
@@ -43,7 +43,7 @@ loop-again c =
     let s = c .before .before .before in
     let k = s .good .0 in
     let e = array-length 20 (s .args .number) _ k in
-    (omega arith, next (s .args .minus) (s .args .number) (l .i) (omega arith) (l .words) _ (array-words 20 (s .args .number) _ k) (c .before .before .pick-pattern .ensures) (l .inv .1))
+    (omega arith, next (s .args .minus) (s .args .number) (l .i) (omega arith) (l .words) _ (array-words 20 (s .args .number) _ k) (c .before .before .choose-pattern .ensures) (l .inv .1))
 
 returns : tie.Need-returns Inv-loop μ-loop
 returns c =
@@ -58,7 +58,7 @@ turned-spec =
     (tie.spec
     Inv-loop
     μ-loop
-    pick-pattern-requires
+    choose-pattern-requires
     loop-holds
     mul-words
     array-read-words

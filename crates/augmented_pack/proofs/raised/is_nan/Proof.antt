@@ -1,6 +1,6 @@
-use Rattle.pairs.proofs.Patterns.{nan-is}
-use Rattle.parts.proofs.raised.is_nan.Statement.{statement}
-use Rattle.parts.proofs.raised.is_nan.Tie as tie
+use Rattle.augmented_spec.proofs.Patterns.{nan-is}
+use Rattle.augmented_pack.proofs.raised.is_nan.Statement.{statement}
+use Rattle.augmented_pack.proofs.raised.is_nan.Tie as tie
 
 returns : tie.Need-returns
 returns c = nan-is (c .args .x)

@@ -1,9 +1,9 @@
 use borrow.Author.Needs.{needs}
 use mathlib.Core.Path.{ap, _∙_}
-use Rattle.totals.specs.Columns.{column}
-use Rattle.lists.proofs.Settled.{one-term, sum-set, difference-set, product-set}
-use Rattle.settling.proofs.add_set.Statement.{statement}
-use Rattle.settling.proofs.add_set.Tie as tie
+use Rattle.accumulator_spec.specs.Columns.{column}
+use Rattle.conservation_spec.proofs.Settled.{one-term, sum-set, difference-set, product-set}
+use Rattle.conservation.proofs.settling.add_set.Statement.{statement}
+use Rattle.conservation.proofs.settling.add_set.Tie as tie
 
 add-two-requires : tie.Need-add-two-requires
 add-two-requires c κs = search needs

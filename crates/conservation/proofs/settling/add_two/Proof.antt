@@ -1,7 +1,7 @@
 use borrow.Author.Needs.{needs}
-use Rattle.lists.proofs.Settled.{two-terms}
-use Rattle.settling.proofs.add_two.Statement.{statement}
-use Rattle.settling.proofs.add_two.Tie as tie
+use Rattle.conservation_spec.proofs.Settled.{two-terms}
+use Rattle.conservation.proofs.settling.add_two.Statement.{statement}
+use Rattle.conservation.proofs.settling.add_two.Tie as tie
 
 add-pattern-requires : tie.Need-add-pattern-requires
 add-pattern-requires c κs = search needs

@@ -1,8 +1,8 @@
 use borrow.Author.Needs.{needs}
 use mathlib.Core.Path.{sym, _∙_}
 use borrow.Author.Tests.{not-true, not-false}
-use Rattle.settling.proofs.enters.Statement.{statement}
-use Rattle.settling.proofs.enters.Tie as tie
+use Rattle.conservation.proofs.settling.enters.Statement.{statement}
+use Rattle.conservation.proofs.settling.enters.Tie as tie
 
 is-finite-requires : tie.Need-is-finite-requires
 is-finite-requires c κs = search needs

@@ -1,6 +1,6 @@
-use Rattle.pairs.proofs.Patterns.{finite-is}
-use Rattle.settling.proofs.is_finite.Statement.{statement}
-use Rattle.settling.proofs.is_finite.Tie as tie
+use Rattle.augmented_spec.proofs.Patterns.{finite-is}
+use Rattle.conservation.proofs.settling.is_finite.Statement.{statement}
+use Rattle.conservation.proofs.settling.is_finite.Tie as tie
 
 returns : tie.Need-returns
 returns c = finite-is (c .args .x)

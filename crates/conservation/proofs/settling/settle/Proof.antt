@@ -1,10 +1,10 @@
 use borrow.Author.Needs.{needs}
 use mathlib.Core.Path.{sym, ap, _∙_}
 use Rattle.worksheet.specs.Answers.{answerFilled}
-use Rattle.lists.specs.Lists.{Question, Totals}
-use Rattle.lists.proofs.Settled.{refused-adds-nothing, outside-adds-nothing, entering-adds}
-use Rattle.settling.proofs.settle.Statement.{statement}
-use Rattle.settling.proofs.settle.Tie as tie
+use Rattle.conservation_spec.specs.Lists.{Question, Totals}
+use Rattle.conservation_spec.proofs.Settled.{refused-adds-nothing, outside-adds-nothing, entering-adds}
+use Rattle.conservation.proofs.settling.settle.Statement.{statement}
+use Rattle.conservation.proofs.settling.settle.Tie as tie
 
 fill-requires : tie.Need-fill-requires
 fill-requires c κs = search needs

@@ -1,5 +1,5 @@
 use mathlib.Core.Path.{sym, _∙_}
-use Rattle.question.specs.Questions.{operationOf}
+use Rattle.question_spec.specs.Questions.{operationOf}
 use borrow.Author.Needs.{needs}
 use Rattle.question.proofs.letters.operation.Statement.{statement}
 use Rattle.question.proofs.letters.operation.Tie as tie

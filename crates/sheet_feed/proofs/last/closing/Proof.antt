@@ -1,9 +1,9 @@
 use native.Mathlib.Omega.{arith}
-use Rattle.places.specs.Places.{progressOf}
-use Rattle.printer.proofs.Closing.{total-short, closes-short, closes}
+use Rattle.sheet_position.specs.Places.{progressOf}
+use Rattle.sheet_feed.proofs.Closing.{total-short, closes-short, closes}
 use borrow.Author.Needs.{needs}
-use Rattle.printer.proofs.last.closing.Statement.{statement}
-use Rattle.printer.proofs.last.closing.Tie as tie
+use Rattle.sheet_feed.proofs.last.closing.Statement.{statement}
+use Rattle.sheet_feed.proofs.last.closing.Tie as tie
 
 sub-bad : tie.Need-sub-bad
 sub-bad c = search needs

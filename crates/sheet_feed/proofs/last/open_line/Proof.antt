@@ -1,7 +1,7 @@
 use borrow.Author.Needs.{needs}
-use Rattle.printer.proofs.Closing.{none-open, one-open}
-use Rattle.printer.proofs.last.open_line.Statement.{statement}
-use Rattle.printer.proofs.last.open_line.Tie as tie
+use Rattle.sheet_feed.proofs.Closing.{none-open, one-open}
+use Rattle.sheet_feed.proofs.last.open_line.Statement.{statement}
+use Rattle.sheet_feed.proofs.last.open_line.Tie as tie
 
 returns : tie.Need-returns
 returns c = none-open _ _ _ (c .before .before .before .before .pre .0) _ (c .if1 .taken)

@@ -1,9 +1,9 @@
 use mathlib.Core.Path.{sym, ap, _∙_}
 use Rattle.accumulator.specs.Answers.{answerRead}
-use Rattle.printer.proofs.Closing.{total-written, no-total}
+use Rattle.sheet_feed.proofs.Closing.{total-written, no-total}
 use borrow.Author.Needs.{needs}
-use Rattle.printer.proofs.last.total_line.Statement.{statement}
-use Rattle.printer.proofs.last.total_line.Tie as tie
+use Rattle.sheet_feed.proofs.last.total_line.Statement.{statement}
+use Rattle.sheet_feed.proofs.last.total_line.Tie as tie
 
 read-requires : tie.Need-read-requires
 read-requires c κs = search needs

@@ -1,8 +1,8 @@
 use borrow.Author.Needs.{needs}
-use Rattle.places.proofs.Placed.{not-full}
-use Rattle.printer.proofs.Stepped.{step-stops, step-ends, step-extends}
-use Rattle.printer.proofs.step.byte.Statement.{statement}
-use Rattle.printer.proofs.step.byte.Tie as tie
+use Rattle.sheet_position.proofs.Placed.{not-full}
+use Rattle.sheet_feed.proofs.Stepped.{step-stops, step-ends, step-extends}
+use Rattle.sheet_feed.proofs.step.byte.Statement.{statement}
+use Rattle.sheet_feed.proofs.step.byte.Tie as tie
 
 stopped-requires : tie.Need-stopped-requires
 stopped-requires c κs = search needs

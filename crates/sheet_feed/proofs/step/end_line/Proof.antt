@@ -1,10 +1,10 @@
 use mathlib.Core.Path.{sym}
 use native.Mathlib.Omega.{arith}
-use Rattle.places.proofs.Placed.{lines-most}
-use Rattle.printer.proofs.Stepped.{as-many, one-most, line-ended}
+use Rattle.sheet_position.proofs.Placed.{lines-most}
+use Rattle.sheet_feed.proofs.Stepped.{as-many, one-most, line-ended}
 use borrow.Author.Needs.{needs}
-use Rattle.printer.proofs.step.end_line.Statement.{statement}
-use Rattle.printer.proofs.step.end_line.Tie as tie
+use Rattle.sheet_feed.proofs.step.end_line.Statement.{statement}
+use Rattle.sheet_feed.proofs.step.end_line.Tie as tie
 
 add-number : tie.Need-add-number
 add-number c = omega (arith, lines-most _ (c .before .before .before .pre .0))

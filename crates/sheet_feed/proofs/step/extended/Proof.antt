@@ -1,8 +1,8 @@
 use mathlib.Core.Path.{refl}
-use Rattle.printer.proofs.Stepped.{extended}
+use Rattle.sheet_feed.proofs.Stepped.{extended}
 use borrow.Author.Needs.{needs}
-use Rattle.printer.proofs.step.extended.Statement.{statement}
-use Rattle.printer.proofs.step.extended.Tie as tie
+use Rattle.sheet_feed.proofs.step.extended.Statement.{statement}
+use Rattle.sheet_feed.proofs.step.extended.Tie as tie
 
 kept-requires : tie.Need-kept-requires
 kept-requires c κs = search needs

@@ -1,10 +1,10 @@
 use mathlib.Core.Path.{refl}
 use native.Mathlib.Omega.{arith}
 use borrow.Author.Needs.{needs}
-use Rattle.texts.specs.Texts.{stopText}
-use Rattle.printer.proofs.Starting.{wrote}
-use Rattle.printer.proofs.step.stopped.Statement.{statement}
-use Rattle.printer.proofs.step.stopped.Tie as tie
+use Rattle.transcript_spec.specs.Texts.{stopText}
+use Rattle.sheet_feed.proofs.Starting.{wrote}
+use Rattle.sheet_feed.proofs.step.stopped.Statement.{statement}
+use Rattle.sheet_feed.proofs.step.stopped.Tie as tie
 
 stop-requires : tie.Need-stop-requires
 stop-requires c κs = search needs

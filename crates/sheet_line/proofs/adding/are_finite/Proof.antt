@@ -1,7 +1,7 @@
-use Rattle.answers.proofs.Answering.{both-finite, first-infinite}
+use Rattle.sheet_line.proofs.Answering.{both-finite, first-infinite}
 use borrow.Author.Needs.{needs}
-use Rattle.answers.proofs.adding.are_finite.Statement.{statement}
-use Rattle.answers.proofs.adding.are_finite.Tie as tie
+use Rattle.sheet_line.proofs.adding.are_finite.Statement.{statement}
+use Rattle.sheet_line.proofs.adding.are_finite.Tie as tie
 
 is-finite-requires : tie.Need-is-finite-requires
 is-finite-requires c κs = search needs

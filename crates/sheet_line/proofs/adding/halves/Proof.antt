@@ -1,7 +1,7 @@
-use Rattle.answers.proofs.Answering.{both-added, none-added}
+use Rattle.sheet_line.proofs.Answering.{both-added, none-added}
 use borrow.Author.Needs.{needs}
-use Rattle.answers.proofs.adding.halves.Statement.{statement}
-use Rattle.answers.proofs.adding.halves.Tie as tie
+use Rattle.sheet_line.proofs.adding.halves.Statement.{statement}
+use Rattle.sheet_line.proofs.adding.halves.Tie as tie
 
 are-finite-requires : tie.Need-are-finite-requires
 are-finite-requires c κs = search needs

@@ -1,6 +1,6 @@
-use Rattle.pairs.proofs.Patterns.{finite-is}
-use Rattle.answers.proofs.adding.is_finite.Statement.{statement}
-use Rattle.answers.proofs.adding.is_finite.Tie as tie
+use Rattle.augmented_spec.proofs.Patterns.{finite-is}
+use Rattle.sheet_line.proofs.adding.is_finite.Statement.{statement}
+use Rattle.sheet_line.proofs.adding.is_finite.Tie as tie
 
 returns : tie.Need-returns
 returns c = finite-is (c .args .x)

@@ -1,11 +1,11 @@
-use Rattle.texts.proofs.TextLengths.{counts-length}
-use Rattle.texts.specs.Texts.{endText}
-use Rattle.texts.proofs.Written.{whole}
-use Rattle.texts.proofs.Buffers.{too-short}
+use Rattle.transcript_spec.proofs.TextLengths.{counts-length}
+use Rattle.transcript_spec.specs.Texts.{endText}
+use Rattle.transcript_spec.proofs.Written.{whole}
+use Rattle.transcript_spec.proofs.Buffers.{too-short}
 use native.Mathlib.Omega.{arith}
 use borrow.Author.Needs.{needs}
-use Rattle.notices.proofs.end.Statement.{statement}
-use Rattle.notices.proofs.end.Tie as tie
+use Rattle.transcript.proofs.notices.end.Statement.{statement}
+use Rattle.transcript.proofs.notices.end.Tie as tie
 
 decimal-requires : tie.Need-decimal-requires
 decimal-requires c κs = search needs

@@ -1,11 +1,11 @@
-use Rattle.texts.specs.Texts.{stopText}
-use Rattle.texts.proofs.Pasted.{then}
-use Rattle.texts.proofs.Written.{whole}
-use Rattle.texts.proofs.Buffers.{too-short}
+use Rattle.transcript_spec.specs.Texts.{stopText}
+use Rattle.transcript_spec.proofs.Pasted.{then}
+use Rattle.transcript_spec.proofs.Written.{whole}
+use Rattle.transcript_spec.proofs.Buffers.{too-short}
 use native.Mathlib.Omega.{arith}
 use borrow.Author.Needs.{needs}
-use Rattle.notices.proofs.stop.Statement.{statement}
-use Rattle.notices.proofs.stop.Tie as tie
+use Rattle.transcript.proofs.notices.stop.Statement.{statement}
+use Rattle.transcript.proofs.notices.stop.Tie as tie
 
 returns : tie.Need-returns
 returns c = too-short (c .before .before .args .out .now) stopText (omega arith)

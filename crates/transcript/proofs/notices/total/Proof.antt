@@ -1,10 +1,10 @@
-use Rattle.texts.specs.Texts.{totalText}
-use Rattle.texts.proofs.Written.{whole}
-use Rattle.texts.proofs.Buffers.{too-short}
+use Rattle.transcript_spec.specs.Texts.{totalText}
+use Rattle.transcript_spec.proofs.Written.{whole}
+use Rattle.transcript_spec.proofs.Buffers.{too-short}
 use native.Mathlib.Omega.{arith}
 use borrow.Author.Needs.{needs}
-use Rattle.notices.proofs.total.Statement.{statement}
-use Rattle.notices.proofs.total.Tie as tie
+use Rattle.transcript.proofs.notices.total.Statement.{statement}
+use Rattle.transcript.proofs.notices.total.Tie as tie
 
 returns : tie.Need-returns
 unfolding totalText

@@ -1,9 +1,9 @@
-use Rattle.texts.proofs.Stored.{stored}
+use Rattle.transcript_spec.proofs.Stored.{stored}
 use Prim.Native.Nat.{_+_}
 use mathlib.Core.Path.{refl}
 use borrow.Author.Needs.{needs}
-use Rattle.fields.proofs.bytes.put_byte.Statement.{statement}
-use Rattle.fields.proofs.bytes.put_byte.Tie as tie
+use Rattle.transcript_fields.proofs.bytes.put_byte.Statement.{statement}
+use Rattle.transcript_fields.proofs.bytes.put_byte.Tie as tie
 
 slice-write-out : tie.Need-slice-write-out
 slice-write-out c = search needs

@@ -3,10 +3,10 @@ use mathlib.Core.Path.{refl}
 use mathlib.Core.List.{[], _∷_}
 use native.Mathlib.Omega.{arith}
 use lib.ListN.{length-set}
-use Rattle.texts.proofs.Stored.{from-first}
+use Rattle.transcript_spec.proofs.Stored.{from-first}
 use borrow.Author.Needs.{needs}
-use Rattle.fields.proofs.bytes.put_four.Statement.{statement}
-use Rattle.fields.proofs.bytes.put_four.Tie as tie
+use Rattle.transcript_fields.proofs.bytes.put_four.Statement.{statement}
+use Rattle.transcript_fields.proofs.bytes.put_four.Tie as tie
 
 slice-write-out : tie.Need-slice-write-out
 slice-write-out c = search needs

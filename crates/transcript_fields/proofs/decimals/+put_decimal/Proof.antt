@@ -1,17 +1,17 @@
 use mathlib.Core.Path.{refl, _∙_}
 use lib.ListN.{length-set}
 use native.Mathlib.Omega.{arith}
-use Rattle.texts.proofs.Pasted.{then}
-use Rattle.texts.proofs.Stored.{stored}
-use Rattle.texts.proofs.DecimalLaws.{one-digit, last-digit, one-length, decimal-length}
+use Rattle.transcript_spec.proofs.Pasted.{then}
+use Rattle.transcript_spec.proofs.Stored.{stored}
+use Rattle.transcript_spec.proofs.DecimalLaws.{one-digit, last-digit, one-length, decimal-length}
 use Prim.Native.Nat.{ℕ, _+_, _%_, _<_}
 use borrow.Fn.Kinds.{In}
 use borrow.Fn.PlainCycle.{Measures, is, falls, and}
-use Rattle.fields.proofs.decimals.put_decimal.Reads as put-decimal
-use Rattle.fields.proofs.decimals.put_decimal.Kinds as put-decimal-kinds
-use Rattle.fields.proofs.decimals.+put_decimal.Lts-put_decimal as put-decimal-lts
-use Rattle.fields.proofs.decimals.+put_decimal.{statement}
-use Rattle.fields.proofs.decimals.+put_decimal.Tie.{close}
+use Rattle.transcript_fields.proofs.decimals.put_decimal.Reads as put-decimal
+use Rattle.transcript_fields.proofs.decimals.put_decimal.Kinds as put-decimal-kinds
+use Rattle.transcript_fields.proofs.decimals.+put_decimal.Lts-put_decimal as put-decimal-lts
+use Rattle.transcript_fields.proofs.decimals.+put_decimal.{statement}
+use Rattle.transcript_fields.proofs.decimals.+put_decimal.Tie.{close}
 
 abbrev μ-put-decimal : Measures 1 put-decimal-kinds.ps ℕ
 μ-put-decimal κs a = a .1 .1 .0

@@ -1,14 +1,14 @@
-use Rattle.texts.proofs.Written.{dash-put}
-use Rattle.texts.proofs.Stored.{stored}
-use Rattle.texts.proofs.FieldLaws.{marks-length, flags-room, some-flags}
+use Rattle.transcript_spec.proofs.Written.{dash-put}
+use Rattle.transcript_spec.proofs.Stored.{stored}
+use Rattle.transcript_spec.proofs.FieldLaws.{marks-length, flags-room, some-flags}
 use lib.ListN.{length-set}
 use mathlib.Core.Path.{refl, _∙_}
 use Prim.Native.Nat.{_+_}
-use Rattle.texts.proofs.Pasted.{then}
+use Rattle.transcript_spec.proofs.Pasted.{then}
 use native.Mathlib.Omega.{arith}
 use borrow.Author.Needs.{needs}
-use Rattle.fields.proofs.flags.put_flags.Statement.{statement}
-use Rattle.fields.proofs.flags.put_flags.Tie as tie
+use Rattle.transcript_fields.proofs.flags.put_flags.Statement.{statement}
+use Rattle.transcript_fields.proofs.flags.put_flags.Tie as tie
 
 put-mark-requires : tie.Need-put-mark-requires
 put-mark-requires c κs = let f = c .before .before .args .flags in omega (arith, marks-length f, flags-room f)

@@ -1,10 +1,10 @@
-use Rattle.texts.proofs.Stored.{stored, nothing-put}
+use Rattle.transcript_spec.proofs.Stored.{stored, nothing-put}
 use mathlib.Core.Path.{refl}
 use Prim.Native.Nat.{_+_}
 use native.Mathlib.Omega.{arith}
 use borrow.Author.Needs.{needs}
-use Rattle.fields.proofs.flags.put_mark.Statement.{statement}
-use Rattle.fields.proofs.flags.put_mark.Tie as tie
+use Rattle.transcript_fields.proofs.flags.put_mark.Statement.{statement}
+use Rattle.transcript_fields.proofs.flags.put_mark.Tie as tie
 
 slice-write-out : tie.Need-slice-write-out
 slice-write-out c = let room = rw (c .if1 .taken) at (c .before .pre) in omega (arith, room)

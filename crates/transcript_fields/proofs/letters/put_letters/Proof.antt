@@ -1,9 +1,9 @@
-use Rattle.texts.proofs.Written.{letters-put}
-use Rattle.texts.proofs.FieldLaws.{letters-length}
-use Rattle.question.specs.Questions.{letters}
+use Rattle.transcript_spec.proofs.Written.{letters-put}
+use Rattle.transcript_spec.proofs.FieldLaws.{letters-length}
+use Rattle.question_spec.specs.Questions.{letters}
 use borrow.Author.Needs.{needs}
-use Rattle.fields.proofs.letters.put_letters.Statement.{statement}
-use Rattle.fields.proofs.letters.put_letters.Tie as tie
+use Rattle.transcript_fields.proofs.letters.put_letters.Statement.{statement}
+use Rattle.transcript_fields.proofs.letters.put_letters.Tie as tie
 
 question-requires : tie.Need-question-requires
 question-requires c κs = search needs

@@ -1,8 +1,8 @@
-use Rattle.texts.specs.Texts.{stepLetters}
+use Rattle.transcript_spec.specs.Texts.{stepLetters}
 use borrow.Author.Tests.{eq-eqb, ne-eqb}
 use borrow.Author.Needs.{needs}
-use Rattle.fields.proofs.letters.put_step_letters.Statement.{statement}
-use Rattle.fields.proofs.letters.put_step_letters.Tie as tie
+use Rattle.transcript_fields.proofs.letters.put_step_letters.Statement.{statement}
+use Rattle.transcript_fields.proofs.letters.put_step_letters.Tie as tie
 
 put-four-requires : tie.Need-put-four-requires
 put-four-requires c κs = search needs

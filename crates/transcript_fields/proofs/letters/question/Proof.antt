@@ -1,7 +1,7 @@
-use Rattle.question.specs.Questions.{letters}
+use Rattle.question_spec.specs.Questions.{letters}
 use borrow.Author.Tests.{eq-eqb, ne-eqb}
-use Rattle.fields.proofs.letters.question.Statement.{statement}
-use Rattle.fields.proofs.letters.question.Tie as tie
+use Rattle.transcript_fields.proofs.letters.question.Statement.{statement}
+use Rattle.transcript_fields.proofs.letters.question.Tie as tie
 
 returns : tie.Need-returns
 unfolding letters

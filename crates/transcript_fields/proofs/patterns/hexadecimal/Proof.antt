@@ -1,8 +1,8 @@
 use Prim.Native.Nat.{_%_}
 use borrow.Author.Tests.{lt-ltb, le-ltb}
 use borrow.Author.Needs.{needs}
-use Rattle.fields.proofs.patterns.hexadecimal.Statement.{statement}
-use Rattle.fields.proofs.patterns.hexadecimal.Tie as tie
+use Rattle.transcript_fields.proofs.patterns.hexadecimal.Statement.{statement}
+use Rattle.transcript_fields.proofs.patterns.hexadecimal.Tie as tie
 
 add-result : tie.Need-add-result
 add-result c = search needs

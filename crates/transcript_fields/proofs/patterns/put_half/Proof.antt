@@ -1,7 +1,7 @@
-use Rattle.texts.proofs.Written.{half-put}
+use Rattle.transcript_spec.proofs.Written.{half-put}
 use borrow.Author.Needs.{needs}
-use Rattle.fields.proofs.patterns.put_half.Statement.{statement}
-use Rattle.fields.proofs.patterns.put_half.Tie as tie
+use Rattle.transcript_fields.proofs.patterns.put_half.Statement.{statement}
+use Rattle.transcript_fields.proofs.patterns.put_half.Tie as tie
 
 hexadecimal-requires : tie.Need-hexadecimal-requires
 hexadecimal-requires c κs = search needs

@@ -1,13 +1,13 @@
-use Rattle.texts.proofs.Written.{pattern-put}
-use Rattle.texts.proofs.Stored.{stored}
-use Rattle.texts.proofs.Pasted.{then}
+use Rattle.transcript_spec.proofs.Written.{pattern-put}
+use Rattle.transcript_spec.proofs.Stored.{stored}
+use Rattle.transcript_spec.proofs.Pasted.{then}
 use mathlib.Core.Path.{refl, _∙_}
 use Prim.Native.Nat.{_+_}
 use lib.ListN.{length-set}
 use native.Mathlib.Omega.{arith}
 use borrow.Author.Needs.{needs}
-use Rattle.fields.proofs.patterns.put_pattern.Statement.{statement}
-use Rattle.fields.proofs.patterns.put_pattern.Tie as tie
+use Rattle.transcript_fields.proofs.patterns.put_pattern.Statement.{statement}
+use Rattle.transcript_fields.proofs.patterns.put_pattern.Tie as tie
 
 slice-write-out : tie.Need-slice-write-out
 slice-write-out c = search needs

@@ -1,7 +1,7 @@
-use Rattle.texts.proofs.Pasted.{then}
+use Rattle.transcript_spec.proofs.Pasted.{then}
 use borrow.Author.Needs.{needs}
-use Rattle.fields.proofs.patterns.put_patterns.Statement.{statement}
-use Rattle.fields.proofs.patterns.put_patterns.Tie as tie
+use Rattle.transcript_fields.proofs.patterns.put_patterns.Statement.{statement}
+use Rattle.transcript_fields.proofs.patterns.put_patterns.Tie as tie
 
 put-pattern-requires : tie.Need-put-pattern-requires
 put-pattern-requires c κs = search needs

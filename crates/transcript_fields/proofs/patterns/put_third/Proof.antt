@@ -1,13 +1,13 @@
-use Rattle.texts.proofs.Stored.{from-first}
-use Rattle.texts.proofs.FieldLaws.{third-unused, third-used}
+use Rattle.transcript_spec.proofs.Stored.{from-first}
+use Rattle.transcript_spec.proofs.FieldLaws.{third-unused, third-used}
 use lib.ListN.{length, length-set}
 use native.Mathlib.Omega.{arith}
 use mathlib.Core.List.{[], _∷_}
 use mathlib.Core.Path.{refl, ap}
 use Prim.Native.Nat.{_+_}
 use borrow.Author.Needs.{needs}
-use Rattle.fields.proofs.patterns.put_third.Statement.{statement}
-use Rattle.fields.proofs.patterns.put_third.Tie as tie
+use Rattle.transcript_fields.proofs.patterns.put_third.Statement.{statement}
+use Rattle.transcript_fields.proofs.patterns.put_third.Tie as tie
 
 takes-two-requires : tie.Need-takes-two-requires
 takes-two-requires c κs = search needs

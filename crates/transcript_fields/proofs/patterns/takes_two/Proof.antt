@@ -1,7 +1,7 @@
-use Rattle.texts.proofs.FieldLaws.{takes-two, takes-three}
+use Rattle.transcript_spec.proofs.FieldLaws.{takes-two, takes-three}
 use native.Mathlib.Omega.{arith}
-use Rattle.fields.proofs.patterns.takes_two.Statement.{statement}
-use Rattle.fields.proofs.patterns.takes_two.Tie as tie
+use Rattle.transcript_fields.proofs.patterns.takes_two.Statement.{statement}
+use Rattle.transcript_fields.proofs.patterns.takes_two.Tie as tie
 
 returns : tie.Need-returns
 returns c = takes-two (c .before .before .args .operation) (omega arith) (omega arith)

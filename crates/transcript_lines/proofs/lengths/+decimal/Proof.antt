@@ -1,13 +1,13 @@
 use native.Mathlib.Omega.{arith}
-use Rattle.texts.proofs.DecimalLaws.{one-length, decimal-length, decimal-most}
+use Rattle.transcript_spec.proofs.DecimalLaws.{one-length, decimal-length, decimal-most}
 use Prim.Native.Nat.{ℕ, _<_}
 use borrow.Fn.Kinds.{In}
 use borrow.Fn.PlainCycle.{Measures, is, falls, and}
-use Rattle.text_lines.proofs.lengths.decimal.Reads as decimal
-use Rattle.text_lines.proofs.lengths.decimal.Kinds as decimal-kinds
-use Rattle.text_lines.proofs.lengths.+decimal.Lts-decimal as decimal-lts
-use Rattle.text_lines.proofs.lengths.+decimal.{statement}
-use Rattle.text_lines.proofs.lengths.+decimal.Tie.{close}
+use Rattle.transcript_lines.proofs.lengths.decimal.Reads as decimal
+use Rattle.transcript_lines.proofs.lengths.decimal.Kinds as decimal-kinds
+use Rattle.transcript_lines.proofs.lengths.+decimal.Lts-decimal as decimal-lts
+use Rattle.transcript_lines.proofs.lengths.+decimal.{statement}
+use Rattle.transcript_lines.proofs.lengths.+decimal.Tie.{close}
 
 abbrev μ-decimal : Measures 0 decimal-kinds.ps ℕ
 μ-decimal κs a = a .0

@@ -1,10 +1,10 @@
-use Rattle.texts.proofs.FieldLaws.{byte-most, marks-count, no-flags, some-flags, flags-most}
+use Rattle.transcript_spec.proofs.FieldLaws.{byte-most, marks-count, no-flags, some-flags, flags-most}
 use lib.ListN.{length}
 use mathlib.Core.Path.{ap}
 use native.Mathlib.Omega.{arith}
 use borrow.Author.Needs.{needs}
-use Rattle.text_lines.proofs.lengths.flags.Statement.{statement}
-use Rattle.text_lines.proofs.lengths.flags.Tie as tie
+use Rattle.transcript_lines.proofs.lengths.flags.Statement.{statement}
+use Rattle.transcript_lines.proofs.lengths.flags.Tie as tie
 
 cast-n : tie.Need-cast-n
 cast-n c = search needs

@@ -1,8 +1,8 @@
-use Rattle.texts.proofs.TextLengths.{step-length-two, step-length-three}
+use Rattle.transcript_spec.proofs.TextLengths.{step-length-two, step-length-three}
 use native.Mathlib.Omega.{arith}
 use borrow.Author.Needs.{needs}
-use Rattle.text_lines.proofs.lengths.step.Statement.{statement}
-use Rattle.text_lines.proofs.lengths.step.Tie as tie
+use Rattle.transcript_lines.proofs.lengths.step.Statement.{statement}
+use Rattle.transcript_lines.proofs.lengths.step.Tie as tie
 
 takes-two-requires : tie.Need-takes-two-requires
 takes-two-requires c κs = search needs

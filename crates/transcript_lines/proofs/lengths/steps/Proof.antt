@@ -2,10 +2,10 @@ use Prim.Native.Nat.{_+_, _*_, _-_, _≤_}
 use mathlib.Core.Path.{_≡_, sym}
 use native.Mathlib.Omega.{arith}
 use lib.ListN.{length, getD}
-use Rattle.texts.specs.Texts.{stepsText}
-use Rattle.texts.proofs.WholeSteps.{more-length}
-use Rattle.text_lines.proofs.lengths.steps.Statement.{statement}
-use Rattle.text_lines.proofs.lengths.steps.Tie as tie
+use Rattle.transcript_spec.specs.Texts.{stepsText}
+use Rattle.transcript_spec.proofs.WholeSteps.{more-length}
+use Rattle.transcript_lines.proofs.lengths.steps.Statement.{statement}
+use Rattle.transcript_lines.proofs.lengths.steps.Tie as tie
 
 abbrev Inv-loop : tie.InvT-loop
 Inv-loop words lines n₀ k₀ n k = (k ≤ lines) × (n ≡ length (stepsText k 1 words)) × (n ≤ 56 * k)

@@ -1,8 +1,8 @@
 use borrow.Author.Needs.{needs}
 use mathlib.Core.Path.{sym, _∙_}
-use Rattle.sheet_lines.proofs.SharedLines.{at-edge, not-at-edge}
-use Rattle.sheet_lines.proofs.blocks.edge_finish.Statement.{statement}
-use Rattle.sheet_lines.proofs.blocks.edge_finish.Tie as tie
+use Rattle.worksheet_lines.proofs.SharedLines.{at-edge, not-at-edge}
+use Rattle.worksheet_lines.proofs.blocks.edge_finish.Statement.{statement}
+use Rattle.worksheet_lines.proofs.blocks.edge_finish.Tie as tie
 
 at-edge-requires : tie.Need-at-edge-requires
 at-edge-requires c κs = search needs

@@ -1,7 +1,7 @@
 use borrow.Author.Needs.{needs}
-use Rattle.sheet_lines.proofs.SharedLines.{room-to-finish, recomposed-and-finished}
-use Rattle.sheet_lines.proofs.blocks.recomposed_finished.Statement.{statement}
-use Rattle.sheet_lines.proofs.blocks.recomposed_finished.Tie as tie
+use Rattle.worksheet_lines.proofs.SharedLines.{room-to-finish, recomposed-and-finished}
+use Rattle.worksheet_lines.proofs.blocks.recomposed_finished.Statement.{statement}
+use Rattle.worksheet_lines.proofs.blocks.recomposed_finished.Tie as tie
 
 recomposition-requires : tie.Need-recomposition-requires
 recomposition-requires c κs = search needs

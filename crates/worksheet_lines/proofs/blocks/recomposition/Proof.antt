@@ -1,8 +1,8 @@
 use borrow.Author.Needs.{needs}
 use mathlib.Core.Path.{sym, _∙_}
-use Rattle.sheet_lines.proofs.SharedLines.{recomposed, kept}
-use Rattle.sheet_lines.proofs.blocks.recomposition.Statement.{statement}
-use Rattle.sheet_lines.proofs.blocks.recomposition.Tie as tie
+use Rattle.worksheet_lines.proofs.SharedLines.{recomposed, kept}
+use Rattle.worksheet_lines.proofs.blocks.recomposition.Statement.{statement}
+use Rattle.worksheet_lines.proofs.blocks.recomposition.Tie as tie
 
 mul-requires : tie.Need-mul-requires
 mul-requires c κs = search needs

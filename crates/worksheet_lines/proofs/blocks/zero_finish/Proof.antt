@@ -1,8 +1,8 @@
 use borrow.Author.Needs.{needs}
 use mathlib.Core.Path.{sym, _∙_}
-use Rattle.sheet_lines.proofs.SharedLines.{zero-finished, not-zero-finished}
-use Rattle.sheet_lines.proofs.blocks.zero_finish.Statement.{statement}
-use Rattle.sheet_lines.proofs.blocks.zero_finish.Tie as tie
+use Rattle.worksheet_lines.proofs.SharedLines.{zero-finished, not-zero-finished}
+use Rattle.worksheet_lines.proofs.blocks.zero_finish.Statement.{statement}
+use Rattle.worksheet_lines.proofs.blocks.zero_finish.Tie as tie
 
 is-zero-requires : tie.Need-is-zero-requires
 is-zero-requires c κs = search needs

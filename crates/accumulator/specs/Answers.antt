@@ -1,4 +1,4 @@
--- The answers of the code's calls: document 01's number and values for each case of its enums. Assumes nothing.
+-- The answers of the code's calls: document 01's number and values for each case of its enums.
 use Rattle.accumulator_spec.specs.Totals.{Answer, refused, done, pair}
 use Rattle.accumulator.specs.declared.Cleared.{Cleared}
 use Rattle.accumulator.specs.declared.Added.{Added}

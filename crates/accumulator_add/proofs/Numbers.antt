@@ -1,4 +1,4 @@
--- Answers to an adding call, by their numbers. Assumes nothing.
+-- Answers to an adding call, by their numbers.
 use mathlib.Core.Path.{_≡_, refl}
 use mathlib.Core.Bool.{Bool, true, false, cond}
 use mathlib.Core.List.{List}

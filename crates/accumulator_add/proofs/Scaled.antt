@@ -1,4 +1,4 @@
--- Patterns and products as terms: their exact values. Assumes nothing.
+-- Patterns and products as terms: their exact values.
 use mathlib.Core.Path.{_≡_, sym, ap, _∙_}
 use mathlib.Core.Bool.{Bool}
 use Prim.Native.Nat.{ℕ, _+_, _*_, _^_}

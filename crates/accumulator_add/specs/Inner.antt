@@ -1,4 +1,4 @@
--- The numbers that answers go by inside the library. No public contract of `accumulator` cites it. Assumes nothing.
+-- The numbers that answers go by inside the library. No public contract of `accumulator` cites it.
 use Prim.Native.Nat.{ℕ}
 use mathlib.Core.Bool.{Bool, not, cond}
 use mathlib.Core.List.{List}

@@ -1,4 +1,4 @@
--- What is wrong with lent words, by its number. Assumes nothing.
+-- What is wrong with lent words, by its number.
 use mathlib.Core.Path.{_≡_, refl}
 use mathlib.Core.Bool.{Bool, true, false}
 use mathlib.Core.List.{List}

@@ -1,4 +1,4 @@
--- With nothing in the two top words, what is left of a total's fitness. Assumes nothing.
+-- With nothing in the two top words, what is left of a total's fitness.
 use mathlib.Core.Path.{_≡_, refl}
 use mathlib.Core.Bool.{Bool, true, false, cond}
 use mathlib.Core.List.{List}

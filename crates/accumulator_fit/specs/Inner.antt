@@ -1,4 +1,4 @@
--- What is said of lent words, and asked of their top ones, inside the library. No public contract of `accumulator` cites it. Assumes nothing.
+-- What is said of lent words, and asked of their top ones, inside the library. No public contract of `accumulator` cites it.
 use Prim.Native.Nat.{ℕ}
 use mathlib.Core.Bool.{Bool, true, false, not, cond}
 use mathlib.Core.List.{List}

@@ -1,4 +1,4 @@
--- What a function is told of an array of 32-bit words that it takes by value, or that a call gives it. Assumes nothing.
+-- What a function is told of an array of 32-bit words that it takes by value, or that a call gives it.
 use mathlib.Core.Path.{_≡_}
 use mathlib.Core.List.{List}
 use Prim.Native.Nat.{ℕ}

@@ -1,4 +1,4 @@
--- What is wrong with lent words, as a reply. Assumes nothing.
+-- What is wrong with lent words, as a reply.
 use mathlib.Core.Path.{_≡_, sym}
 use mathlib.Core.List.{List}
 use Prim.Native.Nat.{ℕ}

@@ -1,4 +1,4 @@
--- Words turned one after the other, from the lowest on: each as it is, or each to its complement. Assumes nothing.
+-- Words turned one after the other, from the lowest on: each as it is, or each to its complement.
 use mathlib.Core.Path.{_≡_, refl, sym, ap, _∙_}
 use mathlib.Core.Bool.{Bool, true, false, cond}
 use mathlib.Core.List.{List, [], _∷_, _++_, map, map-append, map-id, append-assoc, append-nil}

@@ -1,4 +1,4 @@
--- The numbers that a reply goes by inside the library. No public contract of `accumulator` cites it. Assumes nothing.
+-- The numbers that a reply goes by inside the library. No public contract of `accumulator` cites it.
 use Prim.Native.Nat.{ℕ}
 use mathlib.Core.Bool.{cond}
 use lib.Dec.{eqb}

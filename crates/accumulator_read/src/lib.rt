@@ -1,12 +1,12 @@
 // What a total reads: RN0 of its number, and RN0 of the number less that.
 mod leading;
 
+use augmented_pack::zero_takes;
 use leading::first_digits;
 use leading::magnitude;
 use pattern::classify;
-use augmented_pack::zero_takes;
-use rounding_spec::Ties;
 use pattern_spec::Class;
+use rounding_spec::Ties;
 ghost use mathlib.Core.Path.{_≡_};
 ghost use Prim.Native.Nat.{_*_, _^_, _≤_, _<_};
 ghost use lib.ListN.{length, take};

@@ -1,4 +1,4 @@
--- One term: when a total accepts it, that the sum is exact and the total fit again, and that a refused term changes nothing. Assumes nothing.
+-- One term: when a total accepts it, that the sum is exact and the total fit again, and that a refused term changes nothing.
 use mathlib.Core.Path.{_≡_, refl, sym, ap}
 use mathlib.Core.Bool.{true≢false, Bool, true, false, not, cond, _&&_}
 use mathlib.Core.List.{List}

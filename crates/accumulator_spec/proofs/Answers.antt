@@ -1,4 +1,4 @@
--- What clearing, adding and reading answer, and the words as they end, by the conditions in their order. Assumes nothing.
+-- What clearing, adding and reading answer, and the words as they end, by the conditions in their order.
 use mathlib.Core.Path.{_≡_, sym}
 use mathlib.Core.Bool.{true, false}
 use mathlib.Core.List.{List}

@@ -1,4 +1,4 @@
--- The range of a count of words, and the number that words hold, by two parts of them. Assumes nothing.
+-- The range of a count of words, and the number that words hold, by two parts of them.
 use mathlib.Core.Path.{_≡_}
 use mathlib.Core.List.{List, [], _∷_, _++_}
 use Prim.Native.Nat.{ℕ, suc, _+_, _*_, _^_}

@@ -1,4 +1,4 @@
--- A carrying walk over words, lowest first, each read and written as it is or as its complement. Assumes nothing.
+-- A carrying walk over words, lowest first, each read and written as it is or as its complement.
 use mathlib.Core.Path.{_≡_, refl, sym, ap, ap₂, _∙_}
 use mathlib.Core.Bool.{Bool, true, false, cond}
 use mathlib.Core.List.{List, [], _∷_, _++_, append-assoc, append-nil}

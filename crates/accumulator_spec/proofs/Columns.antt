@@ -1,4 +1,4 @@
--- Columns of finite terms: every one is accepted, the number is the exact sum, and the order does not matter. Assumes nothing.
+-- Columns of finite terms: every one is accepted, the number is the exact sum, and the order does not matter.
 use mathlib.Core.Path.{_≡_, refl, sym, ap, ap₂, _∙_}
 use mathlib.Core.HLevel.{hedberg}
 use mathlib.Core.Logic.{∥∥₁-elim}

@@ -1,4 +1,4 @@
--- The words of a number and complements of words are words again; a complement's complement is the word. Assumes nothing.
+-- The words of a number and complements of words are words again; a complement's complement is the word.
 use mathlib.Core.Path.{_≡_, refl, ap}
 use mathlib.Core.List.{List, [], _∷_, map}
 use Prim.Native.Nat.{ℕ, zero, suc, _-_, _/_, _<_}

@@ -1,4 +1,4 @@
--- A total's fitness by its top three words; the words below them count at the limit alone. Assumes nothing.
+-- A total's fitness by its top three words; the words below them count at the limit alone.
 use mathlib.Core.Path.{_≡_, sym, ap, _∙_}
 use mathlib.Core.Bool.{Bool, true, false, cond}
 use mathlib.Core.List.{List, [], _∷_, _++_, map, map-append}

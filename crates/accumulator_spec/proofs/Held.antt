@@ -1,4 +1,4 @@
--- The words of a total and its number and count determine each other. Assumes nothing.
+-- The words of a total and its number and count determine each other.
 use mathlib.Core.Path.{_≡_, sym, ap, _∙_}
 use mathlib.Core.List.{List, [], _∷_, _++_}
 use Prim.Native.Nat.{ℕ, zero, suc, _+_, _*_, _^_, _<_}

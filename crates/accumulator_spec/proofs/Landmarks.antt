@@ -1,5 +1,5 @@
 -- Totals and terms at landmarks, operands that are finite, values of terms, and the number that is read: what ties the definitions to
--- numbers. Assumes nothing.
+-- numbers.
 use mathlib.Core.Path.{refl, sym, ap, ap₂, _∙_}
 use mathlib.Core.Bool.{_&&_}
 use Prim.Native.Nat.{_^_}

@@ -1,5 +1,5 @@
 -- The leading digits of a number, read word by word from the highest on: once there are 33 of them, all that counts of a
--- further word is whether it is zero. They round as the number does. Assumes nothing.
+-- further word is whether it is zero. They round as the number does.
 use mathlib.Core.Path.{_≡_, sym, ap, ap₂, _∙_}
 use mathlib.Core.Logic.{inl, inr}
 use mathlib.Core.Bool.{Bool, cond}

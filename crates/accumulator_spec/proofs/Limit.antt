@@ -1,4 +1,4 @@
--- A number in two parts, l below b and q times b, against p times b: the upper part tells, but where q is p. Assumes nothing.
+-- A number in two parts, l below b and q times b, against p times b: the upper part tells, but where q is p.
 use mathlib.Core.Path.{_≡_, sym, _∙_}
 use mathlib.Core.Bool.{true, false}
 use Prim.Native.Nat.{ℕ, zero, suc, _+_, _*_, _≤_, _<_}

@@ -1,4 +1,4 @@
--- What the carrying add on a part of the words says of all of them. Assumes nothing.
+-- What the carrying add on a part of the words says of all of them.
 use mathlib.Core.Path.{_≡_, sym, ap, _∙_}
 use mathlib.Core.Bool.{Bool}
 use mathlib.Core.List.{List, [], _∷_, _++_, append-assoc}

@@ -1,4 +1,4 @@
--- A shifted significand goes into the 20 words of a total from word exp / 32 on. Assumes nothing.
+-- A shifted significand goes into the 20 words of a total from word exp / 32 on.
 use mathlib.Core.Path.{_≡_, sym, ap, ap₂, _∙_}
 use mathlib.Core.Bool.{Bool}
 use mathlib.Core.List.{List, [], _∷_, _++_, append-nil}

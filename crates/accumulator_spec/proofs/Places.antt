@@ -1,4 +1,4 @@
--- Each word by its place, and how far a number of words goes. Assumes nothing.
+-- Each word by its place, and how far a number of words goes.
 use mathlib.Core.Path.{_≡_, refl, sym, ap, _∙_}
 use mathlib.Core.List.{List, [], _∷_, map}
 use Prim.Native.Nat.{ℕ, zero, suc, _+_, _-_, _*_, _/_, _%_, _^_, _<_}

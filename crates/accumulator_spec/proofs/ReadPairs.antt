@@ -1,4 +1,4 @@
--- Reading against overflow and against the direct pairs of two operands. Assumes nothing.
+-- Reading against overflow and against the direct pairs of two operands.
 use mathlib.Core.Path.{_≡_, sym, ap, ap₂, _∙_}
 use mathlib.Core.Logic.{_≢_}
 use mathlib.Core.Bool.{true≢false, Bool, true, false, _&&_}

@@ -1,4 +1,4 @@
--- Reading a total: the halves of a fit one, of a column, a zero total, and one that is rounded to zero. Assumes nothing.
+-- Reading a total: the halves of a fit one, of a column, a zero total, and one that is rounded to zero.
 use mathlib.Core.Path.{_≡_, refl, sym, ap, ap₂, _∙_}
 use mathlib.Core.Bool.{Bool, false, not, cond}
 use Prim.Native.Nat.{ℕ, suc, _*_, _^_, _≤_, _<_}

@@ -1,4 +1,4 @@
--- The rest of a total's number, when a half is taken from it, is a whole number again, and not a larger one. Assumes nothing.
+-- The rest of a total's number, when a half is taken from it, is a whole number again, and not a larger one.
 use mathlib.Core.Path.{_≡_, refl, sym, ap, _∙_}
 use mathlib.Core.Bool.{Bool, true, false, not}
 use Prim.Native.Nat.{ℕ, zero, suc, _+_, _*_, _^_, _≤_, _<_}

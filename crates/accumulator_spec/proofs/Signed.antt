@@ -1,4 +1,4 @@
--- Walking over the words of a whole number adds to it, or takes away. Assumes nothing.
+-- Walking over the words of a whole number adds to it, or takes away.
 use mathlib.Core.Path.{_≡_, refl, ap, _∙_}
 use mathlib.Core.Bool.{Bool, true, false}
 use mathlib.Core.List.{List, [], _∷_, map}

@@ -1,4 +1,4 @@
--- The whole number of a finite term has a magnitude of at most 2 ^ 554. Assumes nothing.
+-- The whole number of a finite term has a magnitude of at most 2 ^ 554.
 use mathlib.Core.Path.{_≡_, sym, refl}
 use mathlib.Core.Bool.{true≢false, Bool, true, false, _&&_}
 use Prim.Native.Nat.{ℕ, zero, suc, _*_, _^_, _≤_}

@@ -1,4 +1,4 @@
--- A term of a fit total, by its class as the code has it: what is answered, and the words as they end. Assumes nothing.
+-- A term of a fit total, by its class as the code has it: what is answered, and the words as they end.
 use mathlib.Core.Path.{_≡_, refl, sym, ap, _∙_}
 use mathlib.Core.Bool.{Bool, true, false, not, cond, _&&_}
 use mathlib.Core.List.{List}

@@ -1,4 +1,4 @@
--- All that specs/Theorems states, proved. Assumes nothing.
+-- All that specs/Theorems states, proved.
 use Rattle.accumulator_spec.specs.Theorems.{All}
 use Rattle.accumulator_spec.proofs.Held.{number-and-count, number-held, total-unique}
 use Rattle.accumulator_spec.proofs.Landmarks.{total-landmarks, finite-operands-are, pattern-term, product-term, term-landmarks, exact-back}

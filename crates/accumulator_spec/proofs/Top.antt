@@ -1,4 +1,4 @@
--- The top word decides the sign of words, and what their magnitude is: their number, or its complement and one more. Assumes nothing.
+-- The top word decides the sign of words, and what their magnitude is: their number, or its complement and one more.
 use mathlib.Core.Path.{_≡_, sym, ap, _∙_}
 use mathlib.Core.Bool.{Bool, true, false, cond}
 use mathlib.Core.List.{List, [], _∷_, _++_, map}

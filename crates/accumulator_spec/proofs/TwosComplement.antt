@@ -1,4 +1,4 @@
--- Two's complement: the words of a whole number hold it, and no others do. Assumes nothing.
+-- Two's complement: the words of a whole number hold it, and no others do.
 use mathlib.Core.Path.{_≡_, refl, sym, ap, _∙_}
 use mathlib.Core.List.{List, [], _∷_, map}
 use Prim.Native.Nat.{ℕ, zero, suc, _+_, _-_, _*_, _/_, _%_, _^_, _≤_, _<_}

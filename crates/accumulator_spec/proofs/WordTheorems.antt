@@ -1,4 +1,4 @@
--- All that specs/Theorems states, proved. Assumes nothing.
+-- All that specs/Theorems states, proved.
 use Rattle.accumulator_spec.specs.WordTheorems.{All}
 use Rattle.accumulator_spec.proofs.Places.{word-at, natural-words}
 use Rattle.accumulator_spec.proofs.TwosComplement.{formed, held, words-unique}

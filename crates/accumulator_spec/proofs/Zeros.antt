@@ -1,4 +1,4 @@
--- Whether words hold 0, and words that are all 0. Assumes nothing.
+-- Whether words hold 0, and words that are all 0.
 use mathlib.Core.Path.{_≡_, refl, sym, ap, _∙_}
 use mathlib.Core.Bool.{true, false}
 use mathlib.Core.List.{List}

@@ -1,4 +1,4 @@
--- Columns: terms added to a total one after the other. Assumes nothing.
+-- Columns: terms added to a total one after the other.
 use Prim.Native.Nat.{ℕ}
 use mathlib.Core.Path.{_≡_}
 use mathlib.Core.Bool.{true}

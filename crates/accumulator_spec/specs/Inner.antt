@@ -1,4 +1,4 @@
--- What `leading::first_digits` promises of a number's digits. No contract of `accumulator` cites it. Assumes nothing.
+-- What `leading::first_digits` promises of a number's digits. No contract of `accumulator` cites it.
 use Prim.Native.Nat.{ℕ, _*_, _^_, _≤_}
 use mathlib.Core.Path.{_≡_}
 use mathlib.Core.Logic.{_⊎_}

@@ -1,5 +1,4 @@
 -- What holds of totals: that the definitions mean what document 01 says. Each name is a statement; proofs/Theorems.antt has its proof.
--- Assumes nothing.
 use Prim.Native.Nat.{ℕ, suc, _*_, _%_, _^_, _≤_, _<_}
 use mathlib.Core.Path.{_≡_}
 use mathlib.Core.Logic.{_≢_, _↔_}

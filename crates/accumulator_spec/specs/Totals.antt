@@ -1,4 +1,4 @@
--- Exact totals (document 01, "The column total", and "Where a call says no" for them). Assumes nothing.
+-- Exact totals (document 01, "The column total", and "Where a call says no" for them).
 -- The number of a total counts 2 ^ -298, which is u * u.
 use Prim.Native.Nat.{ℕ, suc, _*_, _^_}
 use mathlib.Core.Bool.{Bool, true, false, not, cond, _&&_}

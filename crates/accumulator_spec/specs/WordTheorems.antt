@@ -1,5 +1,5 @@
 -- What holds of words and the numbers that they hold, for every count of words. Each name is a statement; proofs/Theorems.antt has its
--- proof. Assumes nothing.
+-- proof.
 use Prim.Native.Nat.{ℕ, _-_, _*_, _/_, _%_, _^_, _<_}
 use mathlib.Core.Path.{_≡_}
 use mathlib.Core.List.{List}

@@ -1,4 +1,4 @@
--- Words of 32 bits, lowest first, and the numbers that they hold. Assumes nothing.
+-- Words of 32 bits, lowest first, and the numbers that they hold.
 use Prim.Native.Nat.{ℕ, zero, suc, _+_, _-_, _*_, _/_, _%_, _^_, _<_}
 use mathlib.Core.Bool.{cond}
 use mathlib.Core.List.{List, [], _∷_, map}

@@ -1,4 +1,4 @@
--- A shifted significand in two parts, the second one a word higher. Assumes nothing.
+-- A shifted significand in two parts, the second one a word higher.
 use mathlib.Core.Path.{_≡_}
 use Prim.Native.Nat.{ℕ, _+_, _*_, _/_, _%_, _^_, _≤_, _<_}
 use native.Mathlib.Nat.{mul-le-mul-left, mul-lt-mul-of-pos-right, lt-of-lt-of-le, mul-assoc, add-mul}

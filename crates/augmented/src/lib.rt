@@ -1,9 +1,9 @@
 // Direct pairs of two binary32 patterns: the result rounded to nearest with ties to zero, RN0 of what that left over, and the flags.
-use pattern::flipped;
-pub use augmented_spec::Flags;
-pub use augmented_spec::Pair;
 use augmented_pack::is_finite;
 use augmented_pack::raised;
+pub use augmented_spec::Flags;
+pub use augmented_spec::Pair;
+use pattern::flipped;
 ghost use mathlib.Core.Path.{_≡_};
 ghost use mathlib.Core.Bool.{true, false};
 ghost use Rattle.rounding_spec.specs.Format.{binary32};
@@ -15,7 +15,12 @@ pub fn sum(x: u32, y: u32) -> Pair
     ensures { λ r. ⌜ r ≡ sumPair binary32 x y ⌝ }
 {
     let both = augmented_sum::of_patterns(x, y);
-    pair(x, y, augmented_pack::first(both), augmented_pack::second(both))
+    pair(
+        x,
+        y,
+        augmented_pack::first(both),
+        augmented_pack::second(both),
+    )
 }
 
 pub fn difference(x: u32, y: u32) -> Pair
@@ -23,7 +28,12 @@ pub fn difference(x: u32, y: u32) -> Pair
 {
     let z = flipped(y);
     let both = augmented_sum::of_patterns(x, z);
-    pair(x, z, augmented_pack::first(both), augmented_pack::second(both))
+    pair(
+        x,
+        z,
+        augmented_pack::first(both),
+        augmented_pack::second(both),
+    )
 }
 
 pub fn product(x: u32, y: u32) -> Pair

@@ -1,18 +1,18 @@
 // Product pairs.
-use rounding::round_with_rest;
-use pattern::infinity;
-use augmented_spec::Flags;
-use augmented_spec::Pair;
 use augmented_pack::is_infinite;
 use augmented_pack::packed;
 use augmented_pack::raised;
 use augmented_pack::zero_takes;
+use augmented_spec::Flags;
+use augmented_spec::Pair;
 use choose::choose_exponent;
 use choose::choose_pattern;
 use choose::choose_sign;
-use rounding_spec::Ties;
+use pattern::infinity;
 use pattern_spec::Class;
 use pattern_spec::NAN;
+use rounding::round_with_rest;
+use rounding_spec::Ties;
 ghost use mathlib.Core.Path.{_≡_};
 ghost use mathlib.Core.Bool.{false};
 ghost use Prim.Native.Nat.{_*_, _^_, _<_};

@@ -1,4 +1,4 @@
--- What a finite pair adds up to: the exact number, where nothing is left over of the left-over. Of a sum nothing ever is. Assumes nothing.
+-- What a finite pair adds up to: the exact number, where nothing is left over of the left-over. Of a sum nothing ever is.
 use mathlib.Core.Path.{_≡_, refl, sym, ap, _∙_}
 use mathlib.Core.Logic.{_⊎_, _≢_, inl, inr}
 use mathlib.Core.Bool.{Bool, not}

@@ -1,4 +1,4 @@
--- The answer of two patterns by the class of their exact result: what the code hands back in each case. Assumes nothing.
+-- The answer of two patterns by the class of their exact result: what the code hands back in each case.
 use mathlib.Core.Path.{_≡_, refl, sym, ap, _∙_}
 use mathlib.Core.Bool.{Bool, true, false, Bool·beq, cond, _&&_}
 use mathlib.Core.List.{[], _∷_}

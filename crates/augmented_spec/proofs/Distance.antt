@@ -1,4 +1,4 @@
--- Whole numbers by sign and magnitude: the magnitudes of a sum and of a difference, and what is left of a number. Assumes nothing.
+-- Whole numbers by sign and magnitude: the magnitudes of a sum and of a difference, and what is left of a number.
 use mathlib.Core.Path.{_≡_, refl, sym, ap, ap₂, _∙_}
 use mathlib.Core.Logic.{_⊎_, inl, inr}
 use mathlib.Core.Bool.{Bool, true, false, not, cond}

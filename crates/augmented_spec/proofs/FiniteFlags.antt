@@ -1,4 +1,4 @@
--- The flags of finite operands: OX where first is infinite, and where it is finite none, or UX in a product. Assumes nothing.
+-- The flags of finite operands: OX where first is infinite, and where it is finite none, or UX in a product.
 use mathlib.Core.Path.{_≡_, refl, ap, _∙_}
 use mathlib.Core.Logic.{_⊎_, _≢_, inl, inr}
 use mathlib.Core.Bool.{Bool, true, false}

@@ -1,4 +1,4 @@
--- The pair of finite operands, by sign and magnitude of the exact number. Assumes nothing.
+-- The pair of finite operands, by sign and magnitude of the exact number.
 use mathlib.Core.Path.{_≡_, refl, sym, ap, ap₂, _∙_, subst}
 use mathlib.Core.Bool.{Bool, not, cond, _&&_}
 use Prim.Native.Nat.{ℕ, _*_, _^_, _<_}

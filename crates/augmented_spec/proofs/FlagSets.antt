@@ -1,5 +1,4 @@
 -- Only the flag sets -, I, OX and UX occur: a NaN first raises neither O nor U, an infinite one neither I nor U, a finite one neither I nor O.
--- Assumes nothing.
 use mathlib.Core.Path.{_≡_, refl, sym}
 use mathlib.Core.Logic.{_⊎_, inl, inr}
 use mathlib.Core.Bool.{Bool, true, false, _&&_, and-true}

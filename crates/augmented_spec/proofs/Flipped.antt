@@ -1,4 +1,4 @@
--- A flipped sign bit leaves the class of a pattern as it was: NaN, signalling or not. Assumes nothing.
+-- A flipped sign bit leaves the class of a pattern as it was: NaN, signalling or not.
 use mathlib.Core.Path.{_≡_, refl, sym, ap, ap₂, _∙_}
 use mathlib.Core.Bool.{_&&_}
 use Prim.Native.Nat.{ℕ, suc, _+_, _-_, _*_, _/_, _%_, _^_, _<_}

@@ -1,4 +1,4 @@
--- Both halves are nearest among numbers with signs: one of the other sign lies farther than the magnitudes do. Assumes nothing.
+-- Both halves are nearest among numbers with signs: one of the other sign lies farther than the magnitudes do.
 use mathlib.Core.Path.{_≡_, sym, _∙_}
 use mathlib.Core.Logic.{_⊎_, inl, inr}
 use mathlib.Core.Bool.{Bool}

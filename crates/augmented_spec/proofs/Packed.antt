@@ -1,4 +1,4 @@
--- The pattern of a number of at most 24 digits, moved up by its leading zeros, or as far as its exponent goes. Assumes nothing.
+-- The pattern of a number of at most 24 digits, moved up by its leading zeros, or as far as its exponent goes.
 use mathlib.Core.Path.{_≡_, refl, sym, ap, ap₂, _∙_}
 use mathlib.Core.Bool.{Bool, true, false, cond}
 use Prim.Native.Nat.{ℕ, suc, _+_, _-_, _*_, _%_, _^_, _≤_, _<_}

@@ -1,4 +1,4 @@
--- What the bits of a binary32 pattern show: NaN, infinite, zero. Assumes nothing.
+-- What the bits of a binary32 pattern show: NaN, infinite, zero.
 use mathlib.Core.Path.{_≡_, refl, sym, ap, _∙_}
 use mathlib.Core.Logic.{inl, inr}
 use mathlib.Core.Bool.{Bool, true, false, cond, _&&_, _||_}

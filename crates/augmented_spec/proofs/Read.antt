@@ -1,4 +1,4 @@
--- The direct pair of every operation: the answer to its exact result, whose halves are read back from their patterns. Assumes nothing.
+-- The direct pair of every operation: the answer to its exact result, whose halves are read back from their patterns.
 use mathlib.Core.Path.{_≡_, refl, ap, _∙_}
 use mathlib.Core.Bool.{Bool, false}
 use mathlib.Core.List.{[], _∷_}

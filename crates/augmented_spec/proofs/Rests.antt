@@ -1,4 +1,4 @@
--- Pairs of finite operands as the code makes them, from a rounded number and what it left over. Assumes nothing.
+-- Pairs of finite operands as the code makes them, from a rounded number and what it left over.
 use mathlib.Core.Path.{_≡_, refl, sym, ap, ap₂, _∙_}
 use mathlib.Core.Bool.{Bool, true, false, not, cond}
 use Prim.Native.Nat.{ℕ, suc, _+_, _-_, _*_, _%_, _^_, _≤_, _<_}

@@ -1,4 +1,4 @@
--- The pair of an exact number, by its sign and magnitude: first is what RN0 gives, second the rounded left-over on its side. Assumes nothing.
+-- The pair of an exact number, by its sign and magnitude: first is what RN0 gives, second the rounded left-over on its side.
 use mathlib.Core.Path.{_≡_, refl, sym, ap, ap₂, _∙_}
 use mathlib.Core.Logic.{_⊎_, inl, inr}
 use mathlib.Core.Bool.{Bool, true, false, not, cond, _&&_}

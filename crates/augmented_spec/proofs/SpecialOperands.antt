@@ -1,4 +1,4 @@
--- The direct pair where an operand is NaN or infinite. Assumes nothing.
+-- The direct pair where an operand is NaN or infinite.
 use mathlib.Core.Path.{_≡_, refl, ap, ap₂, _∙_}
 use mathlib.Core.Logic.{_⊎_, _≢_, inl, inr}
 use mathlib.Core.Bool.{Bool, true, false, not, cond, _||_, Bool·not-not}

@@ -1,4 +1,4 @@
--- The direct pair of an exact result that is NaN or infinite, and where a NaN raises I. Assumes nothing.
+-- The direct pair of an exact result that is NaN or infinite, and where a NaN raises I.
 use mathlib.Core.Path.{_≡_, refl, sym, ap, ap₂, _∙_}
 use mathlib.Core.Logic.{_⊎_, inl, inr}
 use mathlib.Core.Bool.{Bool, true, false, not, _&&_, _||_, or-false}

@@ -1,4 +1,4 @@
--- Document 01's eleven cases, by computation. Assumes nothing.
+-- Document 01's eleven cases, by computation.
 use mathlib.Core.Path.{refl}
 use lib.Ieee.{size}
 use Rattle.rounding_spec.specs.Round.{keep, lastPlace}

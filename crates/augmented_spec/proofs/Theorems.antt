@@ -1,4 +1,4 @@
--- The theorems of `specs/Theorems.antt`, and the table of `specs/Cases.antt`. Assumes nothing.
+-- The theorems of `specs/Theorems.antt`, and the table of `specs/Cases.antt`.
 use mathlib.Core.Path.{_≡_, refl, sym, ap, _∙_}
 use mathlib.Core.Bool.{true, false, not}
 use Prim.Native.Nat.{ℕ}

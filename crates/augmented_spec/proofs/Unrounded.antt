@@ -1,4 +1,4 @@
--- Sums that need no rounding: two operands that are far apart are their own pair, and infinite or NaN sums are the step's. Assumes nothing.
+-- Sums that need no rounding: two operands that are far apart are their own pair, and infinite or NaN sums are the step's.
 use mathlib.Core.Path.{_≡_, refl, sym, ap, ap₂, _∙_}
 use mathlib.Core.Logic.{inl, inr}
 use mathlib.Core.Bool.{Bool, true, false, not, Bool·beq, cond, _&&_}

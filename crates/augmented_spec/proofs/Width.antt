@@ -1,4 +1,4 @@
--- The pattern of a value of the format has no bit above the sign. Assumes nothing.
+-- The pattern of a value of the format has no bit above the sign.
 use mathlib.Core.Bool.{Bool, true, false}
 use Prim.Native.Nat.{ℕ, _-_, _*_, _^_, _<_}
 use native.Mathlib.Omega.{arith}

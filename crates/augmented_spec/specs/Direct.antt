@@ -1,4 +1,4 @@
--- The direct pair of any operation, and the flag sets that occur, for statements about all of them. Assumes nothing.
+-- The direct pair of any operation, and the flag sets that occur, for statements about all of them.
 use Prim.Native.Nat.{ℕ}
 use mathlib.Core.Bool.{true, false}
 use Rattle.rounding_spec.specs.Format.{Format}

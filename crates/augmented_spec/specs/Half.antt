@@ -1,4 +1,4 @@
--- The sign of a zero half, on patterns. Assumes nothing.
+-- The sign of a zero half, on patterns.
 use Prim.Native.Nat.{ℕ, _%_, _^_}
 use mathlib.Core.Bool.{Bool, cond}
 use lib.Dec.{eqb}

@@ -1,4 +1,4 @@
--- What the functions below `augmented` promise each other. No contract of `augmented` cites it. Assumes nothing.
+-- What the functions below `augmented` promise each other. No contract of `augmented` cites it.
 use Prim.Native.Nat.{ℕ, _+_, _*_, _^_, _≤_, _<_}
 use mathlib.Core.Path.{_≡_}
 use mathlib.Core.Bool.{Bool, false}

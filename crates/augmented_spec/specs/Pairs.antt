@@ -1,4 +1,4 @@
--- Pairs and flags of two patterns (document 01, "Pairs" and "Flags"), in any format. Assumes nothing.
+-- Pairs and flags of two patterns (document 01, "Pairs" and "Flags"), in any format.
 -- An exact result counts u * u, as everything that is rounded does; the halves of a pair count u.
 use Prim.Native.Nat.{ℕ}
 use mathlib.Core.Bool.{Bool, false, not, cond, _&&_, _||_}

@@ -1,4 +1,4 @@
--- What is proved of pairs and flags, beside the contracts. Each name is a statement; `proofs/Theorems.antt` has its proof. Assumes nothing.
+-- What is proved of pairs and flags, beside the contracts. Each name is a statement; `proofs/Theorems.antt` has its proof.
 -- E counts u * u, so that sums, differences and products read alike; the magnitudes of halves and operands count u. `finerInt` takes the
 -- second unit to the first.
 use mathlib.Core.Path.{_≡_}

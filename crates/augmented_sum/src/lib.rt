@@ -1,16 +1,16 @@
 // Both halves of a sum. They come back in one word, which goes in a register; what is large here is compiled once for sums and differences.
-use rounding::round_with_rest;
-use pattern::classify;
-use pattern::larger;
-use pattern::smaller;
 use augmented_pack::is_infinite;
 use augmented_pack::joined;
 use augmented_pack::packed;
 use augmented_pack::zero_takes;
 use choose::choose_exponent;
 use choose::choose_pattern;
-use rounding_spec::Ties;
+use pattern::classify;
+use pattern::larger;
+use pattern::smaller;
 use pattern_spec::Class;
+use rounding::round_with_rest;
+use rounding_spec::Ties;
 ghost use mathlib.Core.Path.{_≡_};
 ghost use mathlib.Core.Bool.{true, false};
 ghost use Prim.Native.Nat.{_*_, _^_};

@@ -1,8 +1,8 @@
 // The four rounding steps on binary32 patterns: the exact result on integers, and one rounding.
 use pattern::infinity;
-use rounding_spec::Ties;
 use pattern_spec::Class;
 use pattern_spec::NAN;
+use rounding_spec::Ties;
 ghost use mathlib.Core.Path.{_≡_};
 ghost use Rattle.rounding_spec.specs.declared.Ties.the-variants.{ToEven};
 ghost use Rattle.rounding_spec.specs.Format.{binary32};

@@ -1,4 +1,4 @@
--- Which of a product and an operand comes first in a fused sum, as the code picks it, and what is then known. Assumes nothing.
+-- Which of a product and an operand comes first in a fused sum, as the code picks it, and what is then known.
 use mathlib.Core.Path.{_≡_, refl}
 use mathlib.Core.Bool.{Bool, cond}
 use Prim.Native.Nat.{ℕ, _*_, _^_, _≤_, _<_}

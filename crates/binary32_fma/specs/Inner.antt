@@ -1,4 +1,4 @@
--- What the crate's inner functions promise each other. No public contract cites it. Assumes nothing.
+-- What the crate's inner functions promise each other. No public contract cites it.
 use Prim.Native.Nat.{ℕ, _≤_, _<_}
 use mathlib.Core.Path.{_≡_}
 use mathlib.Core.Bool.{Bool}

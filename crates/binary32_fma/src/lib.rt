@@ -1,11 +1,11 @@
 // The sum of a product and a third operand, both in units of 2^-298, rounded once.
 use binary32_add::infinite_plus;
 use binary32_add::round_sum;
-use pattern::classify;
-use pattern::infinity;
 use choose::choose;
 use choose::choose_exponent;
 use choose::choose_sign;
+use pattern::classify;
+use pattern::infinity;
 use pattern_spec::Class;
 use pattern_spec::NAN;
 ghost use mathlib.Core.Path.{_≡_};

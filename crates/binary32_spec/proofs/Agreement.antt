@@ -1,4 +1,4 @@
--- The steps on binary32 patterns are those of lib.Ieee: the theorems of `specs/Agreement.antt`. Assumes nothing.
+-- The steps on binary32 patterns are those of lib.Ieee: the theorems of `specs/Agreement.antt`.
 use mathlib.Core.Path.{_∙_}
 use lib.Ieee.{binary32}
 use Rattle.binary32_spec.proofs.Result.{add-step, sub-step, mul-step}

@@ -1,4 +1,4 @@
--- A pattern stands for the same value in both accounts. Assumes nothing.
+-- A pattern stands for the same value in both accounts.
 use mathlib.Core.Path.{_≡_, refl, sym, ap, _∙_}
 use mathlib.Core.Logic.{inl, inr}
 use mathlib.Core.Bool.{Bool}

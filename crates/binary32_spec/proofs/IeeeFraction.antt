@@ -1,4 +1,4 @@
--- Fractions that are whole numbers of a unit 2 ^ -l: their order, sum, difference and product are those of the numbers. Assumes nothing.
+-- Fractions that are whole numbers of a unit 2 ^ -l: their order, sum, difference and product are those of the numbers.
 use mathlib.Core.Path.{_≡_, refl, sym, ap, ap₂, _∙_}
 use Prim.Native.Nat.{ℕ, zero, suc, _+_, _-_, _*_, _^_, _<_}
 use native.Mathlib.Nat.{mul-comm, mul-assoc, mul-right-comm, mul-mul-mul-comm, mul-sub, mul-pos, zero-lt-suc, mul-lt-mul-of-pos-right, lt-of-mul-lt-mul-right, eq-of-mul-eq-mul-right}

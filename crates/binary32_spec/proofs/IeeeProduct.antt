@@ -1,4 +1,4 @@
--- The product of the same operands is the same. Assumes nothing.
+-- The product of the same operands is the same.
 use mathlib.Core.Bool.{Bool, true, false, cond}
 use lib.Dec.{eqb}
 use lib.Ieee.{Float, nan as not-number, inf, Format as Standard, unlike, up, mul}

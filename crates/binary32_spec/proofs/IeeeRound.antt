@@ -1,4 +1,4 @@
--- lib.Ieee rounds a fraction that has the value of an exact result as we round that result, ties to even. Assumes nothing.
+-- lib.Ieee rounds a fraction that has the value of an exact result as we round that result, ties to even.
 use mathlib.Core.Path.{_≡_, refl, _∙_}
 use mathlib.Core.Bool.{Bool, true, false, cond}
 use Prim.Native.Nat.{ℕ, suc, _+_, _-_, _*_, _/_, _%_, _^_, _≤_, _<_, compare, Ordering, Ordering·lt, Ordering·eq, Ordering·gt}

@@ -1,4 +1,4 @@
--- What it is for a value and a float of lib.Ieee to be the same, and that the same value has the same pattern. Assumes nothing.
+-- What it is for a value and a float of lib.Ieee to be the same, and that the same value has the same pattern.
 use mathlib.Core.Path.{_≡_, refl, ap, _∙_}
 use mathlib.Core.Bool.{Bool}
 use Prim.Native.Nat.{ℕ, zero, suc, _+_, _-_, _*_, _/_, _^_}

@@ -1,4 +1,4 @@
--- The sum and the difference of the same operands are the same. Assumes nothing.
+-- The sum and the difference of the same operands are the same.
 use mathlib.Core.Path.{_≡_, refl}
 use mathlib.Core.Logic.{inl, inr}
 use mathlib.Core.Bool.{Bool, true, false, and-true, and-false, Bool·beq, cond}

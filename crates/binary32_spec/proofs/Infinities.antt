@@ -1,4 +1,4 @@
--- Steps with NaN and infinities: the pattern that they give. Assumes nothing.
+-- Steps with NaN and infinities: the pattern that they give.
 use mathlib.Core.Path.{_≡_, refl, ap, ap₂, _∙_}
 use mathlib.Core.Logic.{_⊎_, inl, inr}
 use mathlib.Core.Bool.{Bool, true, false, not}

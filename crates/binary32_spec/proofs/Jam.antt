@@ -1,4 +1,4 @@
--- A fused sum: the smaller addend brought to the larger one's exponent, made odd where something is cut off, rounds alike. Assumes nothing.
+-- A fused sum: the smaller addend brought to the larger one's exponent, made odd where something is cut off, rounds alike.
 use mathlib.Core.Path.{_≡_, refl, ap, ap₂, _∙_, sym, subst}
 use mathlib.Core.Logic.{_⊎_, inl, inr}
 use mathlib.Core.Bool.{Bool, cond}

@@ -1,4 +1,4 @@
--- The sum of two operands whose exponents are near: both at the lower exponent, exactly; and the pattern of an operand. Assumes nothing.
+-- The sum of two operands whose exponents are near: both at the lower exponent, exactly; and the pattern of an operand.
 use mathlib.Core.Path.{_≡_, refl, sym, ap, ap₂, _∙_}
 use mathlib.Core.Bool.{Bool, true, false, cond}
 use Prim.Native.Nat.{ℕ, _+_, _-_, _*_, _%_, _^_, _≤_, _<_}

@@ -1,4 +1,4 @@
--- A step's pattern is the encoded value of the step: callers go by these laws. Assumes nothing.
+-- A step's pattern is the encoded value of the step: callers go by these laws.
 use mathlib.Core.Path.{_≡_, refl}
 use mathlib.Core.List.{List, [], _∷_}
 use Prim.Native.Nat.{ℕ}

@@ -1,4 +1,4 @@
--- Steps with NaN and infinities need no rounding. Assumes nothing.
+-- Steps with NaN and infinities need no rounding.
 use mathlib.Core.Path.{_≡_, refl, ap, _∙_}
 use mathlib.Core.Bool.{Bool, true, false, Bool·beq, cond}
 use Rattle.rounding_spec.specs.declared.Ties.{Ties}

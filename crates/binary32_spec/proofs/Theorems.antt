@@ -1,4 +1,4 @@
--- The theorems of `specs/Theorems.antt`. Assumes nothing.
+-- The theorems of `specs/Theorems.antt`.
 use mathlib.Core.Path.{_≡_, refl, sym, ap, ap₂, _∙_}
 use mathlib.Core.Bool.{Bool, not, _&&_}
 use Prim.Native.Nat.{ℕ, _*_, _^_}

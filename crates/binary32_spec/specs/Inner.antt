@@ -1,4 +1,4 @@
--- What the functions below `binary32` ask and promise. No contract of `binary32` cites it. Assumes nothing.
+-- What the functions below `binary32` ask and promise. No contract of `binary32` cites it.
 use Prim.Native.Nat.{ℕ, _+_, _-_, _*_, _^_, _≤_, _<_}
 use mathlib.Core.Path.{_≡_}
 

@@ -1,4 +1,4 @@
--- The four rounding steps (document 01, "Steps"): the exact result, and one rounding, RNe. Assumes nothing.
+-- The four rounding steps (document 01, "Steps"): the exact result, and one rounding, RNe.
 use Prim.Native.Nat.{ℕ}
 use mathlib.Core.List.{List, [], _∷_}
 use Rattle.rounding_spec.specs.Format.{Format, binary32}

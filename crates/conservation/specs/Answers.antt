@@ -1,4 +1,4 @@
--- The answers of the code's call: the number of each case of its enum (specs/Replay.antt). Assumes nothing.
+-- The answers of the code's call: the number of each case of its enum (specs/Replay.antt).
 use Rattle.conservation_spec.specs.Replay.{Answer, refused, done}
 use Rattle.conservation.specs.declared.Replayed.{Replayed}
 use Rattle.conservation.specs.declared.Replayed.the-variants as the-replayed

@@ -1,6 +1,6 @@
 // One question: its sheet, and its terms on both totals where it enters.
-use pattern::flipped;
 use augmented_spec::Pair;
+use pattern::flipped;
 use worksheet::Filled;
 ghost use mathlib.Core.Path.{_≡_};
 ghost use mathlib.Core.Bool.{not, _&&_};

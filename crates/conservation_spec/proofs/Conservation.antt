@@ -1,4 +1,4 @@
--- The two totals hold the plain book after every list. Assumes nothing.
+-- The two totals hold the plain book after every list.
 use mathlib.Core.Path.{_≡_, refl, sym, ap, ap₂, _∙_, subst}
 use mathlib.Core.Logic.{_⊎_, inl, inr}
 use mathlib.Core.Bool.{true≢false, Bool, true, false}

@@ -1,4 +1,4 @@
--- An entering question: the terms of its foot and the terms set are finite, and both add up to its exact result. Assumes nothing.
+-- An entering question: the terms of its foot and the terms set are finite, and both add up to its exact result.
 use mathlib.Core.Path.{_≡_, refl, sym, ap, ap₂, _∙_, subst}
 use mathlib.Core.Logic.{_≢_}
 use mathlib.Core.Bool.{true≢false, Bool, true, false, not, _&&_}

@@ -1,4 +1,4 @@
--- The questions of the lent arrays, and the words that they leave, question by question. Assumes nothing.
+-- The questions of the lent arrays, and the words that they leave, question by question.
 use mathlib.Core.Path.{_≡_, refl, sym, ap}
 use mathlib.Core.List.{List, [], _∷_, _++_}
 use Prim.Native.Nat.{ℕ, suc, _+_, _≤_, _<_}

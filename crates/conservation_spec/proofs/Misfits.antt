@@ -1,4 +1,4 @@
--- What `replay` finds wrong, by the conditions in their order, and what it means that it finds nothing. Assumes nothing.
+-- What `replay` finds wrong, by the conditions in their order, and what it means that it finds nothing.
 use mathlib.Core.Path.{_≡_, refl, sym, ap, ap₂, _∙_}
 use mathlib.Core.Bool.{true≢false, Bool, true, false, not, cond, _&&_}
 use mathlib.Core.List.{List, [], _∷_}

@@ -1,4 +1,4 @@
--- A finite pair has finite operands, and the exact result of an operation is the sum of the terms that are set. Assumes nothing.
+-- A finite pair has finite operands, and the exact result of an operation is the sum of the terms that are set.
 use mathlib.Core.Path.{_≡_, refl, sym, ap, ap₂, _∙_}
 use mathlib.Core.Bool.{true≢false, Bool, true, false, not, cond, _&&_}
 use mathlib.Core.List.{[], _∷_}

@@ -1,4 +1,4 @@
--- What `replay` leaves, where it is refused and where it is carried out, as its contract says it. Assumes nothing.
+-- What `replay` leaves, where it is refused and where it is carried out, as its contract says it.
 use mathlib.Core.Path.{_≡_, refl, sym, _∙_, subst}
 use mathlib.Core.Bool.{true≢false, true, false}
 use mathlib.Core.List.{List}

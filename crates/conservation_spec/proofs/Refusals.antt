@@ -1,4 +1,4 @@
--- The refusals of `replay`, as they are stated, and that they change nothing. Assumes nothing.
+-- The refusals of `replay`, as they are stated, and that they change nothing.
 use mathlib.Core.Path.{_≡_, refl, sym, ap, _∙_}
 use mathlib.Core.Logic.{_⊎_, _≢_, inl, inr}
 use mathlib.Core.Bool.{Bool, true, false, _&&_}

@@ -1,4 +1,4 @@
--- What `replay` carries out conserves, and its refusals. Assumes nothing.
+-- What `replay` carries out conserves, and its refusals.
 use mathlib.Core.Path.{_≡_, ap₂, subst}
 use mathlib.Core.List.{List}
 use Prim.Native.Nat.{ℕ}

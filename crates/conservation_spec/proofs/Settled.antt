@@ -1,4 +1,4 @@
--- One question by the pair that came back: whether it enters, and what it leaves on both totals. Assumes nothing.
+-- One question by the pair that came back: whether it enters, and what it leaves on both totals.
 use mathlib.Core.Path.{_≡_, refl, sym, ap, _∙_, subst}
 use mathlib.Core.Bool.{true, false, not, _&&_}
 use mathlib.Core.List.{List, [], _∷_}

@@ -1,4 +1,4 @@
--- Demand 3's claim about lists. Assumes nothing.
+-- Demand 3's claim about lists.
 use mathlib.Core.Path.{_≡_, refl, sym, ap, ap₂, _∙_, subst}
 use mathlib.Core.Bool.{true≢false, Bool, true, false, not, cond, _&&_}
 use mathlib.Core.List.{List, [], _∷_}

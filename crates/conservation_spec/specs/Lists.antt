@@ -1,4 +1,4 @@
--- Lists of calls over two totals (document 01, "Demand 3, word by word"). Assumes nothing.
+-- Lists of calls over two totals (document 01, "Demand 3, word by word").
 -- Questions and adding calls act by the definitions that the contracts of `fill`, `add_pattern` and `add_product` cite; `read` is lent its total to
 -- look at only, and answers by `reading`.
 use Prim.Native.Nat.{ℕ, suc, _+_, _*_, _^_}

@@ -1,5 +1,4 @@
 -- `replay`: a list of questions from lent arrays, over two totals. Document 01 has no such call: its answers are ours (docs/DECISIONS.md).
--- Assumes nothing.
 use Prim.Native.Nat.{ℕ}
 use mathlib.Core.Bool.{Bool, true, false, not, cond, _&&_}
 use mathlib.Core.List.{List, [], _∷_, _++_}

@@ -1,5 +1,5 @@
 -- Demand 3's claim about lists, of those that `replay` carries out, and its refusals. Each name is a statement; proofs/Theorems.antt has its proof.
--- The claim itself stands in lists' Theorems (`Conserved`). Assumes nothing.
+-- The claim itself stands in lists' Theorems (`Conserved`).
 use Prim.Native.Nat.{ℕ, _≤_, _<_}
 use mathlib.Core.Path.{_≡_}
 use mathlib.Core.Logic.{_⊎_, _≢_}

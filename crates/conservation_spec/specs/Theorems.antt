@@ -1,4 +1,4 @@
--- Demand 3's claim about lists. Each name is a statement; proofs/Theorems.antt has its proof. Assumes nothing.
+-- Demand 3's claim about lists. Each name is a statement; proofs/Theorems.antt has its proof.
 -- What demand 3 says of one sheet, its lines, line count, foot and flags, stands in emulation's Theorems (`EachLine` to `FilledPair`).
 use Prim.Native.Nat.{ℕ, _+_, _*_, _^_, _≤_, _<_}
 use mathlib.Core.Path.{_≡_}

@@ -1,4 +1,4 @@
--- Two values that add up to a number, as what is left of the number when one of them is taken away. Assumes nothing.
+-- Two values that add up to a number, as what is left of the number when one of them is taken away.
 use mathlib.Core.Path.{_≡_, sym, ap, _∙_, subst}
 use mathlib.Core.Bool.{Bool, true, false}
 use Prim.Native.Nat.{ℕ, _+_, _*_, _^_}

@@ -1,4 +1,4 @@
--- The edge of overflow: RNe of a number is infinite, and its half, split, tells whether RN0 is infinite too. Assumes nothing.
+-- The edge of overflow: RNe of a number is infinite, and its half, split, tells whether RN0 is infinite too.
 use mathlib.Core.Path.{_≡_, refl, sym, ap, ap₂, _∙_}
 use mathlib.Core.Bool.{Bool, true, false, not, cond, _&&_}
 use Prim.Native.Nat.{ℕ, suc, _+_, _-_, _*_, _^_, _≤_, _<_}

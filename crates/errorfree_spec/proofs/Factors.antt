@@ -1,4 +1,4 @@
--- The other factors of the step sheet, in any format. Assumes nothing.
+-- The other factors of the step sheet, in any format.
 use Prim.Native.Nat.{suc, _+_, _-_, _*_, _^_}
 use mathlib.Core.Bool.{true, false}
 use Rattle.rounding_spec.specs.Format.{Format, low}

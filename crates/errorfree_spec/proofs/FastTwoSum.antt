@@ -1,4 +1,4 @@
--- Fast2Sum: of a rounded sum a = x + y with |y| at most |x|, v = a - x and b = y - v are exact, and b is what the rounding left over. Assumes nothing.
+-- Fast2Sum: of a rounded sum a = x + y with |y| at most |x|, v = a - x and b = y - v are exact, and b is what the rounding left over.
 use mathlib.Core.Path.{_≡_, refl, sym, _∙_}
 use mathlib.Core.Logic.{inl, inr}
 use mathlib.Core.Bool.{Bool, true, false, not}

@@ -1,4 +1,4 @@
--- Sums and products that overflow, halved: the halves are exact, and the edge test on them gives the pair. Assumes nothing.
+-- Sums and products that overflow, halved: the halves are exact, and the edge test on them gives the pair.
 use mathlib.Core.Path.{_≡_, sym, ap, ap₂, _∙_, subst}
 use mathlib.Core.Logic.{_⊎_, inl, inr}
 use mathlib.Core.Bool.{Bool, not, cond, _&&_}

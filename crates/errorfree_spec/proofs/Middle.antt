@@ -1,4 +1,4 @@
--- A product that is small, but not among the smallest: one factor is scaled up, the product is split, and the pair is scaled down again. Assumes nothing.
+-- A product that is small, but not among the smallest: one factor is scaled up, the product is split, and the pair is scaled down again.
 use mathlib.Core.Path.{_≡_, refl, sym, ap, ap₂, _∙_, subst}
 use mathlib.Core.Logic.{_≢_, inl, inr}
 use mathlib.Core.Bool.{Bool, true, false, not, cond, _&&_}

@@ -1,4 +1,4 @@
--- The rest of a scaled product, scaled down again: a tie that went up goes down by one u. Assumes nothing.
+-- The rest of a scaled product, scaled down again: a tie that went up goes down by one u.
 use mathlib.Core.Path.{_≡_, sym, ap, ap₂, _∙_, subst}
 use mathlib.Core.Logic.{inl, inr}
 use mathlib.Core.Bool.{Bool, true, false, not, _&&_, cond}

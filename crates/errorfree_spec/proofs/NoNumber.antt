@@ -1,4 +1,4 @@
--- Steps on infinities and NaN give no finite value. Assumes nothing.
+-- Steps on infinities and NaN give no finite value.
 use mathlib.Core.Path.{_≡_, refl, sym, ap, _∙_, subst}
 use mathlib.Core.Bool.{Bool, true, false, cond, Bool·beq, _&&_}
 use mathlib.Core.Logic.{_⊎_, inl, inr}

@@ -1,4 +1,4 @@
--- Powers of two: what a number that is bounded by one rounds to, and products with one, exact or rounded. Assumes nothing.
+-- Powers of two: what a number that is bounded by one rounds to, and products with one, exact or rounded.
 use mathlib.Core.Path.{_≡_, sym, ap, _∙_, subst}
 use mathlib.Core.Bool.{Bool, false}
 use Prim.Native.Nat.{ℕ, suc, _+_, _-_, _*_, _^_, _≤_, _<_}

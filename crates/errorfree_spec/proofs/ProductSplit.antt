@@ -1,4 +1,4 @@
--- A product that is not small: a whole number of u, which a product step and a fused step split without loss. Assumes nothing.
+-- A product that is not small: a whole number of u, which a product step and a fused step split without loss.
 use mathlib.Core.Path.{_≡_, sym, ap, ap₂, _∙_, subst}
 use mathlib.Core.Bool.{Bool, true, false, not}
 use Prim.Native.Nat.{ℕ, suc, _+_, _*_, _^_, _≤_, _<_}

@@ -1,4 +1,4 @@
--- Recomposition: from RNe of a number and what is left of it to RN0 and what is left then. Assumes nothing.
+-- Recomposition: from RNe of a number and what is left of it to RN0 and what is left then.
 use mathlib.Core.Path.{_≡_, refl, sym, ap, _∙_, subst}
 use mathlib.Core.Bool.{Bool, true, false, cond}
 use Prim.Native.Nat.{ℕ, suc, _+_, _-_, _*_, _^_, _<_}

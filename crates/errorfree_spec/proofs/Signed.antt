@@ -1,4 +1,4 @@
--- Values as differences of two whole numbers, seen from one sign: so that signs of zeros do not matter and all is linear. Assumes nothing.
+-- Values as differences of two whole numbers, seen from one sign: so that signs of zeros do not matter and all is linear.
 use mathlib.Core.Path.{_≡_, refl, sym, subst}
 use mathlib.Core.Bool.{Bool, true, false, not, _&&_, Bool·beq, _||_}
 use Prim.Native.Nat.{ℕ, _+_, _-_, _≤_, _<_}

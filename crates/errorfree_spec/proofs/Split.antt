@@ -1,4 +1,4 @@
--- An exact number and the two values that it is split into: what Fast2Sum leaves of a sum, and a fused step of a product. Assumes nothing.
+-- An exact number and the two values that it is split into: what Fast2Sum leaves of a sum, and a fused step of a product.
 use mathlib.Core.Path.{_≡_, refl, sym, ap, ap₂, _∙_}
 use mathlib.Core.Logic.{_≢_}
 use mathlib.Core.Bool.{Bool, true, false, cond}

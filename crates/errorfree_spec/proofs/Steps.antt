@@ -1,4 +1,4 @@
--- The steps on finite values: rounded by one rule or the other, and exact where the exact result is a number of the format. Assumes nothing.
+-- The steps on finite values: rounded by one rule or the other, and exact where the exact result is a number of the format.
 use mathlib.Core.Path.{_≡_, refl, sym, ap, _∙_}
 use mathlib.Core.Bool.{Bool, true, false}
 use Prim.Native.Nat.{ℕ, suc, _+_, _*_, _^_, _<_}

@@ -1,4 +1,4 @@
--- The theorems of `specs/Theorems.antt`. Assumes nothing.
+-- The theorems of `specs/Theorems.antt`.
 use mathlib.Core.Path.{_≡_, refl, sym, ap, ap₂, _∙_, subst}
 use mathlib.Core.Bool.{Bool, true, false, cond, Bool·beq, _&&_, _||_}
 use Prim.Native.Nat.{ℕ, zero, suc, _+_, _-_, _*_, _^_, _≤_, _<_}

@@ -1,4 +1,4 @@
--- Tiny products: the pair of one that rounds to zero, and of one that rounds to less than 2 ^ precision units of u, by both factors scaled up. Assumes nothing.
+-- Tiny products: the pair of one that rounds to zero, and of one that rounds to less than 2 ^ precision units of u, by both factors scaled up.
 use mathlib.Core.Path.{_≡_, refl, sym, ap, ap₂, _∙_, subst}
 use mathlib.Core.Logic.{inl, inr}
 use mathlib.Core.Bool.{Bool, true, false, not, _&&_, cond}

@@ -1,4 +1,4 @@
--- A product that rounds below 2 ^ precision units of u: the rest rounds to zero, half of u does by ties to even, and which of A and A - 1 is RN0. Assumes nothing.
+-- A product that rounds below 2 ^ precision units of u: the rest rounds to zero, half of u does by ties to even, and which of A and A - 1 is RN0.
 use mathlib.Core.Path.{_≡_, refl, sym, ap, ap₂, _∙_}
 use mathlib.Core.Logic.{inl, inr}
 use mathlib.Core.Bool.{Bool, cond}

@@ -1,4 +1,4 @@
--- The test for a tie that went up, on the scaled product Q and the scaled rounded product G: true exactly where Q is H below G. Assumes nothing.
+-- The test for a tie that went up, on the scaled product Q and the scaled rounded product G: true exactly where Q is H below G.
 use mathlib.Core.Path.{_≡_, ap, _∙_, subst}
 use mathlib.Core.Bool.{Bool, true, false, not, _&&_}
 use Prim.Native.Nat.{ℕ, suc, _+_, _-_, _*_, _^_, _≤_, _<_}

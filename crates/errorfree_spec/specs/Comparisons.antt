@@ -1,4 +1,4 @@
--- Comparisons of values (document 01, "The step sheet"): "a comparison with NaN fails; +0 equals -0". Assumes nothing.
+-- Comparisons of values (document 01, "The step sheet"): "a comparison with NaN fails; +0 equals -0".
 use mathlib.Core.Bool.{Bool, true, false, Bool·beq, _&&_, _||_}
 use lib.Dec.{ltb, eqb}
 use Rattle.rounding_spec.specs.Value.{Value, nan, infinite, finite}

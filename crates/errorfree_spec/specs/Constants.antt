@@ -1,4 +1,4 @@
--- Two of the factors that document 01's step sheet multiplies by, in any format, and what is asked of a format. Assumes nothing.
+-- Two of the factors that document 01's step sheet multiplies by, in any format, and what is asked of a format.
 -- 1 is 2 ^ low F units of u, and `suc (F .fraction)` is the precision: 149 and 24 in binary32.
 use Prim.Native.Nat.{suc, _-_, _*_, _^_, _≤_}
 use mathlib.Core.Bool.{false}

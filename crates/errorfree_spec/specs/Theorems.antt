@@ -1,5 +1,5 @@
 -- What is proved of error-free transformations, for a course to cite. `All`, at the end, lists the statements, and `proofs/Theorems.antt`
--- proves them. Assumes nothing. They speak of any format, two of them of any `Roomy` one (Constants), as binary32 is.
+-- proves them. They speak of any format, two of them of any `Roomy` one (Constants), as binary32 is.
 use mathlib.Core.Path.{_≡_}
 use mathlib.Core.Bool.{Bool, true, false, Bool·beq, cond}
 use Prim.Native.Nat.{ℕ, suc, _+_, _*_, _^_, _≤_, _<_}

@@ -1,9 +1,9 @@
 // Exact sums and products, before any rounding.
 mod factors;
 
-use pattern::classify;
 use choose::choose;
 use choose::choose_sign;
+use pattern::classify;
 use pattern_spec::Class;
 ghost use mathlib.Core.Path.{_≡_};
 ghost use Prim.Native.Nat.{_*_, _%_, _^_, _<_};

@@ -1,4 +1,4 @@
--- The answers of calls on sheets and lists as numbers, for other languages: document 01 leaves free how they are handed over. Assumes nothing.
+-- The answers of calls on sheets and lists as numbers, for other languages: document 01 leaves free how they are handed over.
 use Prim.Native.Nat.{ℕ}
 use Rattle.augmented_spec.specs.Direct.{none}
 use Rattle.worksheet_spec.specs.Filling as Filling

@@ -1,7 +1,7 @@
 // Step sheets, and lists of questions over two totals, for programs in C and Rust. Lent words are a pointer and a count.
-use conservation::Replayed;
 use augmented_spec::Flags;
 use augmented_spec::Pair;
+use conservation::Replayed;
 use worksheet::Filled;
 ghost use mathlib.Core.Path.{_≡_};
 ghost use Rattle.worksheet_spec.specs.Filling.{filling, afterFilling};

@@ -1,4 +1,4 @@
--- The answers of calls on totals as numbers, for other languages: document 01 leaves free how they are handed over. Assumes nothing.
+-- The answers of calls on totals as numbers, for other languages: document 01 leaves free how they are handed over.
 use Prim.Native.Nat.{ℕ}
 use Rattle.accumulator_spec.specs.Totals.{Answer, refused, done, pair}
 use Rattle.exports_totals.specs.declared.Reply.{Reply}

@@ -1,4 +1,4 @@
--- The class of a pattern stands for the value that the pattern decodes to, within bounds; and a flipped sign bit negates. Assumes nothing.
+-- The class of a pattern stands for the value that the pattern decodes to, within bounds; and a flipped sign bit negates.
 use mathlib.Core.Path.{_≡_, refl, sym, ap, _∙_}
 use mathlib.Core.Logic.{inl, inr}
 use mathlib.Core.Bool.{Bool, true, false, not, cond}

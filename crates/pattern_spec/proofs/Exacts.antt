@@ -1,4 +1,4 @@
--- Exact sums of two operands for callers that round them: in order, at one exponent, or far apart. Assumes nothing.
+-- Exact sums of two operands for callers that round them: in order, at one exponent, or far apart.
 use mathlib.Core.Path.{_≡_, refl, sym, ap, ap₂, _∙_}
 use mathlib.Core.Logic.{inl, inr}
 use mathlib.Core.Bool.{Bool, true, false, cond}

@@ -1,4 +1,4 @@
--- The sum of two operands whose exponents are far apart is the larger one. Assumes nothing.
+-- The sum of two operands whose exponents are far apart is the larger one.
 use mathlib.Core.Path.{_≡_, refl, sym, ap, _∙_}
 use mathlib.Core.Logic.{inl, inr}
 use mathlib.Core.Bool.{Bool}

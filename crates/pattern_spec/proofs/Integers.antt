@@ -1,4 +1,4 @@
--- Exact sums and products of magnitudes with signs are those of whole numbers. Assumes nothing.
+-- Exact sums and products of magnitudes with signs are those of whole numbers.
 use mathlib.Core.Path.{_≡_, refl, sym, ap, _∙_}
 use mathlib.Core.Logic.{inl, inr}
 use mathlib.Core.Bool.{Bool, true, false, not, _&&_}

@@ -1,4 +1,4 @@
--- The operand of the larger magnitude and the other one, and what a flip does to the bits. Assumes nothing.
+-- The operand of the larger magnitude and the other one, and what a flip does to the bits.
 use mathlib.Core.Path.{_≡_, refl, sym, ap, _∙_}
 use mathlib.Core.Logic.{inl, inr}
 use Prim.Native.Nat.{ℕ, _+_, _-_, _%_, _^_, _<_}

@@ -1,4 +1,4 @@
--- Exact products of operands: their value and their bounds; a third operand brought to 24 digits. Assumes nothing.
+-- Exact products of operands: their value and their bounds; a third operand brought to 24 digits.
 use mathlib.Core.Path.{_≡_, ap, _∙_, sym}
 use mathlib.Core.Logic.{inl, inr}
 use mathlib.Core.Bool.{true, false}

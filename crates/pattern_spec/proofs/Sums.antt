@@ -1,4 +1,4 @@
--- Sums of magnitudes with signs: the four cases, exchange of the addends, and a common factor. Assumes nothing.
+-- Sums of magnitudes with signs: the four cases, exchange of the addends, and a common factor.
 use mathlib.Core.Path.{_≡_, refl, ap, ap₂, _∙_, sym}
 use mathlib.Core.Logic.{_⊎_, inl, inr}
 use mathlib.Core.Bool.{Bool, true, false, not, Bool·beq, cond}

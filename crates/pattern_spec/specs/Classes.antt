@@ -1,4 +1,4 @@
--- The class of a pattern by its exponent field, as the code holds it, the value that a class stands for, and its bounds. Assumes nothing.
+-- The class of a pattern by its exponent field, as the code holds it, the value that a class stands for, and its bounds.
 use Prim.Native.Nat.{ℕ, zero, suc, _+_, _-_, _*_, _/_, _%_, _^_, _≤_, _<_}
 use mathlib.Core.Bool.{Bool, cond}
 use lib.Dec.{leb, eqb}

@@ -1,4 +1,4 @@
--- Exact arithmetic on values (document 01, "Steps"): no rounding here. Assumes nothing.
+-- Exact arithmetic on values (document 01, "Steps"): no rounding here.
 -- The magnitudes of operands count u, those of a product u * u; a sum is in its addends' unit.
 use Prim.Native.Nat.{ℕ, _+_, _-_, _*_, _^_}
 use mathlib.Core.Bool.{Bool, true, false, not, Bool·beq, cond}

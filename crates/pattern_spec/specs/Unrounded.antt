@@ -1,4 +1,4 @@
--- Operands in order, and exact products as the code holds them before any rounding. Assumes nothing.
+-- Operands in order, and exact products as the code holds them before any rounding.
 use Prim.Native.Nat.{ℕ, _%_, _^_, _≤_, _<_}
 use mathlib.Core.Path.{_≡_}
 use mathlib.Core.Bool.{cond}

@@ -1,4 +1,4 @@
--- Document 01's number and values for each case of the enum that comes back. Assumes nothing.
+-- Document 01's number and values for each case of the enum that comes back.
 use Rattle.question.specs.declared.Question.{Question}
 use Rattle.question.specs.declared.Question.the-variants.{Asked, Length, Letters, Tab, Digit}
 use Rattle.question_spec.specs.Questions.{Answer, asked, refused}

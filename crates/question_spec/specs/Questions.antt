@@ -1,4 +1,4 @@
--- Question lines (document 01, "Where a call says no": "Reading a question line"). Assumes nothing.
+-- Question lines (document 01, "Where a call says no": "Reading a question line").
 -- A line is its bytes, without the newline.
 use Prim.Native.Nat.{ℕ, _+_, _*_, _-_, _/_, _%_}
 use mathlib.Core.Bool.{Bool, true, cond, not, _&&_, _||_}

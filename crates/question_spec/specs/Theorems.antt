@@ -1,4 +1,4 @@
--- What holds of question lines. Each name is a statement; proofs/Theorems.antt has its proof. Assumes nothing.
+-- What holds of question lines. Each name is a statement; proofs/Theorems.antt has its proof.
 use Prim.Native.Nat.{ℕ, _^_, _≤_, _<_}
 use mathlib.Core.Path.{_≡_}
 use mathlib.Core.Logic.{_≢_, _⊎_}

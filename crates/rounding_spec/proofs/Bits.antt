@@ -1,5 +1,5 @@
 -- Magnitudes and the bits below the sign: each is the other's inverse, the order of the one is the order of the other, and the bits of
--- a rounded number. Assumes nothing.
+-- a rounded number.
 use mathlib.Core.Path.{_≡_, refl, sym, ap, _∙_}
 use mathlib.Core.Logic.{inl, inr}
 use Prim.Native.Nat.{ℕ, zero, suc, _+_, _-_, _*_, _/_, _%_, _^_, _≤_, _<_}

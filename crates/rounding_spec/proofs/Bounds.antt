@@ -1,4 +1,4 @@
--- What a number that is bounded by a number of the format rounds to. Assumes nothing.
+-- What a number that is bounded by a number of the format rounds to.
 use mathlib.Core.Path.{refl, sym, subst}
 use Prim.Native.Nat.{ℕ, suc, _+_, _*_, _^_, _≤_}
 use native.Mathlib.Nat.{le-of-mul-le-mul-right}

@@ -1,4 +1,4 @@
--- The number below a nearest one, as a rounded product, and when it is the one that ties go down to. Assumes nothing.
+-- The number below a nearest one, as a rounded product, and when it is the one that ties go down to.
 use mathlib.Core.Path.{_≡_, sym}
 use mathlib.Core.Logic.{_≢_}
 use Prim.Native.Nat.{ℕ, suc, _+_, _-_, _*_, _^_, _≤_, _<_}

@@ -1,4 +1,4 @@
--- Patterns and values: each is read back from the other, and rounding gives values of the format. Assumes nothing.
+-- Patterns and values: each is read back from the other, and rounding gives values of the format.
 use mathlib.Core.Path.{_≡_, refl, sym, ap, ap₂, _∙_, subst}
 use mathlib.Core.Logic.{inl, inr}
 use mathlib.Core.Bool.{Bool, true, false}

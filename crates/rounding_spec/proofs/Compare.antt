@@ -1,4 +1,4 @@
--- What `compare` says of two numbers, and which of the three cases holds. Assumes nothing.
+-- What `compare` says of two numbers, and which of the three cases holds.
 use mathlib.Core.Path.{_≡_, refl, ap, sym, _∙_, subst}
 use mathlib.Core.Logic.{_⊎_, inl, inr}
 use mathlib.Core.Bool.{not}

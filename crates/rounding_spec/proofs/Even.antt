@@ -1,4 +1,4 @@
--- Ties to even: where another number is equally near, the last bit of the result's pattern is 0, and the other one's is 1. Assumes nothing.
+-- Ties to even: where another number is equally near, the last bit of the result's pattern is 0, and the other one's is 1.
 use mathlib.Core.Path.{_≡_, sym, ap, _∙_}
 use mathlib.Core.Logic.{inl, inr}
 use Prim.Native.Nat.{ℕ, suc, _+_, _-_, _*_, _/_, _%_, _^_, _≤_, _<_}

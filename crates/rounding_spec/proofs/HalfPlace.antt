@@ -1,4 +1,4 @@
--- What RN0 leaves over, rounded again, is at most half a unit of the rounded number's last place. Assumes nothing.
+-- What RN0 leaves over, rounded again, is at most half a unit of the rounded number's last place.
 use mathlib.Core.Path.{_≡_, ap, _∙_}
 use Prim.Native.Nat.{ℕ, zero, suc, _+_, _-_, _*_, _^_, _≤_}
 use native.Mathlib.Nat.{le-trans, le-of-eq, one-mul, mul-le-mul-right, le-of-mul-le-mul-right, pow-succ'}

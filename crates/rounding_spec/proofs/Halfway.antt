@@ -1,4 +1,4 @@
--- A tie between the largest significand and the next power of two, and which numbers lie above it. Assumes nothing.
+-- A tie between the largest significand and the next power of two, and which numbers lie above it.
 -- With the last place 2 ^ suc j, `last` is the largest significand of suc f digits there, `next` the number behind it, and `tie` is halfway.
 use mathlib.Core.Path.{_≡_, sym, ap, _∙_}
 use Prim.Native.Nat.{ℕ, suc, _+_, _-_, _*_, _%_, _^_, _≤_, _<_}

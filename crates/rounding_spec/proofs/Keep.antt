@@ -1,4 +1,4 @@
--- N / 2 ^ k to the nearest whole number: by the remainder, its distance from N, and scaling. Assumes nothing.
+-- N / 2 ^ k to the nearest whole number: by the remainder, its distance from N, and scaling.
 use mathlib.Core.Path.{_≡_, sym, ap, ap₂, _∙_, subst}
 use mathlib.Core.Logic.{inl, inr}
 use Prim.Native.Nat.{ℕ, suc, _+_, _*_, _/_, _%_, _^_, _≤_, _<_}

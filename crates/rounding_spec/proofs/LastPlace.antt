@@ -1,4 +1,4 @@
--- The exponent of the last place: what fixes it, and how it moves with the number. Assumes nothing.
+-- The exponent of the last place: what fixes it, and how it moves with the number.
 use mathlib.Core.Path.{_≡_, sym, ap, _∙_}
 use mathlib.Core.Logic.{inl, inr}
 use Prim.Native.Nat.{ℕ, suc, _+_, _*_, _^_, _≤_, _<_}

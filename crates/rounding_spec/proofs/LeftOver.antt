@@ -1,4 +1,4 @@
--- What a rounding leaves over, as the code computes it: the remainder in a word, or what it lacks to the unit. Assumes nothing.
+-- What a rounding leaves over, as the code computes it: the remainder in a word, or what it lacks to the unit.
 use mathlib.Core.Path.{_≡_, refl, sym, ap, ap₂, _∙_}
 use mathlib.Core.Bool.{Bool, true, false, cond}
 use Prim.Native.Nat.{ℕ, suc, _+_, _-_, _*_, _/_, _%_, _^_, _≤_, _<_, max}

@@ -1,4 +1,4 @@
--- Multiples of a power of two. Assumes nothing.
+-- Multiples of a power of two.
 use mathlib.Core.Path.{_≡_, sym, ap, _∙_}
 use Prim.Native.Nat.{ℕ, _+_, _-_, _*_, _^_, _≤_}
 use native.Mathlib.Nat.{mul-assoc, mul-comm, add-mul, mul-sub, sub-add-cancel}

@@ -1,4 +1,4 @@
--- What follows from being nearest: exact on representable numbers, within bounds, a multiple, monotone, and where the two tie rules part. Assumes nothing.
+-- What follows from being nearest: exact on representable numbers, within bounds, a multiple, monotone, and where the two tie rules part.
 use mathlib.Core.Path.{_≡_, sym}
 use mathlib.Core.Logic.{_⊎_, inl, inr}
 use Prim.Native.Nat.{ℕ, suc, _+_, _*_, _^_, _≤_, _<_}

@@ -1,4 +1,4 @@
--- A significand moved up by its leading zeros: where its last place is, and what is kept of it. Assumes nothing.
+-- A significand moved up by its leading zeros: where its last place is, and what is kept of it.
 use mathlib.Core.Path.{_≡_, refl, sym, ap, ap₂, _∙_}
 use mathlib.Core.Bool.{Bool}
 use Prim.Native.Nat.{ℕ, suc, _+_, _-_, _*_, _%_, _^_, _≤_, _<_, min, max}

@@ -1,4 +1,4 @@
--- The number below A, also where A is a power of two, and the product that rounds to it. Assumes nothing.
+-- The number below A, also where A is a power of two, and the product that rounds to it.
 use mathlib.Core.Path.{_≡_, sym, ap, _∙_}
 use Prim.Native.Nat.{ℕ, suc, _+_, _-_, _*_, _/_, _^_, _≤_, _<_}
 use native.Mathlib.Nat.{le-antisymm, le-trans, le-of-eq, lt-of-lt-of-le, lt-of-le-of-lt, mul-le-mul-right, mul-lt-mul-of-pos-right, lt-of-mul-lt-mul-right, le-of-mul-le-mul-right, suc-mul, mul-comm, mul-assoc, mul-div-cancel, zero-mul, one-mul}

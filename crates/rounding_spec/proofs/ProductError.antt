@@ -1,4 +1,4 @@
--- The error of a rounded product of two significands is a number of the format. Assumes nothing.
+-- The error of a rounded product of two significands is a number of the format.
 use mathlib.Core.Path.{_≡_, sym, ap, _∙_}
 use Prim.Native.Nat.{ℕ, suc, _+_, _*_, _/_, _%_, _^_, _≤_, _<_}
 use native.Mathlib.Nat.{le-of-eq, lt-of-lt-of-le, lt-of-le-of-lt, mul-lt-mul-of-pos-right, lt-of-mul-lt-mul-right, mul-comm, mul-assoc, mod-lt, div-add-mod', suc-mul}

@@ -1,4 +1,4 @@
--- `keep` as the code computes it: by the remainder in a 64-bit word, with one more for a tie that goes up. Assumes nothing.
+-- `keep` as the code computes it: by the remainder in a 64-bit word, with one more for a tie that goes up.
 use mathlib.Core.Path.{_≡_, refl, sym, ap, _∙_, subst}
 use mathlib.Core.Logic.{inl, inr}
 use Prim.Native.Nat.{ℕ, suc, _+_, _-_, _*_, _/_, _%_, _^_, _≤_, _<_}

@@ -1,4 +1,4 @@
--- Being nearest in finer and coarser units, and with another lowest exponent. Assumes nothing.
+-- Being nearest in finer and coarser units, and with another lowest exponent.
 use mathlib.Core.Path.{_≡_, sym, ap, _∙_}
 use Prim.Native.Nat.{ℕ, suc, _+_, _*_, _^_, _≤_}
 use native.Mathlib.Nat.{zero-add, le-refl, le-trans, le-of-eq, mul-le-mul-right, le-of-mul-le-mul-right, eq-of-mul-eq-mul-right, add-mul}

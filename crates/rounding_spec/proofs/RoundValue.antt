@@ -1,4 +1,4 @@
--- Rounding of a finite exact result: finite or infinite, the pattern of it, and where it overflows. Assumes nothing.
+-- Rounding of a finite exact result: finite or infinite, the pattern of it, and where it overflows.
 use mathlib.Core.Path.{_≡_, sym, ap, _∙_}
 use mathlib.Core.Bool.{Bool}
 use Prim.Native.Nat.{ℕ, suc, _+_, _-_, _*_, _^_, _≤_, _<_, min}

@@ -1,4 +1,4 @@
--- `rounded` is nearest, its tie rules, exactness, order and scaling. Assumes nothing.
+-- `rounded` is nearest, its tie rules, exactness, order and scaling.
 use mathlib.Core.Path.{_≡_, sym, ap, _∙_}
 use mathlib.Core.Logic.{_⊎_, inl, inr}
 use Prim.Native.Nat.{ℕ, suc, _+_, _-_, _*_, _/_, _%_, _^_, _≤_, _<_}

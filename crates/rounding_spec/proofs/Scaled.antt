@@ -1,4 +1,4 @@
--- Representable numbers in finer and coarser units, and the rounded number in units of u. Assumes nothing.
+-- Representable numbers in finer and coarser units, and the rounded number in units of u.
 use mathlib.Core.Path.{sym, ap, _∙_, subst}
 use Prim.Native.Nat.{ℕ, suc, _+_, _-_, _*_, _^_, _≤_}
 use native.Mathlib.Nat.{mul-assoc, zero-add, eq-of-mul-eq-mul-right}

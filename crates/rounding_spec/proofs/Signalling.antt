@@ -1,4 +1,4 @@
--- Signalling patterns lie between the infinity's and its sum with the highest fraction bit. Assumes nothing.
+-- Signalling patterns lie between the infinity's and its sum with the highest fraction bit.
 use mathlib.Core.Path.{_≡_, sym, ap, _∙_}
 use mathlib.Core.Logic.{inl, inr}
 use mathlib.Core.Bool.{_&&_}

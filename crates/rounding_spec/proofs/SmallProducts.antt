@@ -1,4 +1,4 @@
--- A second rounding to a coarser unit, and differences from a number near by: what corrections of small products rest on. Assumes nothing.
+-- A second rounding to a coarser unit, and differences from a number near by: what corrections of small products rest on.
 use mathlib.Core.Path.{_≡_, sym, ap, _∙_, subst}
 use mathlib.Core.Logic.{_⊎_, inl, inr}
 use Prim.Native.Nat.{ℕ, zero, suc, _+_, _-_, _*_, _^_, _≤_, _<_}

@@ -1,4 +1,4 @@
--- A number less than a quarter of a unit away from a representable one of full length rounds to it. Assumes nothing.
+-- A number less than a quarter of a unit away from a representable one of full length rounds to it.
 use mathlib.Core.Path.{_≡_, refl, sym, ap, ap₂, _∙_}
 use mathlib.Core.Logic.{inl, inr}
 use Prim.Native.Nat.{ℕ, suc, _+_, _*_, _^_, _≤_, _<_}

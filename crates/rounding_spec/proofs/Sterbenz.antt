@@ -1,4 +1,4 @@
--- Differences of neighbouring numbers are exact (Sterbenz), and so are the inner steps of Fast2Sum, on magnitudes. Assumes nothing.
+-- Differences of neighbouring numbers are exact (Sterbenz), and so are the inner steps of Fast2Sum, on magnitudes.
 use mathlib.Core.Path.{_≡_, refl, ap, _∙_, sym}
 use Prim.Native.Nat.{ℕ, suc, _+_, _-_, _*_, _^_, _≤_, _<_}
 use native.Mathlib.Nat.{le-refl, le-trans, le-of-eq, lt-of-le-of-lt, mul-lt-mul-of-pos-right, mul-left-comm, pow-succ'}

@@ -1,5 +1,4 @@
 -- Of what stands below the digit after the last place, only whether it is nothing counts: rounding to odd first changes nothing.
--- Assumes nothing.
 use mathlib.Core.Path.{_≡_, sym, ap, _∙_, subst}
 use mathlib.Core.Logic.{_⊎_, inl, inr}
 use Prim.Native.Nat.{ℕ, suc, _+_, _-_, _*_, _/_, _%_, _^_, _≤_, _<_}

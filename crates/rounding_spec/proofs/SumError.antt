@@ -1,4 +1,4 @@
--- The error of a rounded sum or difference of two numbers of the format is a number of the format. Assumes nothing.
+-- The error of a rounded sum or difference of two numbers of the format is a number of the format.
 use mathlib.Core.Path.{_≡_}
 use Prim.Native.Nat.{ℕ, suc, _+_, _-_, _≤_}
 use native.Mathlib.Nat.{le-trans, le-of-eq}

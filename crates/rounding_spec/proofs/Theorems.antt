@@ -1,4 +1,4 @@
--- The theorems of `specs/Theorems.antt`. Assumes nothing.
+-- The theorems of `specs/Theorems.antt`.
 use mathlib.Core.Path.{_≡_, refl, sym, ap, _∙_}
 use Prim.Native.Nat.{ℕ, suc, _-_, _*_, _%_, _^_}
 use native.Mathlib.Nat.{le-trans, le-of-eq, mul-assoc, eq-of-mul-eq-mul-right, le-of-mul-le-mul-right, pow-suc}

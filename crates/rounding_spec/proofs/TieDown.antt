@@ -1,4 +1,4 @@
--- From a nearest number A to the one that ties go down to: A itself, or the number below it where A came from a tie. Assumes nothing.
+-- From a nearest number A to the one that ties go down to: A itself, or the number below it where A came from a tie.
 use mathlib.Core.Path.{sym, _≡_, ap, _∙_}
 use mathlib.Core.Logic.{_≢_}
 use Prim.Native.Nat.{ℕ, suc, _+_, _-_, _*_, _^_, _≤_, _<_}

@@ -1,4 +1,4 @@
--- Binary formats: the numbers that fix one, and its patterns' landmarks. Assumes nothing.
+-- Binary formats: the numbers that fix one, and its patterns' landmarks.
 -- u is a format's smallest positive value: 2 ^ -149 in binary32 (document 01, "With u = 2^-149").
 use Prim.Native.Nat.{ℕ, suc, _+_, _-_, _*_, _^_, _<_}
 

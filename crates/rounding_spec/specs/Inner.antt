@@ -1,4 +1,4 @@
--- What the inner functions of `nearest` promise. No public contract cites it. Assumes nothing.
+-- What the inner functions of `nearest` promise. No public contract cites it.
 use Prim.Native.Nat.{ℕ, _%_}
 use Rattle.rounding_spec.specs.declared.Ties.{Ties}
 use Rattle.rounding_spec.specs.declared.Ties.the-variants.{ToEven, ToZero}

@@ -1,4 +1,4 @@
--- What it is to be nearest, as a relation on magnitudes: the meaning that `rounded` is shown to have. Assumes nothing.
+-- What it is to be nearest, as a relation on magnitudes: the meaning that `rounded` is shown to have.
 -- p is the precision; every number of the format is a multiple of 2 ^ l.
 use Prim.Native.Nat.{ℕ, _+_, _-_, _*_, _^_, _≤_, _<_}
 use mathlib.Core.Path.{_≡_}

@@ -1,4 +1,4 @@
--- Rounding to nearest (document 01, "Patterns and rounding"), with no upper bound on the exponent. Assumes nothing.
+-- Rounding to nearest (document 01, "Patterns and rounding"), with no upper bound on the exponent.
 -- f fraction bits are kept behind the leading one. A magnitude N is a whole number of some unit, in which u is 2 ^ L:
 -- L is 0 where N counts u, and 149 where N counts 2 ^ -298, the unit of products and totals, in binary32.
 use Prim.Native.Nat.{ℕ, suc, _+_, _-_, _*_, _/_, _%_, _^_, max, compare, Ordering, Ordering·lt, Ordering·eq, Ordering·gt}

@@ -1,4 +1,4 @@
--- What is proved of patterns and rounding. Each name is a statement; `proofs/Theorems.antt` has its proof. Assumes nothing.
+-- What is proved of patterns and rounding. Each name is a statement; `proofs/Theorems.antt` has its proof.
 use mathlib.Core.Path.{_≡_}
 use mathlib.Core.Logic.{_⊎_, _≢_}
 use mathlib.Core.Bool.{Bool, true, false, _&&_}

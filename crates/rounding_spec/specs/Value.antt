@@ -1,5 +1,4 @@
 -- Patterns, the values that they stand for, and the rounding of an exact result to a value (document 01, "Patterns and rounding").
--- Assumes nothing.
 use Prim.Native.Nat.{ℕ, zero, suc, _+_, _-_, _*_, _/_, _%_, _^_, _<_}
 use mathlib.Core.Bool.{Bool, true, false, cond, _&&_}
 use mathlib.Core.List.{List, []}

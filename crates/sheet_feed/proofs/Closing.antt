@@ -1,4 +1,4 @@
--- The end of the input: the open line and the last two lines. Assumes nothing.
+-- The end of the input: the open line and the last two lines.
 use mathlib.Core.Path.{_≡_, refl, sym, ap, _∙_, subst}
 use mathlib.Core.Logic.{inl, inr}
 use mathlib.Core.Bool.{true≢false, Bool, true, false}

@@ -1,4 +1,4 @@
--- Bytes taken one after the other while there is room for another line's text. Assumes nothing.
+-- Bytes taken one after the other while there is room for another line's text.
 use mathlib.Core.Path.{_≡_, refl, sym, ap, _∙_, subst}
 use mathlib.Core.Logic.{_⊎_, inl, inr}
 use mathlib.Core.Bool.{true, false}

@@ -1,4 +1,4 @@
--- Texts at the start of a buffer, one after the other. Assumes nothing.
+-- Texts at the start of a buffer, one after the other.
 use mathlib.Core.Path.{_≡_, refl, sym, ap, ap₂, _∙_, subst}
 use mathlib.Core.List.{List, [], _++_, append-assoc, append-nil}
 use Prim.Native.Nat.{ℕ, _+_, _-_, _≤_}

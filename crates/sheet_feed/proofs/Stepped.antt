@@ -1,4 +1,4 @@
--- One byte taken: a line's end, another byte, the stop. Assumes nothing.
+-- One byte taken: a line's end, another byte, the stop.
 use mathlib.Core.Path.{_≡_, refl, sym, ap, _∙_, subst}
 use mathlib.Core.Logic.{inl, inr}
 use mathlib.Core.Bool.{Bool, true, false, cond}

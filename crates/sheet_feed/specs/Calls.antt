@@ -1,4 +1,4 @@
--- What the code's calls do: bytes taken, and the end of the input. Assumes nothing.
+-- What the code's calls do: bytes taken, and the end of the input.
 use Prim.Native.Nat.{ℕ, _+_, _≤_, _<_}
 use mathlib.Core.Path.{_≡_}
 use mathlib.Core.Logic.{_⊎_}

@@ -1,4 +1,4 @@
--- One line answered: what is added to the total, and its text. Assumes nothing.
+-- One line answered: what is added to the total, and its text.
 use mathlib.Core.Path.{_≡_, refl, sym, ap, _∙_, subst}
 use mathlib.Core.Bool.{true≢false, Bool, true, false, _&&_}
 use mathlib.Core.List.{List, [], _∷_}

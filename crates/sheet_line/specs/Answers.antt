@@ -1,4 +1,4 @@
--- What answering a line does: its text at the start of a lent buffer, and its pair in the total. Assumes nothing.
+-- What answering a line does: its text at the start of a lent buffer, and its pair in the total.
 use Prim.Native.Nat.{ℕ}
 use mathlib.Core.Path.{_≡_}
 use mathlib.Core.Bool.{cond}

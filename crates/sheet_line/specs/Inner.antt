@@ -1,4 +1,4 @@
--- What the crate's inner functions promise. No public contract cites it. Assumes nothing.
+-- What the crate's inner functions promise. No public contract cites it.
 use Prim.Native.Nat.{ℕ}
 use mathlib.Core.Bool.{cond, _&&_}
 use mathlib.Core.List.{List, [], _∷_}

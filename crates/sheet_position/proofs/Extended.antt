@@ -1,4 +1,4 @@
--- A line's bytes with one more, as the code keeps them. Assumes nothing.
+-- A line's bytes with one more, as the code keeps them.
 use mathlib.Core.Path.{_≡_, sym, ap, _∙_}
 use mathlib.Core.List.{List, [], _∷_, _++_, append-assoc}
 use Prim.Native.Nat.{ℕ, _+_, _≤_, _<_}

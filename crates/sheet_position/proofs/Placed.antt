@@ -1,4 +1,4 @@
--- Counts of a run, and the state that they stand for after each kind of byte. Assumes nothing.
+-- Counts of a run, and the state that they stand for after each kind of byte.
 use mathlib.Core.Path.{_≡_, refl, sym, ap, _∙_}
 use mathlib.Core.Logic.{_⊎_, inl, inr}
 use mathlib.Core.Bool.{true≢false, Bool, true, false, not, _&&_, _||_}

@@ -1,4 +1,4 @@
--- Where a run stands, as the code holds it: counts by value, the open line's bytes and the total in lent arrays. Assumes nothing.
+-- Where a run stands, as the code holds it: counts by value, the open line's bytes and the total in lent arrays.
 use Prim.Native.Nat.{ℕ, _≤_, _<_}
 use mathlib.Core.Path.{_≡_}
 use mathlib.Core.Logic.{_⊎_}

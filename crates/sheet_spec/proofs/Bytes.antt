@@ -1,4 +1,4 @@
--- Carried from byte to byte, the state prints what the lines print. Assumes nothing.
+-- Carried from byte to byte, the state prints what the lines print.
 use mathlib.Core.Path.{_≡_, refl, sym, ap, ap₂, _∙_, subst}
 use mathlib.Core.Bool.{true≢false, Bool, true, false, cond}
 use mathlib.Core.List.{List, [], _∷_, _++_, append-assoc, append-nil}

@@ -1,4 +1,4 @@
--- How long the texts can be. Assumes nothing.
+-- How long the texts can be.
 use mathlib.Core.Path.{_≡_}
 use mathlib.Core.Bool.{Bool, true, false, cond}
 use mathlib.Core.List.{List, []}

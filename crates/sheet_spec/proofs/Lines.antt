@@ -1,4 +1,4 @@
--- The lines of an input, and what they print while there is room for them. Assumes nothing.
+-- The lines of an input, and what they print while there is room for them.
 use mathlib.Core.Path.{_≡_, refl, sym, ap, _∙_}
 use mathlib.Core.Bool.{Bool, true, false, cond}
 use mathlib.Core.List.{List, [], _∷_, _++_, append-assoc}

@@ -1,4 +1,4 @@
--- The theorems of `specs/Theorems.antt`. Assumes nothing.
+-- The theorems of `specs/Theorems.antt`.
 use mathlib.Core.Path.{_≡_, ap}
 use mathlib.Core.List.{[], _++_}
 use native.Mathlib.Omega.{arith}

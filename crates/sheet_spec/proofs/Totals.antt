@@ -1,4 +1,4 @@
--- The program's total accepts every term of its lines. Assumes nothing.
+-- The program's total accepts every term of its lines.
 use mathlib.Core.Path.{_≡_, refl, sym, ap, _∙_, subst}
 use mathlib.Core.Logic.{_⊎_, inl, inr}
 use mathlib.Core.Bool.{Bool, true, false, cond, _&&_}

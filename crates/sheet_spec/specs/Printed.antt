@@ -1,4 +1,4 @@
--- What the program `sheet` prints (document 01, "What `sheet` prints"): from all input bytes to all output bytes. Assumes nothing.
+-- What the program `sheet` prints (document 01, "What `sheet` prints"): from all input bytes to all output bytes.
 use Prim.Native.Nat.{ℕ, suc, _+_, _-_}
 use mathlib.Core.Bool.{Bool, true, false, cond, _&&_}
 use mathlib.Core.List.{List, [], _∷_, _++_}

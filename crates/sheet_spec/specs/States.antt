@@ -1,4 +1,4 @@
--- What the program carries from byte to byte, and what each byte prints. Assumes nothing.
+-- What the program carries from byte to byte, and what each byte prints.
 use Prim.Native.Nat.{ℕ, suc}
 use mathlib.Core.Bool.{Bool, true, false, cond}
 use mathlib.Core.List.{List, [], _∷_, _++_}

@@ -1,4 +1,4 @@
--- What holds of what is printed. Each name is a statement; proofs/Theorems.antt has its proof. Assumes nothing.
+-- What holds of what is printed. Each name is a statement; proofs/Theorems.antt has its proof.
 use Prim.Native.Nat.{ℕ, _≤_}
 use mathlib.Core.Path.{_≡_}
 use mathlib.Core.Logic.{_⊎_}

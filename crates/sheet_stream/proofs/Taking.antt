@@ -1,4 +1,4 @@
--- The bytes of a read are handed on in order, each once. Assumes nothing.
+-- The bytes of a read are handed on in order, each once.
 use mathlib.Core.Path.{_≡_, refl, sym, ap, _∙_}
 use mathlib.Core.Logic.{inl, inr}
 use mathlib.Core.Bool.{true≢false, Bool, true, false, not, _||_}

@@ -1,4 +1,4 @@
--- What `printer` writes lies within the lent buffer. Assumes nothing.
+-- What `printer` writes lies within the lent buffer.
 use mathlib.Core.Path.{_≡_, ap, _∙_}
 use mathlib.Core.List.{List}
 use Prim.Native.Nat.{ℕ, _≤_}

@@ -1,5 +1,4 @@
 -- What is taken of the bytes that a read gave: all of them, in order, each once. What the calls themselves read and wrote no contract says.
--- Assumes nothing.
 use Prim.Native.Nat.{ℕ, _≤_, _<_}
 use mathlib.Core.Path.{_≡_}
 use mathlib.Core.Bool.{true, false}

@@ -2,11 +2,11 @@
 // short, no byte is written and the answer is 0.
 mod notices;
 
+use augmented_spec::Pair;
 pub use notices::bad;
 pub use notices::end;
 pub use notices::stop;
 pub use notices::total;
-use augmented_spec::Pair;
 use transcript_lines::lengths;
 use transcript_lines::put_answered;
 use transcript_lines::put_ask;

@@ -1,6 +1,6 @@
 // How long the texts are.
-use transcript_fields::patterns::takes_two;
 use augmented_spec::Flags;
+use transcript_fields::patterns::takes_two;
 ghost use mathlib.Core.Path.{_≡_};
 ghost use Prim.Native.Nat.{ℕ, _+_, _≤_};
 ghost use lib.ListN.{length};

@@ -1,6 +1,7 @@
 // The printed lines. Each writer puts its text at a place of the buffer and answers the place after it.
 pub mod lengths;
 
+use augmented_spec::Pair;
 use transcript_fields::bytes::put_byte;
 use transcript_fields::bytes::put_four;
 use transcript_fields::decimals::put_decimal;
@@ -10,7 +11,6 @@ use transcript_fields::letters::put_step_letters;
 use transcript_fields::patterns::put_pattern;
 use transcript_fields::patterns::put_patterns;
 use transcript_fields::patterns::put_third;
-use augmented_spec::Pair;
 ghost use mathlib.Core.List.{[], _∷_, _++_};
 ghost use Prim.Native.Nat.{_+_, _*_, _≤_, _<_};
 ghost use lib.ListN.{length, getD};

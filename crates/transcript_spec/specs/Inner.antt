@@ -1,4 +1,4 @@
--- What the writers of `fields` and `text_lines` promise. No contract of `notices` or `transcript` cites it. Assumes nothing.
+-- What the writers of `fields` and `text_lines` promise. No contract of `notices` or `transcript` cites it.
 use Prim.Native.Nat.{ℕ, _+_, _≤_}
 use mathlib.Core.Path.{_≡_}
 use mathlib.Core.List.{List, _++_}

@@ -1,4 +1,4 @@
--- What is printed (document 01, "What `sheet` prints"), as lists of bytes: fields, lines, and an answered question. Assumes nothing.
+-- What is printed (document 01, "What `sheet` prints"), as lists of bytes: fields, lines, and an answered question.
 -- "tabs between fields in every printed line": a tab is byte 9; each line ends in a newline, byte 10.
 use Prim.Native.Nat.{ℕ, zero, suc, _+_, _/_, _%_, min}
 use mathlib.Core.Bool.{Bool, cond, _||_}

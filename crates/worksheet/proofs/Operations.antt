@@ -1,4 +1,4 @@
--- The sheet and the flags of an operation's number. Assumes nothing.
+-- The sheet and the flags of an operation's number.
 use mathlib.Core.Path.{_≡_}
 use Prim.Native.Nat.{ℕ}
 use borrow.Author.Tests.{ne-eqb}

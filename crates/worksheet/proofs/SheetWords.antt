@@ -1,4 +1,4 @@
--- A sheet's lines in places of zeros are its words, and what filling answers then. Assumes nothing.
+-- A sheet's lines in places of zeros are its words, and what filling answers then.
 use mathlib.Core.Path.{_≡_, refl, sym, ap, _∙_, subst}
 use mathlib.Core.Logic.{_⊎_}
 use mathlib.Core.Bool.{true}

@@ -1,4 +1,4 @@
--- The answers of the code's call: document 01's number and values for each case of its enum. Assumes nothing.
+-- The answers of the code's call: document 01's number and values for each case of its enum.
 use Rattle.worksheet_spec.specs.Filling.{Answer, refused, filled}
 use Rattle.worksheet.specs.declared.Filled.{Filled}
 use Rattle.worksheet.specs.declared.Filled.the-variants as the-filled

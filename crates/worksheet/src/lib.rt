@@ -1,7 +1,7 @@
 // The step sheet of a question in 65 lent words. Each result on a line is a rounding step's.
-use pattern::flipped;
 use augmented_spec::Flags;
 use augmented_spec::Pair;
+use pattern::flipped;
 use worksheet_lines::Foot;
 use worksheet_lines::Places;
 ghost use mathlib.Core.Path.{_≡_};

@@ -1,4 +1,4 @@
--- The choices of a sheet from what the code compares: an overflow, the edge, a tie of a tiny product, a tie of a rest. Assumes nothing.
+-- The choices of a sheet from what the code compares: an overflow, the edge, a tie of a tiny product, a tie of a rest.
 use mathlib.Core.Path.{_≡_, refl, ap, ap₂, _∙_}
 use mathlib.Core.Bool.{Bool, true, false, not, cond, _&&_}
 use Prim.Native.Nat.{ℕ, _%_, _^_, _<_}

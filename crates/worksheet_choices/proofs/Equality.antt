@@ -1,4 +1,4 @@
--- Equal values by their patterns: one pattern that is no NaN's, or two zeros. Assumes nothing.
+-- Equal values by their patterns: one pattern that is no NaN's, or two zeros.
 use mathlib.Core.Path.{_≡_, refl, sym, ap, _∙_}
 use mathlib.Core.Logic.{inl, inr}
 use mathlib.Core.Bool.{Bool, true, false, Bool·beq, cond}

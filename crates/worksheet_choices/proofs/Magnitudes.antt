@@ -1,4 +1,4 @@
--- What the bits below the sign show: zero, and the smaller of two magnitudes. Assumes nothing.
+-- What the bits below the sign show: zero, and the smaller of two magnitudes.
 use mathlib.Core.Path.{_≡_, sym, ap, _∙_}
 use mathlib.Core.Logic.{inl, inr}
 use mathlib.Core.Bool.{Bool, false, cond}

@@ -1,4 +1,4 @@
--- Magnitudes compare as the bits below the sign do. Assumes nothing.
+-- Magnitudes compare as the bits below the sign do.
 use mathlib.Core.Path.{_≡_, refl, sym, ap, _∙_}
 use mathlib.Core.Logic.{inl, inr}
 use Prim.Native.Nat.{ℕ, _<_, compare}

@@ -1,4 +1,4 @@
--- The branch of a product by the bits below the sign of its first line. Assumes nothing.
+-- The branch of a product by the bits below the sign of its first line.
 use mathlib.Core.Path.{_≡_, refl, sym, ap, _∙_}
 use mathlib.Core.Bool.{Bool, cond}
 use Prim.Native.Nat.{ℕ, _%_, _^_, _≤_, _<_}

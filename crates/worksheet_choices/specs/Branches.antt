@@ -1,4 +1,4 @@
--- The branches of a product (document 01, "Product": "Line a = x·y, then by a") for the cases of the code's enum. Assumes nothing.
+-- The branches of a product (document 01, "Product": "Line a = x·y, then by a") for the cases of the code's enum.
 use Rattle.worksheet_spec.specs.Sheets as sheet
 use Rattle.worksheet_choices.specs.declared.Branch.{Branch}
 use Rattle.worksheet_choices.specs.declared.Branch.the-variants.{Infinite, Zero, Tiny, Middle, Other}

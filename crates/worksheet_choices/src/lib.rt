@@ -1,7 +1,7 @@
 // Comparisons and choices of the step sheet on binary32 patterns. They make no line. A comparison with NaN fails, and +0 equals -0.
-use pattern::flipped;
 use choose::choose_pattern;
 use choose::choose_sign;
+use pattern::flipped;
 ghost use mathlib.Core.Path.{_≡_};
 ghost use Rattle.rounding_spec.specs.Value.{isInfinite};
 ghost use Rattle.worksheet_spec.specs.Lines.{value, equal, copySign, zero};

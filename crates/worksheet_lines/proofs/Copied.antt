@@ -1,4 +1,4 @@
--- Places of five words, copied one after the other. Assumes nothing.
+-- Places of five words, copied one after the other.
 use mathlib.Core.Path.{_≡_, sym}
 use mathlib.Core.List.{List, [], _∷_, _++_, append-assoc, append-nil}
 use Prim.Native.Nat.{ℕ, _+_, _*_, _-_, _<_}

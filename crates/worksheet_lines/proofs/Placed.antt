@@ -1,4 +1,4 @@
--- Lines placed one after the other, and the lines of a sheet after others. Assumes nothing.
+-- Lines placed one after the other, and the lines of a sheet after others.
 use mathlib.Core.Path.{_≡_, refl, ap, _∙_}
 use mathlib.Core.List.{List, [], _∷_, _++_}
 use Prim.Native.Nat.{ℕ, _+_}

@@ -1,4 +1,4 @@
--- The lines that sums and products share, as they are written. Assumes nothing.
+-- The lines that sums and products share, as they are written.
 use mathlib.Core.Path.{_≡_, refl}
 use mathlib.Core.Bool.{true, false}
 use mathlib.Core.List.{[], _∷_}

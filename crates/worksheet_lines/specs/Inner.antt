@@ -1,4 +1,4 @@
--- What the makers of lines promise each other. No public contract of `worksheet` cites it. Assumes nothing.
+-- What the makers of lines promise each other. No public contract of `worksheet` cites it.
 use Prim.Native.Nat.{ℕ, _+_}
 use mathlib.Core.Path.{_≡_}
 use mathlib.Core.List.{List, [], _∷_, _++_}

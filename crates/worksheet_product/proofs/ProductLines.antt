@@ -1,4 +1,4 @@
--- The lines of a product, as they are written. Assumes nothing.
+-- The lines of a product, as they are written.
 use mathlib.Core.Path.{_≡_, refl}
 use mathlib.Core.Bool.{true, false}
 use mathlib.Core.List.{[], _∷_}

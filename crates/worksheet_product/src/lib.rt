@@ -1,6 +1,6 @@
 // The lines of a product. The first one decides on the others, which begin at the second place.
-use worksheet_choices::Branch;
 use pattern::flipped;
+use worksheet_choices::Branch;
 use worksheet_lines::Foot;
 use worksheet_lines::Places;
 use worksheet_lines::blocks;
@@ -90,7 +90,12 @@ fn scaled_down(lines: &mut Places, a: u32, b: u32) -> Foot
     let g = worksheet_lines::mul(lines, 9, TWO_TO_24, beta);
     let r = worksheet_lines::sub(lines, 10, g, b);
     if worksheet_choices::rest_tie(beta, r) {
-        let second = worksheet_lines::sub(lines, 11, beta, worksheet_choices::copy_sign(SMALLEST, beta));
+        let second = worksheet_lines::sub(
+            lines,
+            11,
+            beta,
+            worksheet_choices::copy_sign(SMALLEST, beta),
+        );
         return blocks::zero_finish(lines, 12, first, second);
     }
     blocks::zero_finish(lines, 11, first, beta)

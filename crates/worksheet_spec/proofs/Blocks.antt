@@ -1,4 +1,4 @@
--- Recomposition, zero finish and the edge on patterns: their values, and the pair that they end in. Assumes nothing.
+-- Recomposition, zero finish and the edge on patterns: their values, and the pair that they end in.
 use mathlib.Core.Path.{_≡_, refl, ap, ap₂, _∙_, subst}
 use mathlib.Core.Bool.{Bool, true, false, not, cond, _&&_}
 use Prim.Native.Nat.{ℕ, _*_, _^_}

@@ -1,4 +1,4 @@
--- The values of the sheet's constants are the factors of the error-free transformations. Assumes nothing.
+-- The values of the sheet's constants are the factors of the error-free transformations.
 use mathlib.Core.Path.{_≡_, refl}
 use mathlib.Core.Bool.{false}
 use Prim.Native.Nat.{_^_}

@@ -1,4 +1,4 @@
--- What is known when a line is written: given patterns, constants and earlier results; and what a sheet's lines lead to. Assumes nothing.
+-- What is known when a line is written: given patterns, constants and earlier results; and what a sheet's lines lead to.
 use mathlib.Core.Path.{_≡_, refl}
 use mathlib.Core.Logic.{_⊎_, inl, inr}
 use mathlib.Core.Bool.{Bool, true, false, cond}

@@ -1,4 +1,4 @@
--- The lines of a sheet come from the question, constants and earlier results, and lead to its foot. Assumes nothing.
+-- The lines of a sheet come from the question, constants and earlier results, and lead to its foot.
 use mathlib.Core.Bool.{Bool, true, false, cond}
 use mathlib.Core.List.{List, [], _∷_}
 use Prim.Native.Nat.{ℕ}

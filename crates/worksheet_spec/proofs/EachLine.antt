@@ -1,4 +1,4 @@
--- Each line of a sheet has the step of its own operands for a result. Assumes nothing.
+-- Each line of a sheet has the step of its own operands for a result.
 use mathlib.Core.Path.{refl}
 use mathlib.Core.Bool.{Bool, true, false, cond}
 use mathlib.Core.List.{List, [], _∷_, _++_}

@@ -1,4 +1,4 @@
--- Filling: one law a case, the words of the lines, and that a filled sheet's pair is the direct pair. Assumes nothing.
+-- Filling: one law a case, the words of the lines, and that a filled sheet's pair is the direct pair.
 use mathlib.Core.Path.{_≡_, refl, sym, ap, _∙_, subst}
 use mathlib.Core.Logic.{_⊎_, inl, inr}
 use mathlib.Core.Bool.{Bool, true, false, not, cond}

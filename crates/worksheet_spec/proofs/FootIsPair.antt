@@ -1,4 +1,4 @@
--- The foot of every sheet is the direct pair. Assumes nothing.
+-- The foot of every sheet is the direct pair.
 use mathlib.Core.Path.{sym, _∙_}
 use Rattle.rounding_spec.specs.Format.{binary32}
 use Rattle.augmented_spec.specs.Direct.{sum, difference, product}

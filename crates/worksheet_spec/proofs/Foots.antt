@@ -1,4 +1,4 @@
--- What it is for a sheet's foot to be a pair, and how to see it from the values of its patterns. Assumes nothing.
+-- What it is for a sheet's foot to be a pair, and how to see it from the values of its patterns.
 use mathlib.Core.Path.{_≡_, sym, _∙_, subst}
 use mathlib.Core.Logic.{_≢_}
 use mathlib.Core.Bool.{Bool, not}

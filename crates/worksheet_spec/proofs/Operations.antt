@@ -1,4 +1,4 @@
--- The operations of a sum's lines, in order. Assumes nothing.
+-- The operations of a sum's lines, in order.
 use mathlib.Core.Path.{_≡_, refl, sym, ap, ap₂, _∙_, subst}
 use mathlib.Core.Bool.{Bool, true, false, cond}
 use mathlib.Core.List.{List, [], _∷_, _++_}

@@ -1,4 +1,4 @@
--- Patterns of a sheet and their values: steps, flips, constants with a sign; and from a value back to its pattern. Assumes nothing.
+-- Patterns of a sheet and their values: steps, flips, constants with a sign; and from a value back to its pattern.
 use mathlib.Core.Path.{_≡_, refl, sym, ap, _∙_}
 use mathlib.Core.Logic.{_≢_, inl, inr}
 use mathlib.Core.Bool.{Bool, true, false, not, cond}

@@ -1,4 +1,4 @@
--- The operations of a product's lines, in order, branch by branch. Assumes nothing.
+-- The operations of a product's lines, in order, branch by branch.
 use mathlib.Core.Path.{_≡_, refl, sym, ap, ap₂, _∙_, subst}
 use mathlib.Core.Logic.{_⊎_, inl, inr}
 use mathlib.Core.Bool.{Bool, true, false, not, cond, _&&_}

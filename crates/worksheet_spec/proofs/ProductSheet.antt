@@ -1,4 +1,4 @@
--- The product's sheet, all branches together: its foot is the pair of the exact product, for all patterns. Assumes nothing.
+-- The product's sheet, all branches together: its foot is the pair of the exact product, for all patterns.
 use mathlib.Core.Path.{_≡_, refl, sym, ap, ap₂, _∙_, subst}
 use mathlib.Core.Logic.{inl, inr}
 use mathlib.Core.Bool.{Bool, true, false, cond, _&&_}

@@ -1,4 +1,4 @@
--- The product's sheet ends in the pair of the exact product, for all patterns: branch by branch. Assumes nothing.
+-- The product's sheet ends in the pair of the exact product, for all patterns: branch by branch.
 use mathlib.Core.Path.{_≡_, refl, sym, ap, ap₂, _∙_, subst}
 use mathlib.Core.Logic.{inl, inr}
 use mathlib.Core.Bool.{Bool, true, false, not, cond, _&&_}

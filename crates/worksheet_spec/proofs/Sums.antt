@@ -1,4 +1,4 @@
--- The sum's sheet ends in the pair of the exact sum, for all patterns. Assumes nothing.
+-- The sum's sheet ends in the pair of the exact sum, for all patterns.
 use mathlib.Core.Path.{_≡_, refl, sym, ap, ap₂, _∙_, subst}
 use mathlib.Core.Logic.{inl, inr}
 use mathlib.Core.Bool.{Bool, true, false, not, cond, Bool·beq, _&&_}

@@ -1,4 +1,4 @@
--- The theorems of `specs/Theorems.antt`. Assumes nothing.
+-- The theorems of `specs/Theorems.antt`.
 use mathlib.Core.Path.{_≡_, refl, ap, subst}
 use mathlib.Core.Logic.{_⊎_, inl, inr}
 use mathlib.Core.Bool.{Bool, true, false, not, cond}

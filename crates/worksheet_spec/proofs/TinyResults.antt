@@ -1,4 +1,4 @@
--- The results of a tiny product's lines, by the names that its rules have. Assumes nothing.
+-- The results of a tiny product's lines, by the names that its rules have.
 use mathlib.Core.Bool.{Bool, cond}
 use Prim.Native.Nat.{ℕ}
 use Rattle.binary32_spec.specs.Steps.{addStep, subStep, mulStep, fmaStep}

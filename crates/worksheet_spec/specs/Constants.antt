@@ -1,5 +1,5 @@
 -- Document 01, "The step sheet": "Constants: ψ 3F7FFFFF (1 - 2^-24), 2 40000000, -2 C0000000, 1/2 3F000000, κ 3FFFFFFF (2 - 2^-23),
--- 2^24 4B800000, 2^48 57800000, 2^-24 33800000, +0, u 00000001 and -u 80000001." `ConstantPatterns` of Theorems says what they are. Assumes nothing.
+-- 2^24 4B800000, 2^48 57800000, 2^-24 33800000, +0, u 00000001 and -u 80000001." `ConstantPatterns` of Theorems says what they are.
 use Prim.Native.Nat.{ℕ}
 
 -- ---- factors: "A constant stands as the first operand of a multiplication."

@@ -1,4 +1,4 @@
--- Filling a sheet (document 01, "Where a call says no", and "Demand 3, word by word"). Assumes nothing.
+-- Filling a sheet (document 01, "Where a call says no", and "Demand 3, word by word").
 use Prim.Native.Nat.{ℕ, _*_, _-_}
 use mathlib.Core.Path.{_≡_}
 use mathlib.Core.Bool.{Bool, true, false, not, cond, _&&_}

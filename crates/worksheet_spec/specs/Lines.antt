@@ -1,4 +1,4 @@
--- The lines of a sheet, the sheet, and what makes no line (document 01, "The step sheet"). Assumes nothing.
+-- The lines of a sheet, the sheet, and what makes no line (document 01, "The step sheet").
 use Prim.Native.Nat.{ℕ}
 use mathlib.Core.Bool.{Bool, cond}
 use mathlib.Core.List.{List, [], _++_}

@@ -1,4 +1,4 @@
--- The step sheet of a question (document 01, "The step sheet"), in that section's order. Assumes nothing.
+-- The step sheet of a question (document 01, "The step sheet"), in that section's order.
 -- Each `let` is the result of a line, by the name that the rules give it. The lines repeat its operation and operands; `EachLine` of Theorems
 -- says that they agree.
 use Prim.Native.Nat.{ℕ, _^_}

@@ -1,4 +1,4 @@
--- What is proved of step sheets. `All`, at the end, lists the statements, and `proofs/Theorems.antt` proves them. Assumes nothing.
+-- What is proved of step sheets. `All`, at the end, lists the statements, and `proofs/Theorems.antt` proves them.
 use mathlib.Core.Path.{_≡_}
 use mathlib.Core.Logic.{_⊎_}
 use mathlib.Core.Bool.{true, false, cond}

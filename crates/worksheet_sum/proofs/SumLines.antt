@@ -1,4 +1,4 @@
--- The lines of a sum, as they are written. Assumes nothing.
+-- The lines of a sum, as they are written.
 use mathlib.Core.Path.{_≡_, refl, sym, ap, _∙_}
 use mathlib.Core.Bool.{true, false, not}
 use mathlib.Core.List.{List, [], _∷_}

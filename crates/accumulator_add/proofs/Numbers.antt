@@ -3,7 +3,8 @@ use mathlib.Core.Path.{_≡_, refl}
 use mathlib.Core.Bool.{Bool, true, false, cond}
 use mathlib.Core.List.{List}
 use Prim.Native.Nat.{ℕ}
-use Rattle.accumulator_spec.specs.Totals.{Term, refused, done, adding, afterAdding}
+use Rattle.pattern_spec.specs.Answer.{refused, done}
+use Rattle.accumulator_spec.specs.Totals.{Term, adding, afterAdding}
 use Rattle.accumulator_spec.proofs.Answers.{adding-length, adding-unfit, refuses}
 use Rattle.accumulator_fit.specs.Inner.{lent}
 use Rattle.accumulator_fit.proofs.Lent.{by-number}
@@ -15,6 +16,6 @@ lent-adds t z x =
     (λ h n. let r = refuses t x 6 (adding-unfit t x (h .0) (h .1)) in (rw n (r .0), r .1))
     (λ h n. absurd (z n))
 
-pub room-numbered : (b : Bool) → numbered (cond b 0 8) ≡ cond b done (refused 8)
+pub room-numbered : (b : Bool) → numbered (cond b 0 8) ≡ cond b (done tt) (refused 8)
 room-numbered true = refl
 room-numbered false = refl

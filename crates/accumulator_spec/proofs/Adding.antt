@@ -10,8 +10,9 @@ use borrow.Author.Tests.{le-leb, leb-true, eqb-true, eqb-false}
 use lib.Dec.{eqb, leb, lit<}
 use lib.IntN.{ℤ, pos, negsuc, natAbs, subℕ, _+ℤ_}
 use lib.ListN.{length}
+use Rattle.pattern_spec.specs.Answer.{Answer, refused, done}
 use Rattle.accumulator_spec.specs.Words.{Words}
-use Rattle.accumulator_spec.specs.Totals.{number, count, totalOf, fit, Term, finiteOperands, exactTerm, whole, Answer, refused, done, adding}
+use Rattle.accumulator_spec.specs.Totals.{number, count, totalOf, fit, Term, finiteOperands, exactTerm, whole, adding}
 use Rattle.accumulator_spec.specs.Theorems.{FitTotal, FitIs, LowestUnfit, AcceptedTerm, ExactAdding}
 use Rattle.accumulator_spec.proofs.Answers.{adding-done, after-done}
 use Rattle.accumulator_spec.proofs.Held.{total-number, total-count, total-full, total-words}
@@ -73,13 +74,13 @@ total-fit z n h l =
 
 -- ---- the four refusals
 module _ (a b c d : Bool) where
-  abbrev tried : Answer
-  tried = cond (not a) (refused 5) (cond (not b) (refused 6) (cond (not c) (refused 7) (cond d (refused 8) done)))
+  abbrev tried : Answer (Unit {0})
+  tried = cond (not a) (refused 5) (cond (not b) (refused 6) (cond (not c) (refused 7) (cond d (refused 8) (done tt))))
 
-never : {P : Type 0} {n : ℕ} → refused n ≡ done → P
+never : {P : Type 0} {n : ℕ} → _≡_ {A = Answer (Unit {0})} (refused n) (done tt) → P
 never e = absurd (let z : _≡_ {A = ℕ} 0 1 = cc in omega arith)
 
-none-met : (a b c d : Bool) → tried a b c d ≡ done → (a ≡ true) × (b ≡ true) × (c ≡ true) × (d ≡ false)
+none-met : (a b c d : Bool) → tried a b c d ≡ done tt → (a ≡ true) × (b ≡ true) × (c ≡ true) × (d ≡ false)
 none-met false b c d e = never e
 none-met true false c d e = never e
 none-met true true false d e = never e
@@ -87,7 +88,7 @@ none-met true true true true e = never e
 none-met true true true false e = (refl, refl, refl, refl)
 
 module _ (t : List ℕ) (x : Term) where
-  accepted : Words t → adding t x ≡ done → FitTotal t × (finiteOperands x ≡ true) × (count t < 65536)
+  accepted : Words t → adding t x ≡ done tt → FitTotal t × (finiteOperands x ≡ true) × (count t < 65536)
   unfolding adding
   accepted k e =
       let p = none-met (eqb (length t) 21) (fit t) (finiteOperands x) (eqb (count t) 65536) e in
@@ -96,7 +97,7 @@ module _ (t : List ℕ) (x : Term) where
       let less : count t < 65536 = elim (decLe 65536 (count t)) [ yes h ↦ absurd (n (omega arith)) | no h ↦ omega arith ] in
       (record { full = eqb-true (length t) 21 (p .0); words = k; fits = p .1 }, p .2, less)
 
-  pub accepts : FitTotal t → finiteOperands x ≡ true → count t < 65536 → adding t x ≡ done
+  pub accepts : FitTotal t → finiteOperands x ≡ true → count t < 65536 → adding t x ≡ done tt
   accepts f e h = adding-done t x (f .full) (f .fits) e (λ (q : count t ≡ 65536). omega arith)
 
 pub accepted-term : AcceptedTerm

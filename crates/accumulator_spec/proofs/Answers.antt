@@ -6,10 +6,11 @@ use Prim.Native.Nat.{ℕ, suc}
 use borrow.Author.Tests.{eq-eqb, ne-eqb}
 use lib.ListN.{length, replicate}
 use lib.IntN.{_+ℤ_}
+use Rattle.pattern_spec.specs.Answer.{refused, done}
 use Rattle.rounding_spec.specs.Format.{binary32}
 use Rattle.augmented_spec.specs.Pairs.{pairOf}
 use Rattle.accumulator_spec.specs.Theorems.{RefusedTerm, AddingRefused, ReadingRefused, Clears}
-use Rattle.accumulator_spec.specs.Totals.{number, count, totalOf, fit, Term, finiteOperands, exactTerm, whole, refused, done, adding, afterAdding, clearing, afterClearing, exact, pairAnswer, reading}
+use Rattle.accumulator_spec.specs.Totals.{number, count, totalOf, fit, Term, finiteOperands, exactTerm, whole, adding, afterAdding, clearing, afterClearing, exact, pairAnswer, reading}
 
 -- ---- clearing
 module _ (t : List ℕ) where
@@ -17,7 +18,7 @@ module _ (t : List ℕ) where
   unfolding clearing afterClearing
   clearing-length n = let e = ne-eqb (length t) 21 n in (rw e, rw e)
 
-  pub clearing-done : length t ≡ 21 → (done ≡ clearing t) × (replicate 21 0 ≡ afterClearing t)
+  pub clearing-done : length t ≡ 21 → ((done tt) ≡ clearing t) × (replicate 21 0 ≡ afterClearing t)
   unfolding clearing afterClearing
   clearing-done h = let e = eq-eqb (length t) 21 h in (rw e, rw e)
 
@@ -41,7 +42,7 @@ module _ (t : List ℕ) (x : Term) where
       unfolding adding
       adding-full o n = rw (eq-eqb (length t) 21 full, fits, o, eq-eqb (count t) 65536 n)
 
-      pub adding-done : finiteOperands x ≡ true → (count t ≡ 65536 → ⊥) → adding t x ≡ done
+      pub adding-done : finiteOperands x ≡ true → (count t ≡ 65536 → ⊥) → adding t x ≡ done tt
       unfolding adding
       adding-done o n = rw (eq-eqb (length t) 21 full, fits, o, ne-eqb (count t) 65536 n)
 
@@ -49,7 +50,7 @@ module _ (t : List ℕ) (x : Term) where
   unfolding afterAdding
   after-refused n e = rw e
 
-  pub after-done : adding t x ≡ done → afterAdding t x ≡ totalOf (number t +ℤ whole (exactTerm x)) (suc (count t))
+  pub after-done : adding t x ≡ done tt → afterAdding t x ≡ totalOf (number t +ℤ whole (exactTerm x)) (suc (count t))
   unfolding afterAdding
   after-done e = rw e
 

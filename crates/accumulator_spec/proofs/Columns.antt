@@ -10,8 +10,9 @@ use native.Mathlib.Nat.{le-trans, le-of-eq, le-refl, add-zero, zero-add}
 use native.Mathlib.Omega.{arith}
 use lib.IntN.{ℤ, pos, natAbs, _+ℤ_, +ℤ-idl, +ℤ-idr, +ℤ-assoc, +ℤ-comm}
 use lib.ListN.{length}
+use Rattle.pattern_spec.specs.Answer.{done}
 use Rattle.accumulator_spec.specs.Words.{wordsOf, wordsOfInteger}
-use Rattle.accumulator_spec.specs.Totals.{number, count, totalOf, Term, finiteOperands, exactTerm, whole, done, adding, afterAdding}
+use Rattle.accumulator_spec.specs.Totals.{number, count, totalOf, Term, finiteOperands, exactTerm, whole, adding, afterAdding}
 use Rattle.accumulator_spec.specs.Columns.{zeros, column, Accepted, AllFinite, columnSum}
 use Rattle.accumulator_spec.specs.Theorems.{FitTotal, ColumnNext, AcceptedEach, AllFiniteIs, ExactColumn, AnyOrder}
 use Rattle.accumulator_spec.proofs.Held.{total-number, total-count}
@@ -20,7 +21,7 @@ use Rattle.accumulator_spec.proofs.Answers.{after-done}
 
 -- ---- one term on a total whose number and count are known
 module _ (z : ℤ) (n : ℕ) (x : Term) (few : n < 65536) (small : natAbs z ≤ n * 2 ^ 554) (finite : finiteOperands x ≡ true) where
-  accepted-at : adding (totalOf z n) x ≡ done
+  accepted-at : adding (totalOf z n) x ≡ done tt
   accepted-at = accepts (totalOf z n) x (total-fit z n (omega arith) small) finite (le-trans (le-of-eq (ap suc (total-count z n))) few)
 
   after-at : afterAdding (totalOf z n) x ≡ totalOf (z +ℤ whole (exactTerm x)) (suc n)

@@ -8,10 +8,11 @@ use borrow.Author.Tests.{eq-eqb, ne-eqb}
 use lib.Dec.{eqb}
 use lib.IntN.{_+ℤ_}
 use lib.ListN.{length}
+use Rattle.pattern_spec.specs.Answer.{Answer, refused, done}
 use Rattle.rounding_spec.specs.Format.{binary32}
 use Rattle.rounding_spec.specs.Value.{Value, nan, infinite, finite, decode, isFinite}
 use Rattle.pattern_spec.specs.Exact.{int, times, finer}
-use Rattle.accumulator_spec.specs.Totals.{number, count, totalOf, fit, Term, ofPattern, ofProduct, finiteOperands, exactTerm, whole, Answer, refused, done, adding, afterAdding}
+use Rattle.accumulator_spec.specs.Totals.{number, count, totalOf, fit, Term, ofPattern, ofProduct, finiteOperands, exactTerm, whole, adding, afterAdding}
 use Rattle.accumulator_spec.proofs.Answers.{adding-special, adding-full, adding-done, after-refused, after-done}
 
 -- ---- a product is finite where both operands are
@@ -42,7 +43,7 @@ term-finite (ofProduct x y) = sym (times-finite (decode binary32 x) (decode bina
 
 -- ---- of a fit total
 module _ (t : List ℕ) (x : Term) (full : length t ≡ 21) (fits : fit t ≡ true) where
-  abbrev Ends : Answer → List ℕ → Type 0
+  abbrev Ends : Answer (Unit {0}) → List ℕ → Type 0
   Ends a ws = (a ≡ adding t x) × (ws ≡ afterAdding t x)
 
   pub special : isFinite (exactTerm x) ≡ false → Ends (refused 7) t
@@ -53,7 +54,7 @@ module _ (t : List ℕ) (x : Term) (full : length t ≡ 21) (fits : fit t ≡ tr
     finite-term = term-finite x ∙ ap isFinite is
 
     -- with what adding it promises: whether there is room, and the words as they end
-    pub tried : (room : Bool) (a : Answer) (ws : List ℕ) → room ≡ not (eqb (count t) 65536) → a ≡ cond room done (refused 8)
+    pub tried : (room : Bool) (a : Answer (Unit {0})) (ws : List ℕ) → room ≡ not (eqb (count t) 65536) → a ≡ cond room (done tt) (refused 8)
         → ws ≡ cond room (totalOf (number t +ℤ int s N) (suc (count t))) t → Ends a ws
     tried room a ws r ea ews =
         elim (ℕ-discrete (count t) 65536) [

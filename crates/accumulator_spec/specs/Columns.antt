@@ -5,7 +5,8 @@ use mathlib.Core.Bool.{true}
 use mathlib.Core.List.{List, [], _∷_}
 use lib.ListN.{replicate}
 use lib.IntN.{ℤ, pos, _+ℤ_}
-use Rattle.accumulator_spec.specs.Totals.{Term, done, finiteOperands, exactTerm, whole, adding, afterAdding}
+use Rattle.pattern_spec.specs.Answer.{done}
+use Rattle.accumulator_spec.specs.Totals.{Term, finiteOperands, exactTerm, whole, adding, afterAdding}
 
 -- all 21 words of a cleared total
 abbrev pub zeros : List ℕ
@@ -19,7 +20,7 @@ column t (x ∷ xs) = column (afterAdding t x) xs
 -- every term is accepted, by the words that the one before it left
 unfoldable pub Accepted : List ℕ → List Term → Type 0
 Accepted t [] = Unit {0}
-Accepted t (x ∷ xs) = (adding t x ≡ done) × Accepted (afterAdding t x) xs
+Accepted t (x ∷ xs) = (adding t x ≡ done tt) × Accepted (afterAdding t x) xs
 
 -- no operand is infinite or NaN
 unfoldable pub AllFinite : List Term → Type 0

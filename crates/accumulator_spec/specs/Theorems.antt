@@ -7,13 +7,14 @@ use mathlib.Core.List.{List, [], _∷_, _++_, Perm}
 use lib.Dec.{ltb}
 use lib.ListN.{length, replicate}
 use lib.IntN.{ℤ, pos, negsuc, natAbs, negℤ, _+ℤ_, _*ℤ_}
+use Rattle.pattern_spec.specs.Answer.{refused, done}
 use Rattle.rounding_spec.specs.Format.{binary32, edge}
 use Rattle.rounding_spec.specs.Value.{infinite, finite, decode, encode, RN0}
 use Rattle.pattern_spec.specs.Exact.{int}
 use Rattle.augmented_spec.specs.Half.{zeroPattern}
 use Rattle.augmented_spec.specs.Pairs.{pairOf, sumPair, productPair}
 use Rattle.accumulator_spec.specs.Words.{Words, integer}
-use Rattle.accumulator_spec.specs.Totals.{number, count, totalOf, fit, Term, ofPattern, ofProduct, finiteOperands, exactTerm, whole, refused, done, pair, adding, afterAdding, clearing, afterClearing, exact, pairAnswer, reading}
+use Rattle.accumulator_spec.specs.Totals.{number, count, totalOf, fit, Term, ofPattern, ofProduct, finiteOperands, exactTerm, whole, pair, adding, afterAdding, clearing, afterClearing, exact, pairAnswer, reading}
 use Rattle.accumulator_spec.specs.Columns.{zeros, column, Accepted, AllFinite, columnSum}
 
 -- ---- the number and the count of a total
@@ -84,12 +85,12 @@ AddingRefused =
 abbrev pub AcceptedTerm : Type 0
 AcceptedTerm =
     (t : List ℕ) (x : Term) → Words t
-    → (adding t x ≡ done → FitTotal t × (finiteOperands x ≡ true) × (count t < 65536)) × (FitTotal t → finiteOperands x ≡ true → count t < 65536 → adding t x ≡ done)
+    → (adding t x ≡ done tt → FitTotal t × (finiteOperands x ≡ true) × (count t < 65536)) × (FitTotal t → finiteOperands x ≡ true → count t < 65536 → adding t x ≡ done tt)
 
 -- an accepted term: the total is fit again, holds the exact sum, and one term more
 abbrev pub ExactAdding : Type 0
 ExactAdding =
-    (t : List ℕ) (x : Term) → Words t → adding t x ≡ done
+    (t : List ℕ) (x : Term) → Words t → adding t x ≡ done tt
     → FitTotal (afterAdding t x) × (number (afterAdding t x) ≡ number t +ℤ whole (exactTerm x)) × (count (afterAdding t x) ≡ suc (count t))
 
 -- a refused one leaves all words
@@ -101,7 +102,7 @@ abbrev pub Clears : Type 0
 Clears =
     (t : List ℕ)
     → (length t ≢ 21 → (clearing t ≡ refused 5) × (afterClearing t ≡ t))
-    × (length t ≡ 21 → (clearing t ≡ done) × (afterClearing t ≡ replicate 21 0) × (afterClearing t ≡ zeros))
+    × (length t ≡ 21 → (clearing t ≡ done tt) × (afterClearing t ≡ replicate 21 0) × (afterClearing t ≡ zeros))
 
 -- ---- columns
 -- a column is one adding after the other, each on the words that the last one left
@@ -110,7 +111,7 @@ ColumnNext = (t : List ℕ) (xs : List Term) (x : Term) → (column t [] ≡ t) 
 
 -- its terms are accepted where each of them is
 abbrev pub AcceptedEach : Type 0
-AcceptedEach = (t : List ℕ) (xs ys : List Term) (x : Term) → Accepted t (xs ++ (x ∷ ys)) → adding (column t xs) x ≡ done
+AcceptedEach = (t : List ℕ) (xs ys : List Term) (x : Term) → Accepted t (xs ++ (x ∷ ys)) → adding (column t xs) x ≡ done tt
 
 -- finite where each of them is
 abbrev pub AllFiniteIs : Type 0

@@ -8,6 +8,7 @@ use lib.ListN.{length, take, getD, replicate}
 use lib.IntN.{ℤ, pos, negsuc, natAbs, _+ℤ_}
 use Rattle.rounding_spec.specs.Format.{binary32}
 use Rattle.rounding_spec.specs.Value.{Value, nan, infinite, finite, decode, encode, isFinite}
+use Rattle.pattern_spec.specs.Answer.{Answer, refused, done, isDone}
 use Rattle.pattern_spec.specs.Exact.{int, times, finer}
 use Rattle.augmented_spec.specs.Pairs.{Halves, pairOf}
 use Rattle.accumulator_spec.specs.Words.{integer, wordsOfInteger}
@@ -48,33 +49,32 @@ whole nan = pos 0
 whole (infinite s) = pos 0
 whole (finite s a) = int s a
 
--- ---- what a call answers: its refusal's number, or that it is carried out, with a pair where one is read
-pub data Answer : Type 0 where
-  refused : ℕ → Answer
-  done : Answer
-  pair : ℕ → ℕ → Answer
+-- ---- what reading answers where it is not refused: two patterns
+pub record TwoPatterns : Type 0 where
+  pub first : ℕ
+  pub second : ℕ
+
+abbrev pub pair : ℕ → ℕ → Answer TwoPatterns
+pair first second = done (record { first = first; second = second })
+
+-- ---- the calls
 
 -- "Adding a term: 5 not 21 words; 6 unfit total; 7 an infinite or NaN operand; 8 count already 65,536.", tried in this order
-unfoldable pub adding : List ℕ → Term → Answer
+unfoldable pub adding : List ℕ → Term → Answer (Unit {0})
 adding t x =
     cond (not (eqb (length t) 21)) (refused 5)
     (cond (not (fit t)) (refused 6)
     (cond (not (finiteOperands x)) (refused 7)
     (cond (eqb (count t) 65536) (refused 8)
-    done)))
-
-abbrev pub isDone : Answer → Bool
-isDone done = true
-isDone (refused n) = false
-isDone (pair x y) = false
+    (done tt))))
 
 -- the words as they end: the exact sum and one term more; "every lent word .. is unchanged" where it is refused
 unfoldable pub afterAdding : List ℕ → Term → List ℕ
 afterAdding t x = cond (isDone (adding t x)) (totalOf (number t +ℤ whole (exactTerm x)) (suc (count t))) t
 
 -- "Clearing: 5; otherwise all 21 words become 0."
-unfoldable pub clearing : List ℕ → Answer
-clearing t = cond (not (eqb (length t) 21)) (refused 5) done
+unfoldable pub clearing : List ℕ → Answer (Unit {0})
+clearing t = cond (not (eqb (length t) 21)) (refused 5) (done tt)
 
 unfoldable pub afterClearing : List ℕ → List ℕ
 afterClearing t = cond (isDone (clearing t)) (replicate 21 0) t
@@ -85,9 +85,9 @@ abbrev pub exact : ℤ → Value
 exact (pos n) = finite false n
 exact (negsuc n) = finite true (suc n)
 
-abbrev pub pairAnswer : Halves → Answer
+abbrev pub pairAnswer : Halves → Answer TwoPatterns
 pairAnswer p = pair (encode binary32 (p .first)) (encode binary32 (p .second))
 
 -- "Reading a total: 5, 6." It changes no word: the total is lent to be looked at only.
-unfoldable pub reading : List ℕ → Answer
+unfoldable pub reading : List ℕ → Answer TwoPatterns
 reading t = cond (not (eqb (length t) 21)) (refused 5) (cond (not (fit t)) (refused 6) (pairAnswer (pairOf binary32 (exact (number t)))))

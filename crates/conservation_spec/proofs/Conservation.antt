@@ -7,8 +7,9 @@ use Prim.Native.Nat.{ℕ, suc, _+_, _*_, _^_, _≤_, _<_}
 use native.Mathlib.Nat.{add-zero, le-trans, le-of-eq}
 use native.Mathlib.Omega.{arith}
 use lib.IntN.{ℤ, pos, natAbs, _+ℤ_, +ℤ-idl, +ℤ-idr, +ℤ-assoc}
+use Rattle.pattern_spec.specs.Answer.{refused}
 use Rattle.augmented_spec.specs.Direct.{Operation, sum, difference, product}
-use Rattle.accumulator_spec.specs.Totals.{totalOf, count, Term, finiteOperands, refused, adding, afterAdding}
+use Rattle.accumulator_spec.specs.Totals.{totalOf, count, Term, finiteOperands, adding, afterAdding}
 use Rattle.accumulator_spec.specs.Columns.{column}
 use Rattle.accumulator_spec.specs.Theorems.{FitTotal}
 use Rattle.accumulator_spec.proofs.Adding.{total-fit}

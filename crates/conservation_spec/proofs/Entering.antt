@@ -7,13 +7,14 @@ use Prim.Native.Nat.{ℕ, _+_, _*_, _^_, _<_}
 use native.Mathlib.Omega.{arith}
 use lib.IntN.{ℤ, _+ℤ_, +ℤ-idr}
 use lib.ListN.{length}
+use Rattle.pattern_spec.specs.Answer.{Answer, refused, done, isDone}
 use Rattle.rounding_spec.specs.Format.{binary32}
 use Rattle.rounding_spec.specs.Value.{finite, decode, isFinite}
 use Rattle.augmented_spec.specs.declared.Pair.{Pair}
 use Rattle.augmented_spec.specs.Direct.{Operation, sum, difference, product, directPair}
 use Rattle.augmented_spec.specs.Theorems.{finerInt}
 use Rattle.augmented_spec.proofs.Theorems.{every-finite, sum-adds-up, product-adds-up}
-use Rattle.worksheet_spec.specs.Filling.{Answer, refused, filled, isFilled, HasDirectPair}
+use Rattle.worksheet_spec.specs.Filling.{FilledSheet, filled, HasDirectPair}
 use Rattle.worksheet_spec.proofs.Theorems.{filled-pair}
 use Rattle.accumulator_spec.specs.Totals.{ofPattern, exactTerm, whole}
 use Rattle.accumulator_spec.specs.Columns.{AllFinite, columnSum}
@@ -90,14 +91,14 @@ set-count difference x y = refl
 set-count product x y = refl
 
 -- the foot of a filled sheet is the direct pair
-foot-is : (a : Answer) (p : Pair) → isFilled a ≡ true → ((n : ℕ) (r : Pair) → a ≡ filled n r → r ≡ p) → footTerms a ≡ ofPattern (p .first) ∷ ofPattern (p .second) ∷ []
+foot-is : (a : Answer FilledSheet) (p : Pair) → isDone a ≡ true → ((n : ℕ) (r : Pair) → a ≡ filled n r → r ≡ p) → footTerms a ≡ ofPattern (p .first) ∷ ofPattern (p .second) ∷ []
 foot-is (refused n) p e h = absurd (true≢false (sym e))
-foot-is (filled n r) p e h = ap (λ (z : Pair). footTerms (filled n z)) (h n r refl)
+foot-is (done s) p e h = ap (λ (z : Pair). footTerms (filled (s .lines) z)) (h (s .lines) (s .pair) refl)
 
 pub entering : (q : Question) → q .y < 2 ^ 32 → enters q ≡ true → Entering q
 unfolding enters
 entering q width e =
-    let p = both (isFilled (answer q)) (finitePair (direct q) && not (direct q .flags .inexact)) e in
+    let p = both (isDone (answer q)) (finitePair (direct q) && not (direct q .flags .inexact)) e in
     let f = both (finitePair (direct q)) (not (direct q .flags .inexact)) (p .1) in
     let g = both (isFinite (decode binary32 (direct q .first))) (isFinite (decode binary32 (direct q .second))) (f .0) in
     let i = not-true (direct q .flags .inexact) (f .1) in

@@ -9,9 +9,10 @@ use borrow.Author.Tests.{eqb-true, leb-true, ltb-false, ne-eqb, le-leb, lt-leb, 
 use lib.Dec.{eqb, leb, ltb}
 use lib.ListN.{length, drop, getD, replicate, drop-of-length-le}
 use lib.Seq.{drop-cons}
+use Rattle.pattern_spec.specs.Answer.{Answer, refused, done, isDone}
 use Rattle.accumulator_spec.specs.Totals.{afterClearing}
 use Rattle.accumulator_spec.proofs.Answers.{clearing-done}
-use Rattle.conservation_spec.specs.Replay.{allZero, isCleared, allWithin, Answer, refused, done, replaying, isDone}
+use Rattle.conservation_spec.specs.Replay.{allZero, isCleared, allWithin, replaying}
 use Rattle.conservation_spec.proofs.Operands.{both}
 
 -- ---- zeros, word by word
@@ -69,20 +70,20 @@ pub record Fits (os xs ys counts words first second : List ℕ) : Type 0 where
   pub secondCleared : isCleared second ≡ true
   pub within : allWithin counts (length words) ≡ true
 
-pub is-done : (a : Answer) → isDone a ≡ true → a ≡ done
+pub is-done : (a : Answer (Unit {0})) → isDone a ≡ true → a ≡ done tt
 is-done (refused n) e = absurd (true≢false (sym e))
-is-done done e = refl
+is-done (done u) e = refl
 
 module _ (os xs ys counts words first second : List ℕ) where
-  pub fits : replaying os xs ys counts words first second ≡ done → Fits os xs ys counts words first second
+  pub fits : replaying os xs ys counts words first second ≡ done tt → Fits os xs ys counts words first second
   unfolding replaying
-  fits e = go _ refl _ refl _ refl _ refl (ap isDone e)
+  fits e = go _ refl _ refl _ refl _ refl (ap (isDone {A = Unit {0}}) e)
     where
       go : (same : Bool) → eqb (length xs) (length os) && (eqb (length ys) (length os) && eqb (length counts) (length os)) ≡ same
           → (many : Bool) → ltb 32768 (length os) ≡ many
           → (clear : Bool) → isCleared first && isCleared second ≡ clear
           → (inside : Bool) → allWithin counts (length words) ≡ inside
-          → isDone (cond (not same) (refused 21) (cond many (refused 22) (cond (not clear) (refused 23) (cond (not inside) (refused 24) done)))) ≡ true
+          → isDone {A = Unit {0}} (cond (not same) (refused 21) (cond many (refused 22) (cond (not clear) (refused 23) (cond (not inside) (refused 24) (done tt))))) ≡ true
           → Fits os xs ys counts words first second
       go false s many m clear c inside i d = absurd (true≢false (sym d))
       go true s true m clear c inside i d = absurd (true≢false (sym d))
@@ -127,6 +128,6 @@ module _ (os xs ys counts words first second : List ℕ) where
         unfolding replaying
         past-words e w = rw (same, le-ltb 32768 (length os) few, clear, e, w)
 
-        pub nothing-wrong : isCleared second ≡ true → allWithin counts (length words) ≡ true → done ≡ replaying os xs ys counts words first second
+        pub nothing-wrong : isCleared second ≡ true → allWithin counts (length words) ≡ true → done tt ≡ replaying os xs ys counts words first second
         unfolding replaying
         nothing-wrong e w = rw (same, le-ltb 32768 (length os) few, clear, e, w)

@@ -8,8 +8,9 @@ use native.Mathlib.Omega.{arith}
 use borrow.Author.Tests.{eq-eqb, ne-eqb, le-leb}
 use lib.Dec.{eqb}
 use lib.ListN.{length, getD, replicate}
+use Rattle.pattern_spec.specs.Answer.{refused}
 use Rattle.accumulator_spec.proofs.Answers.{clearing-done}
-use Rattle.conservation_spec.specs.Replay.{allZero, isCleared, allWithin, refused, replaying, totalsAfter, wordsLeft}
+use Rattle.conservation_spec.specs.Replay.{allZero, isCleared, allWithin, replaying, totalsAfter, wordsLeft}
 use Rattle.conservation_spec.specs.ReplayTheorems.{ReplayRefused, ReplayUnchanged}
 use Rattle.conservation_spec.proofs.Misfits.{cleared-already, within-at, unequal, too-many, first-not-cleared, second-not-cleared, past-words, nothing-wrong}
 

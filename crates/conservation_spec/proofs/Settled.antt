@@ -4,10 +4,12 @@ use mathlib.Core.Bool.{true, false, not, _&&_}
 use mathlib.Core.List.{List, [], _∷_}
 use Prim.Native.Nat.{ℕ}
 use borrow.Author.Tests.{ne-eqb}
+use Rattle.pattern_spec.specs.Answer.{refused}
 use Rattle.rounding_spec.specs.Format.{binary32}
 use Rattle.pattern_spec.specs.Classes.{flip}
 use Rattle.augmented_spec.specs.declared.Pair.{Pair}
-use Rattle.worksheet_spec.specs.Filling.{operationOf, refused, filled, HasDirectPair}
+use Rattle.augmented_spec.specs.Direct.{operationOf}
+use Rattle.worksheet_spec.specs.Filling.{filled, HasDirectPair}
 use Rattle.worksheet_spec.proofs.Theorems.{filled-pair}
 use Rattle.accumulator_spec.specs.Totals.{Term, ofPattern, ofProduct, afterAdding}
 use Rattle.accumulator_spec.specs.Columns.{column}

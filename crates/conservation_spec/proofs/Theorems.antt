@@ -10,11 +10,12 @@ use lib.Dec.{leb, ltb}
 use lib.IntN.{ℤ, pos, natAbs, _+ℤ_, +ℤ-idl}
 use lib.ListN.{length, take}
 use lib.Seq.{take-at}
+use Rattle.pattern_spec.specs.Answer.{refused, isDone}
 use Rattle.rounding_spec.specs.Format.{binary32}
 use Rattle.rounding_spec.specs.Value.{decode, isFinite}
 use Rattle.augmented_spec.specs.Pairs.{pairOf}
-use Rattle.augmented_spec.specs.Direct.{Operation, sum, difference, product}
-use Rattle.worksheet_spec.specs.Filling.{isOperation, operationOf, refused, answerOf, filling, isFilled}
+use Rattle.augmented_spec.specs.Direct.{Operation, sum, difference, product, isOperation, operationOf}
+use Rattle.worksheet_spec.specs.Filling.{answerOf, filling}
 use Rattle.accumulator_spec.specs.Words.{wordsOfInteger}
 use Rattle.accumulator_spec.specs.Totals.{totalOf, number, exact, pairAnswer, reading}
 use Rattle.accumulator_spec.proofs.Held.{words-full, total-number, total-count}
@@ -88,12 +89,12 @@ conserved a b es p q h w =
     )
 
 -- ---- when a question enters
-filled-when : (q : Question) → isFilled (answer q) ≡ true → (1 ≤ q .operation) × (q .operation ≤ 3) × (65 ≤ length (q .words))
+filled-when : (q : Question) → isDone (answer q) ≡ true → (1 ≤ q .operation) × (q .operation ≤ 3) × (65 ≤ length (q .words))
 unfolding filling answerOf
 filled-when q e = go (isOperation (q .operation)) refl (ltb (length (q .words)) 65) refl e
   where
     go : (known : Bool) → isOperation (q .operation) ≡ known → (short : Bool) → ltb (length (q .words)) 65 ≡ short
-        → isFilled (cond (not known) (refused 10) (cond short (refused 9) (answerOf (operationOf (q .operation)) (q .x) (q .y)))) ≡ true
+        → isDone (cond (not known) (refused 10) (cond short (refused 9) (answerOf (operationOf (q .operation)) (q .x) (q .y)))) ≡ true
         → (1 ≤ q .operation) × (q .operation ≤ 3) × (65 ≤ length (q .words))
     go false k short s f = absurd (true≢false (sym f))
     go true k true s f = absurd (true≢false (sym f))
@@ -101,7 +102,7 @@ filled-when q e = go (isOperation (q .operation)) refl (ltb (length (q .words)) 
         let p = both (leb 1 (q .operation)) (leb (q .operation) 3) k in
         (leb-true 1 (q .operation) (p .0), leb-true (q .operation) 3 (p .1), ltb-false (length (q .words)) 65 s)
 
-when-filled : (q : Question) → 1 ≤ q .operation → q .operation ≤ 3 → 65 ≤ length (q .words) → isFilled (answer q) ≡ true
+when-filled : (q : Question) → 1 ≤ q .operation → q .operation ≤ 3 → 65 ≤ length (q .words) → isDone (answer q) ≡ true
 unfolding filling answerOf
 when-filled q h k w = rw (le-leb 1 (q .operation) h, le-leb (q .operation) 3 k, le-ltb (length (q .words)) 65 w)
 
@@ -109,7 +110,7 @@ pub enters-exactly : EntersExactly
 unfolding enters
 enters-exactly q = (
   λ e.
-      let p = both (isFilled (answer q)) (finitePair (direct q) && not (direct q .flags .inexact)) e in
+      let p = both (isDone (answer q)) (finitePair (direct q) && not (direct q .flags .inexact)) e in
       let f = both (finitePair (direct q)) (not (direct q .flags .inexact)) (p .1) in
       let g = both (isFinite (decode binary32 (direct q .first))) (isFinite (decode binary32 (direct q .second))) (f .0) in
       let w = filled-when q (p .0) in

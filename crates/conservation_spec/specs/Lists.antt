@@ -5,12 +5,13 @@ use Prim.Native.Nat.{ℕ, suc, _+_, _*_, _^_}
 use mathlib.Core.Bool.{Bool, not, cond, _&&_}
 use mathlib.Core.List.{List, [], _∷_}
 use lib.IntN.{ℤ, pos, _+ℤ_, _-ℤ_, _*ℤ_}
+use Rattle.pattern_spec.specs.Answer.{Answer, refused, done, isDone}
 use Rattle.rounding_spec.specs.Format.{binary32}
 use Rattle.rounding_spec.specs.Value.{decode, isFinite}
 use Rattle.pattern_spec.specs.Classes.{flip}
 use Rattle.augmented_spec.specs.declared.Pair.{Pair}
-use Rattle.augmented_spec.specs.Direct.{Operation, sum, difference, product, directPair}
-use Rattle.worksheet_spec.specs.Filling.{operationOf, Answer, refused, filled, filling, isFilled}
+use Rattle.augmented_spec.specs.Direct.{Operation, sum, difference, product, directPair, operationOf}
+use Rattle.worksheet_spec.specs.Filling.{FilledSheet, filling}
 use Rattle.accumulator_spec.specs.Totals.{Term, ofPattern, ofProduct, whole, afterAdding}
 use Rattle.accumulator_spec.specs.Columns.{column}
 
@@ -22,7 +23,7 @@ pub record Question : Type 0 where
   pub words : List ℕ
 
 -- what filling answers: "the foot is the pair that comes back"
-abbrev pub answer : Question → Answer
+abbrev pub answer : Question → Answer FilledSheet
 answer q = filling (q .operation) (q .x) (q .y) (q .words)
 
 abbrev pub operation : Question → Operation
@@ -36,13 +37,13 @@ finitePair p = isFinite (decode binary32 (p .first)) && isFinite (decode binary3
 
 -- "A question enters exactly when it meets neither 10 nor 9, its direct pair is finite and its flags, as Flags gives them, lack X."
 unfoldable pub enters : Question → Bool
-enters q = isFilled (answer q) && (finitePair (direct q) && not (direct q .flags .inexact))
+enters q = isDone (answer q) && (finitePair (direct q) && not (direct q .flags .inexact))
 
 -- ---- the terms of an entering question
 -- "Then the first total is given the foot's first and second as two terms."
-abbrev pub footTerms : Answer → List Term
+abbrev pub footTerms : Answer FilledSheet → List Term
 footTerms (refused n) = []
-footTerms (filled n foot) = ofPattern (foot .first) ∷ ofPattern (foot .second) ∷ []
+footTerms (done s) = ofPattern (s .pair .first) ∷ ofPattern (s .pair .second) ∷ []
 
 -- "The other is given x and y (y flipped for a difference) as two, or the product of x and y as one."
 abbrev pub setTerms : Operation → ℕ → ℕ → List Term

@@ -1,9 +1,10 @@
 -- `replay`: a list of questions from lent arrays, over two totals. Document 01 has no such call: its answers are ours (docs/DECISIONS.md).
 use Prim.Native.Nat.{ℕ}
-use mathlib.Core.Bool.{Bool, true, false, not, cond, _&&_}
+use mathlib.Core.Bool.{Bool, true, not, cond, _&&_}
 use mathlib.Core.List.{List, [], _∷_, _++_}
 use lib.Dec.{eqb, leb, ltb}
 use lib.ListN.{length, take, drop}
+use Rattle.pattern_spec.specs.Answer.{Answer, refused, done, isDone}
 use Rattle.worksheet_spec.specs.Filling.{afterFilling}
 use Rattle.conservation_spec.specs.Lists.{Totals, Event, asks, run}
 
@@ -39,23 +40,15 @@ unfoldable pub allWithin : List ℕ → ℕ → Bool
 allWithin [] most = true
 allWithin (n ∷ ns) most = leb n most && allWithin ns most
 
-pub data Answer : Type 0 where
-  refused : ℕ → Answer
-  done : Answer
-
 -- tried in this order: 21, arrays of unequal length; 22, more than 32,768 questions; 23, a total that is not cleared; 24, a word count past the lent
 -- words. The numbers follow document 01's, whose last is 11, at a distance.
-unfoldable pub replaying : List ℕ → List ℕ → List ℕ → List ℕ → List ℕ → List ℕ → List ℕ → Answer
+unfoldable pub replaying : List ℕ → List ℕ → List ℕ → List ℕ → List ℕ → List ℕ → List ℕ → Answer (Unit {0})
 replaying operations xs ys counts words first second =
     cond (not (eqb (length xs) (length operations) && (eqb (length ys) (length operations) && eqb (length counts) (length operations)))) (refused 21)
     (cond (ltb 32768 (length operations)) (refused 22)
     (cond (not (isCleared first && isCleared second)) (refused 23)
     (cond (not (allWithin counts (length words))) (refused 24)
-    done)))
-
-abbrev pub isDone : Answer → Bool
-isDone (refused n) = false
-isDone done = true
+    (done tt))))
 
 -- ---- what is left: nothing is changed where it is refused
 unfoldable pub totalsAfter : List ℕ → List ℕ → List ℕ → List ℕ → List ℕ → List ℕ → List ℕ → Totals

@@ -6,10 +6,11 @@ use mathlib.Core.Logic.{_⊎_, _↔_}
 use mathlib.Core.Bool.{true, false}
 use mathlib.Core.List.{List, [], _∷_}
 use lib.ListN.{length, take}
+use Rattle.pattern_spec.specs.Answer.{refused}
 use Rattle.rounding_spec.specs.Format.{binary32}
 use Rattle.rounding_spec.specs.Value.{decode, isFinite}
 use Rattle.augmented_spec.specs.Pairs.{pairOf}
-use Rattle.accumulator_spec.specs.Totals.{number, count, totalOf, finiteOperands, refused as totals·refused, adding, afterClearing, exact, pairAnswer, reading}
+use Rattle.accumulator_spec.specs.Totals.{number, count, totalOf, finiteOperands, adding, afterClearing, exact, pairAnswer, reading}
 use Rattle.accumulator_spec.specs.Columns.{Accepted}
 use Rattle.conservation_spec.specs.Lists.{Question, answer, operation, direct, enters, footTerms, setTerms, Totals, totalOn, Event, asks, reads, adds, after, run, book, questions, enteringSums, enteringProducts}
 
@@ -32,7 +33,7 @@ MetNow t (asks q) =
     × (enters q ≡ false → after t (asks q) ≡ t)
 MetNow t (reads side) = after t (reads side) ≡ t
 MetNow t (adds side x) =
-    (finiteOperands x ≡ false → adding (totalOn side t) x ≡ totals·refused 7) × (finiteOperands x ≡ true → adding (totalOn side t) x ≡ totals·refused 8)
+    (finiteOperands x ≡ false → adding (totalOn side t) x ≡ refused 7) × (finiteOperands x ≡ true → adding (totalOn side t) x ≡ refused 8)
     × (after t (adds side x) ≡ t)
 
 unfoldable pub Met : Totals → List Event → Type 0

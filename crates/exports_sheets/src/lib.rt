@@ -4,10 +4,11 @@ use augmented_spec::Pair;
 use conservation::Replayed;
 use worksheet::Filled;
 ghost use mathlib.Core.Path.{_≡_};
+ghost use Rattle.pattern_spec.specs.Answer.{refusalOf};
 ghost use Rattle.worksheet_spec.specs.Filling.{filling, afterFilling};
 ghost use Rattle.conservation.specs.Answers.{answerReplayed};
 ghost use Rattle.conservation_spec.specs.Replay.{replaying, totalsAfter, wordsLeft};
-ghost use Rattle.exports_sheets.specs.Answers.{noSheet, sheetReply, replayNumber};
+ghost use Rattle.exports_sheets.specs.Answers.{noSheet, sheetReply};
 
 // Document 01's number of the refusal, and zeros; or 0, the line count, and the pair at the foot with its flags.
 #[repr(C)]
@@ -62,7 +63,7 @@ pub extern "C" fn jirmeklo_replay(
     first: &mut [u32],
     second: &mut [u32],
 ) -> u32
-    ensures { λ r. ⌜ r ≡ replayNumber (replaying (now (operations .entry)) (now (xs .entry)) (now (ys .entry)) (now (counts .entry)) (now (words .entry)) (now (first .entry)) (now (second .entry))) ⌝ }
+    ensures { λ r. ⌜ r ≡ refusalOf (replaying (now (operations .entry)) (now (xs .entry)) (now (ys .entry)) (now (counts .entry)) (now (words .entry)) (now (first .entry)) (now (second .entry))) ⌝ }
     ensures { λ r. ⌜ now (first .exit) ≡ totalsAfter (now (operations .entry)) (now (xs .entry)) (now (ys .entry)) (now (counts .entry)) (now (words .entry)) (now (first .entry)) (now (second .entry)) .first ⌝ }
     ensures { λ r. ⌜ now (second .exit) ≡ totalsAfter (now (operations .entry)) (now (xs .entry)) (now (ys .entry)) (now (counts .entry)) (now (words .entry)) (now (first .entry)) (now (second .entry)) .other ⌝ }
     ensures { λ r. ⌜ now (words .exit) ≡ wordsLeft (now (operations .entry)) (now (xs .entry)) (now (ys .entry)) (now (counts .entry)) (now (words .entry)) (now (first .entry)) (now (second .entry)) ⌝ }
@@ -71,7 +72,7 @@ pub extern "C" fn jirmeklo_replay(
 }
 
 fn number(answer: Replayed) -> u32
-    ensures { λ r. ⌜ r ≡ replayNumber (answerReplayed answer) ⌝ }
+    ensures { λ r. ⌜ r ≡ refusalOf (answerReplayed answer) ⌝ }
 {
     match answer {
         Replayed::Done => 0,

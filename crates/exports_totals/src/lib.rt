@@ -3,9 +3,10 @@ use accumulator::Added;
 use accumulator::Cleared;
 use accumulator::Reading;
 ghost use mathlib.Core.Path.{_≡_};
+ghost use Rattle.pattern_spec.specs.Answer.{refusalOf};
 ghost use Rattle.accumulator_spec.specs.Totals.{ofPattern, ofProduct, adding, afterAdding, clearing, afterClearing, reading};
 ghost use Rattle.accumulator.specs.Answers.{answerAdded};
-ghost use Rattle.exports_totals.specs.Answers.{refusalNumber, replyOf};
+ghost use Rattle.exports_totals.specs.Answers.{replyOf};
 
 // Document 01's number of the refusal, and two zeros; or 0, and the pair.
 #[repr(C)]
@@ -17,7 +18,7 @@ pub struct Reply {
 
 #[no_mangle]
 pub extern "C" fn jirmeklo_clear(total: &mut [u32]) -> u32
-    ensures { λ r. ⌜ (r ≡ refusalNumber (clearing (now (total .entry)))) × (now (total .exit) ≡ afterClearing (now (total .entry))) ⌝ }
+    ensures { λ r. ⌜ (r ≡ refusalOf (clearing (now (total .entry)))) × (now (total .exit) ≡ afterClearing (now (total .entry))) ⌝ }
 {
     let answer = accumulator::clear(total);
     match answer {
@@ -28,14 +29,14 @@ pub extern "C" fn jirmeklo_clear(total: &mut [u32]) -> u32
 
 #[no_mangle]
 pub extern "C" fn jirmeklo_add_pattern(total: &mut [u32], x: u32) -> u32
-    ensures { λ r. ⌜ (r ≡ refusalNumber (adding (now (total .entry)) (ofPattern x))) × (now (total .exit) ≡ afterAdding (now (total .entry)) (ofPattern x)) ⌝ }
+    ensures { λ r. ⌜ (r ≡ refusalOf (adding (now (total .entry)) (ofPattern x))) × (now (total .exit) ≡ afterAdding (now (total .entry)) (ofPattern x)) ⌝ }
 {
     number(accumulator::add_pattern(total, x))
 }
 
 #[no_mangle]
 pub extern "C" fn jirmeklo_add_product(total: &mut [u32], x: u32, y: u32) -> u32
-    ensures { λ r. ⌜ (r ≡ refusalNumber (adding (now (total .entry)) (ofProduct x y))) × (now (total .exit) ≡ afterAdding (now (total .entry)) (ofProduct x y)) ⌝ }
+    ensures { λ r. ⌜ (r ≡ refusalOf (adding (now (total .entry)) (ofProduct x y))) × (now (total .exit) ≡ afterAdding (now (total .entry)) (ofProduct x y)) ⌝ }
 {
     number(accumulator::add_product(total, x, y))
 }
@@ -53,7 +54,7 @@ pub extern "C" fn jirmeklo_read(total: &[u32]) -> Reply
 }
 
 fn number(answer: Added) -> u32
-    ensures { λ r. ⌜ r ≡ refusalNumber (answerAdded answer) ⌝ }
+    ensures { λ r. ⌜ r ≡ refusalOf (answerAdded answer) ⌝ }
 {
     match answer {
         Added::Done => 0,

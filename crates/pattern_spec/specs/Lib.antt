@@ -1,3 +1,4 @@
+pub mod Answer
 pub mod Classes
 pub mod Exact
 pub mod Unrounded

@@ -6,7 +6,8 @@ use Prim.Native.Nat.{ℕ}
 use native.Mathlib.Omega.{arith}
 use borrow.Author.Tests.{eq-eqb, ne-eqb}
 use lib.ListN.{length, getD}
-use Rattle.question_spec.specs.Questions.{operationOf, allDigits, patternFrom, firstPattern, secondPattern, asked, refused, reading}
+use Rattle.pattern_spec.specs.Answer.{refused}
+use Rattle.question_spec.specs.Questions.{lettersOperation, allDigits, patternFrom, firstPattern, secondPattern, asked, reading}
 use Rattle.question.specs.declared.digits.Pattern.the-variants.{Value, NoDigit}
 use Rattle.question.specs.Inner.{patternOf, patternsRead}
 
@@ -18,10 +19,10 @@ no-digits : (b : Bool) (n : ℕ) → cond b (Value n) NoDigit ≡ NoDigit → b 
 no-digits true n e = let z : _≡_ {A = ℕ} 0 1 = cc in absurd (omega arith)
 no-digits false n e = refl
 
-module _ (s : List ℕ) (op : ℕ) (full : length s ≡ 21) (is : op ≡ operationOf s) (known : op ≡ 0 → ⊥) (tab : getD s 3 0 ≡ 9) (tab2 : getD s 12 0 ≡ 9) where
+module _ (s : List ℕ) (op : ℕ) (full : length s ≡ 21) (is : op ≡ lettersOperation s) (known : op ≡ 0 → ⊥) (tab : getD s 3 0 ≡ 9) (tab2 : getD s 12 0 ≡ 9) where
   pub tabs-passed : patternsRead op s ≡ reading s
   unfolding reading
-  tabs-passed = rw (eq-eqb (length s) 21 full, ne-eqb (operationOf s) 0 (λ z. known (is ∙ z)), eq-eqb (getD s 3 0) 9 tab, eq-eqb (getD s 12 0) 9 tab2, is)
+  tabs-passed = rw (eq-eqb (length s) 21 full, ne-eqb (lettersOperation s) 0 (λ z. known (is ∙ z)), eq-eqb (getD s 3 0) 9 tab, eq-eqb (getD s 12 0) 9 tab2, is)
 
 -- ---- the patterns
 module _ (s : List ℕ) (op : ℕ) where

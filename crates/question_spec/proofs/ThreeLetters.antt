@@ -9,7 +9,7 @@ use borrow.Author.Tests.{eqb-true}
 use lib.Dec.{eqb, lit<}
 use lib.ListN.{length, getD, take, drop-of-length-le}
 use lib.Seq.{drop-cons, getD-take, length-take-le}
-use Rattle.question_spec.specs.Questions.{sumLetters, difLetters, mulLetters, letters, starts, operationOf}
+use Rattle.question_spec.specs.Questions.{sumLetters, difLetters, mulLetters, letters, starts, lettersOperation}
 use Rattle.question_spec.proofs.OneDigit.{and-true}
 
 as-three : (l : List ℕ) → length l ≡ 3 → getD l 0 0 ∷ getD l 1 0 ∷ getD l 2 0 ∷ [] ≡ l
@@ -28,16 +28,16 @@ module _ (line : List ℕ) where
     sym (getD-take 3 line 2 0 (lit< tt)) ∙ ap (λ (l : List ℕ). getD l 2 0) e,
   )
 
-  pub of-sum : take 3 line ≡ sumLetters → operationOf line ≡ 1
-  unfolding operationOf
+  pub of-sum : take 3 line ≡ sumLetters → lettersOperation line ≡ 1
+  unfolding lettersOperation
   of-sum e = let at = at-three sumLetters e in rw (at .0, at .1, at .2)
 
-  pub of-dif : take 3 line ≡ difLetters → operationOf line ≡ 2
-  unfolding operationOf
+  pub of-dif : take 3 line ≡ difLetters → lettersOperation line ≡ 2
+  unfolding lettersOperation
   of-dif e = let at = at-three difLetters e in rw (at .0, at .1, at .2)
 
-  pub of-mul : take 3 line ≡ mulLetters → operationOf line ≡ 3
-  unfolding operationOf
+  pub of-mul : take 3 line ≡ mulLetters → lettersOperation line ≡ 3
+  unfolding lettersOperation
   of-mul e = let at = at-three mulLetters e in rw (at .0, at .1, at .2)
 
   started : 3 ≤ length line → (a b c : ℕ) → starts line (a ∷ b ∷ c ∷ []) ≡ true → take 3 line ≡ a ∷ b ∷ c ∷ []
@@ -70,14 +70,14 @@ which false false false l o p q r is n = absurd (n (sym is))
 
 module _ (line : List ℕ) (long : 3 ≤ length line) where
   -- other letters are unknown
-  pub unknown : take 3 line ≢ sumLetters → take 3 line ≢ difLetters → take 3 line ≢ mulLetters → operationOf line ≡ 0
-  unfolding operationOf
+  pub unknown : take 3 line ≢ sumLetters → take 3 line ≢ difLetters → take 3 line ≢ mulLetters → lettersOperation line ≡ 0
+  unfolding lettersOperation
   unknown p q r =
       none (starts line sumLetters) (starts line difLetters) (starts line mulLetters) (λ e. p (started line long 115 117 109 e)) (λ e. q (started line long 100 105 102 e))
       (λ e. r (started line long 109 117 108 e))
 
-  pub known : (o : ℕ) → operationOf line ≡ o → o ≢ 0 → (take 3 line ≡ letters o) × (1 ≤ o) × (o ≤ 3)
-  unfolding operationOf
+  pub known : (o : ℕ) → lettersOperation line ≡ o → o ≢ 0 → (take 3 line ≡ letters o) × (1 ≤ o) × (o ≤ 3)
+  unfolding lettersOperation
   known o =
       which (starts line sumLetters) (starts line difLetters) (starts line mulLetters) (take 3 line) o (started line long 115 117 109) (started line long 100 105 102)
       (started line long 109 117 108)

@@ -1,6 +1,6 @@
 -- A line that is read as a question is the question's text, and the text is read back.
 use Prim.Native.Nat.{ℕ, _^_, _≤_, _<_}
-use mathlib.Core.Path.{_≡_, refl, _∙_}
+use mathlib.Core.Path.{_≡_, refl, ap, _∙_}
 use mathlib.Core.Logic.{_⊎_, inl, inr, ⊎-elim}
 use mathlib.Core.Bool.{Bool, true, false, cond, not, _&&_, _||_}
 use mathlib.Core.List.{List, _∷_, _++_}
@@ -9,15 +9,22 @@ use borrow.Author.Tests.{eqb-true, eqb-false}
 use lib.Dec.{eqb}
 use lib.ListN.{length, getD, take, drop, take-append-drop, length-drop}
 use lib.Seq.{drop-cons, drop-drop, take-all, length-take-le}
-use Rattle.question_spec.specs.Questions.{letters, operationOf, allDigits, patternFrom, firstPattern, secondPattern, asked, refused, reading, patternText, questionText}
+use Rattle.pattern_spec.specs.Answer.{refused}
+use Rattle.question_spec.specs.Questions.{Asked, letters, lettersOperation, allDigits, patternFrom, firstPattern, secondPattern, asked, reading, patternText, questionText}
 use Rattle.question_spec.proofs.OneDigit.{and-true}
 use Rattle.question_spec.proofs.EightDigits.{text-back, text-digits, text-value}
 use Rattle.question_spec.proofs.ThreeLetters.{known}
 
+-- a question that is asked has one operation and one pair of patterns
+same-question : (p q r o x y : ℕ) → asked p q r ≡ asked o x y → (p ≡ o) × (q ≡ x) × (r ≡ y)
+same-question p q r o x y e =
+    let i : _≡_ {A = Asked} (record { operation = p; x = q; y = r }) (record { operation = o; x = x; y = y }) = cc in
+    (ap (λ (a : Asked). a .operation) i, ap (λ (a : Asked). a .x) i, ap (λ (a : Asked). a .y) i)
+
 -- which tests a line passed
 passed : (a b c d : Bool) (p q r o x y : ℕ) → cond (not a) (refused 1) (cond b (refused 2) (cond c (refused 3) (cond (not d) (refused 4) (asked p q r)))) ≡ asked o x y
     → (a ≡ true) × (b ≡ false) × (c ≡ false) × (d ≡ true) × (p ≡ o) × (q ≡ x) × (r ≡ y)
-passed true false false true p q r o x y e = (refl, refl, refl, refl, cc, cc, cc)
+passed true false false true p q r o x y e = let s = same-question p q r o x y e in (refl, refl, refl, refl, s .0, s .1, s .2)
 passed true false false false p q r o x y e = let z : _≡_ {A = ℕ} 0 1 = cc in absurd (omega arith)
 passed true false true d p q r o x y e = let z : _≡_ {A = ℕ} 0 1 = cc in absurd (omega arith)
 passed true true c d p q r o x y e = let z : _≡_ {A = ℕ} 0 1 = cc in absurd (omega arith)
@@ -49,12 +56,12 @@ module _ (line : List ℕ) (o x y : ℕ) where
   unfolding reading questionText
   is-text e =
       let p =
-      passed (eqb (length line) 21) (eqb (operationOf line) 0) (not (eqb (getD line 3 0) 9) || not (eqb (getD line 12 0) 9)) (allDigits (firstPattern line) && allDigits (secondPattern line))
-      (operationOf line) (patternFrom 0 (firstPattern line)) (patternFrom 0 (secondPattern line)) o x y e in
+      passed (eqb (length line) 21) (eqb (lettersOperation line) 0) (not (eqb (getD line 3 0) 9) || not (eqb (getD line 12 0) 9)) (allDigits (firstPattern line) && allDigits (secondPattern line))
+      (lettersOperation line) (patternFrom 0 (firstPattern line)) (patternFrom 0 (secondPattern line)) o x y e in
       let full = eqb-true (length line) 21 (p .0) in
       let tabs = both (eqb (getD line 3 0) 9) (eqb (getD line 12 0) 9) (p .2) in
       let digits = and-true (allDigits (firstPattern line)) (allDigits (secondPattern line)) (p .3) in
-      let word = known line (omega arith) o (p .4) (λ z. eqb-false (operationOf line) 0 (p .1) (p .4 ∙ z)) in
+      let word = known line (omega arith) o (p .4) (λ z. eqb-false (lettersOperation line) 0 (p .1) (p .4 ∙ z)) in
       let first = text-back (firstPattern line) x (eight 4 full (omega arith)) (digits .0) (p .5) in
       let second = text-back (secondPattern line) y (eight 13 full (omega arith)) (digits .1) (p .6) in (
         assembled line (letters o) (patternText x) (patternText y) full (eqb-true (getD line 3 0) 9 (tabs .0)) (eqb-true (getD line 12 0) 9 (tabs .1)) (word .0) (first .1) (second .1),
@@ -74,15 +81,15 @@ one-of o h k = split (eqb o 1) (eqb o 2) (eqb-true o 1) (eqb-false o 1) (eqb-tru
 
 module _ (x y : ℕ) (low : x < 2 ^ 32) (low2 : y < 2 ^ 32) where
   sum-read : reading (questionText 1 x y) ≡ asked 1 x y
-  unfolding reading questionText letters operationOf
+  unfolding reading questionText letters lettersOperation
   sum-read = rw (text-digits x, text-digits y, text-value x low, text-value y low2)
 
   dif-read : reading (questionText 2 x y) ≡ asked 2 x y
-  unfolding reading questionText letters operationOf
+  unfolding reading questionText letters lettersOperation
   dif-read = rw (text-digits x, text-digits y, text-value x low, text-value y low2)
 
   mul-read : reading (questionText 3 x y) ≡ asked 3 x y
-  unfolding reading questionText letters operationOf
+  unfolding reading questionText letters lettersOperation
   mul-read = rw (text-digits x, text-digits y, text-value x low, text-value y low2)
 
   pub text-read : (o : ℕ) → 1 ≤ o → o ≤ 3 → reading (questionText o x y) ≡ asked o x y

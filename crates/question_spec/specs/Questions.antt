@@ -5,6 +5,7 @@ use mathlib.Core.Bool.{Bool, true, cond, not, _&&_, _||_}
 use mathlib.Core.List.{List, [], _∷_, _++_}
 use lib.Dec.{eqb, leb, ltb}
 use lib.ListN.{length, getD, take, drop}
+use Rattle.pattern_spec.specs.Answer.{Answer, refused, done}
 
 -- ---- "letters `sum`, `dif`, `mul`", by the operation's number: 1 to 3 (sum, difference, product)
 abbrev pub sumLetters : List ℕ
@@ -25,8 +26,8 @@ abbrev pub starts : List ℕ → List ℕ → Bool
 starts line three = eqb (getD line 0 0) (getD three 0 0) && (eqb (getD line 1 0) (getD three 1 0) && eqb (getD line 2 0) (getD three 2 0))
 
 -- the operation's number, or 0 where the letters are unknown
-unfoldable pub operationOf : List ℕ → ℕ
-operationOf line = cond (starts line sumLetters) 1 (cond (starts line difLetters) 2 (cond (starts line mulLetters) 3 0))
+unfoldable pub lettersOperation : List ℕ → ℕ
+lettersOperation line = cond (starts line sumLetters) 1 (cond (starts line difLetters) 2 (cond (starts line mulLetters) 3 0))
 
 -- ---- "Patterns are eight upper-case hexadecimal digits": 0-9 are bytes 48 to 57, A-F 65 to 70
 abbrev pub isDigit : ℕ → Bool
@@ -51,19 +52,23 @@ firstPattern line = take 8 (drop 4 line)
 abbrev pub secondPattern : List ℕ → List ℕ
 secondPattern line = take 8 (drop 13 line)
 
--- what reading a line answers: the operation's number and the two patterns, or a refusal's number
-pub data Answer : Type 0 where
-  asked : ℕ → ℕ → ℕ → Answer
-  refused : ℕ → Answer
+-- what reading a line answers where it is not refused: the operation's number and the two patterns
+pub record Asked : Type 0 where
+  pub operation : ℕ
+  pub x : ℕ
+  pub y : ℕ
+
+abbrev pub asked : ℕ → ℕ → ℕ → Answer Asked
+asked operation x y = done (record { operation = operation; x = x; y = y })
 
 -- "1 length other than 21; 2 letters unknown; 3 byte 3 or 12 (from 0) no tab; 4 a pattern byte outside 0-9, A-F.", tried in this order
-unfoldable pub reading : List ℕ → Answer
+unfoldable pub reading : List ℕ → Answer Asked
 reading line =
     cond (not (eqb (length line) 21)) (refused 1)
-    (cond (eqb (operationOf line) 0) (refused 2)
+    (cond (eqb (lettersOperation line) 0) (refused 2)
     (cond (not (eqb (getD line 3 0) 9) || not (eqb (getD line 12 0) 9)) (refused 3)
     (cond (not (allDigits (firstPattern line) && allDigits (secondPattern line))) (refused 4)
-    (asked (operationOf line) (patternFrom 0 (firstPattern line)) (patternFrom 0 (secondPattern line))))))
+    (asked (lettersOperation line) (patternFrom 0 (firstPattern line)) (patternFrom 0 (secondPattern line))))))
 
 -- ---- the text of a question
 abbrev pub digit : ℕ → ℕ

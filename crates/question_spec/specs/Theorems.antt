@@ -5,7 +5,8 @@ use mathlib.Core.Logic.{_≢_, _⊎_}
 use mathlib.Core.Bool.{false, _&&_}
 use mathlib.Core.List.{List}
 use lib.ListN.{length, getD, take}
-use Rattle.question_spec.specs.Questions.{sumLetters, difLetters, mulLetters, operationOf, allDigits, firstPattern, secondPattern, asked, refused, reading, questionText}
+use Rattle.pattern_spec.specs.Answer.{refused}
+use Rattle.question_spec.specs.Questions.{sumLetters, difLetters, mulLetters, lettersOperation, allDigits, firstPattern, secondPattern, asked, reading, questionText}
 
 -- "Conditions are tried in the order written"
 abbrev pub RefusedInOrder : Type 0
@@ -13,14 +14,14 @@ RefusedInOrder =
     (line : List ℕ)
     → (length line ≢ 21 → reading line ≡ refused 1)
     × (length line ≡ 21 → take 3 line ≢ sumLetters → take 3 line ≢ difLetters → take 3 line ≢ mulLetters → reading line ≡ refused 2)
-    × (length line ≡ 21 → operationOf line ≢ 0 → (getD line 3 0 ≢ 9) ⊎ (getD line 12 0 ≢ 9) → reading line ≡ refused 3)
-    × (length line ≡ 21 → operationOf line ≢ 0 → getD line 3 0 ≡ 9 → getD line 12 0 ≡ 9 → (allDigits (firstPattern line) && allDigits (secondPattern line)) ≡ false → reading line ≡ refused 4)
+    × (length line ≡ 21 → lettersOperation line ≢ 0 → (getD line 3 0 ≢ 9) ⊎ (getD line 12 0 ≢ 9) → reading line ≡ refused 3)
+    × (length line ≡ 21 → lettersOperation line ≢ 0 → getD line 3 0 ≡ 9 → getD line 12 0 ≡ 9 → (allDigits (firstPattern line) && allDigits (secondPattern line)) ≡ false → reading line ≡ refused 4)
 
 -- the letters' numbers
 abbrev pub Letters : Type 0
 Letters =
     (line : List ℕ)
-    → (take 3 line ≡ sumLetters → operationOf line ≡ 1) × (take 3 line ≡ difLetters → operationOf line ≡ 2) × (take 3 line ≡ mulLetters → operationOf line ≡ 3)
+    → (take 3 line ≡ sumLetters → lettersOperation line ≡ 1) × (take 3 line ≡ difLetters → lettersOperation line ≡ 2) × (take 3 line ≡ mulLetters → lettersOperation line ≡ 3)
 
 -- the text of every question is read back,
 abbrev pub ReadBack : Type 0

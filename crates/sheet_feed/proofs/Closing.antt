@@ -12,8 +12,9 @@ use denote.Enum.Declared.{tagOf}
 use types.Run.{OneOf, miss}
 use lib.Dec.{eqb}
 use lib.ListN.{length, take, drop, length-append, length-drop}
+use Rattle.pattern_spec.specs.Answer.{Answer, refused}
 use Rattle.question_spec.specs.Questions.{reading}
-use Rattle.accumulator_spec.specs.Totals.{Answer, refused, pair}
+use Rattle.accumulator_spec.specs.Totals.{TwoPatterns, pair}
 use Rattle.accumulator_spec.specs.Totals.{reading as readTotal}
 use Rattle.accumulator.specs.Answers.{answerRead}
 use Rattle.accumulator.specs.declared.Reading.{Reading}
@@ -41,11 +42,11 @@ not-read (the-reading.Pair first second) h = absurd (miss (1 ∷ 2 ∷ []) 0 tt 
 not-read the-reading.Length h = (5, refl)
 not-read the-reading.Unfit h = (6, refl)
 
-pub total-written : (first second : ℕ) (a : Answer) (out : List ℕ) (n : ℕ) (out' : List ℕ) → pair first second ≡ a → Writes out (totalText first second) n out' → Writes out (readText a) n out'
-total-written first second a out n out' e w = subst (λ (b : Answer). Writes out (readText b) n out') e w
+pub total-written : (first second : ℕ) (a : Answer TwoPatterns) (out : List ℕ) (n : ℕ) (out' : List ℕ) → pair first second ≡ a → Writes out (totalText first second) n out' → Writes out (readText a) n out'
+total-written first second a out n out' e w = subst (λ (b : Answer TwoPatterns). Writes out (readText b) n out') e w
 
-pub no-total : (r : Reading) (a : Answer) (out : List ℕ) → OneOf (1 ∷ 2 ∷ []) (tagOf reading-type.the-type r) → answerRead r ≡ a → Writes out (readText a) 0 out
-no-total r a out h e = let k = not-read r h in subst (λ (b : Answer). Writes out (readText b) 0 out) (sym (k .1) ∙ e) (writes-nothing out)
+pub no-total : (r : Reading) (a : Answer TwoPatterns) (out : List ℕ) → OneOf (1 ∷ 2 ∷ []) (tagOf reading-type.the-type r) → answerRead r ≡ a → Writes out (readText a) 0 out
+no-total r a out h e = let k = not-read r h in subst (λ (b : Answer TwoPatterns). Writes out (readText b) 0 out) (sym (k .1) ∙ e) (writes-nothing out)
 
 -- ---- the last two lines
 module _ (p : Progress) (out : List ℕ) (n : ℕ) (out₁ : List ℕ) (total : Writes out (readText (readTotal (p .total))) n out₁) (room : 60 ≤ length out) where

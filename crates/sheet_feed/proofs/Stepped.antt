@@ -10,9 +10,10 @@ use native.Mathlib.Omega.{arith}
 use native.Mathlib.Numerals.{add-one}
 use lib.ListN.{length, take}
 use lib.Seq.{length-take-le}
-use Rattle.question_spec.specs.Questions.{Answer, reading}
+use Rattle.pattern_spec.specs.Answer.{Answer, isDone}
+use Rattle.question_spec.specs.Questions.{Asked, reading}
 use Rattle.transcript_spec.specs.Texts.{stopText}
-use Rattle.sheet_spec.specs.Printed.{Progress, lineText, isGood, afterLine}
+use Rattle.sheet_spec.specs.Printed.{Progress, lineText, afterLine}
 use Rattle.sheet_spec.specs.States.{State, longer, stop, extend}
 use Rattle.sheet_spec.proofs.Lengths.{line-most}
 use Rattle.sheet_line.specs.Answers.{Answers}
@@ -29,8 +30,8 @@ use Rattle.sheet_position.proofs.Placed.{going-on, at-stop, at-end, at-other}
 pub as-many : (line : List ℕ) (n : ℕ) → n ≤ 22 → length line ≡ 22 → n ≡ length (take n line)
 as-many line n h e = sym (length-take-le n line (omega arith))
 
-pub one-most : (number : ℕ) (a : Answer) (r : Answered) (total total' out out' : List ℕ) → Answers number a r total total' out out' → r .good ≤ 1
-one-most number a r total total' out out' h = go (isGood a) (h .good)
+pub one-most : (number : ℕ) (a : Answer Asked) (r : Answered) (total total' out out' : List ℕ) → Answers number a r total total' out out' → r .good ≤ 1
+one-most number a r total total' out out' h = go (isDone a) (h .good)
   where
     go : (b : Bool) → r .good ≡ cond b 1 0 → r .good ≤ 1
     go true e = omega arith
@@ -44,7 +45,7 @@ pub line-ended : (p : Place) (begun total total' out out' : List ℕ) (a : Answe
 unfolding afterLine
 line-ended p begun total total' out out' a answers whole room = record {
   whole = whole;
-  progress = progress-is (p .lines + 1) (suc (p .lines)) (p .good + a .good) (cond (isGood (reading begun)) 1 0 + p .good) total' _ (add-one (p .lines)) (counted (p .good) (a .good) _ (answers .good)) (answers .added);
+  progress = progress-is (p .lines + 1) (suc (p .lines)) (p .good + a .good) (cond (isDone (reading begun)) 1 0 + p .good) total' _ (add-one (p .lines)) (counted (p .good) (a .good) _ (answers .good)) (answers .added);
   length = refl;
   going = refl;
   text =
@@ -63,8 +64,8 @@ extended p r room line line' b n h total =
     ∙ ap {B = State} (λ (l : List ℕ). record { progress = progressOf p total; begun = l; stopped = false }) (h .1) ∙ sym (ap (λ (s : State). extend s b) (going-on p line total r))
 
 -- ---- each kind of byte
-good-most : (a : Answer) (g n : ℕ) → g ≤ n → cond (isGood a) 1 0 + g ≤ suc n
-good-most a g n h = go (isGood a)
+good-most : (a : Answer Asked) (g n : ℕ) → g ≤ n → cond (isDone a) 1 0 + g ≤ suc n
+good-most a g n h = go (isDone a)
   where
     go : (b : Bool) → cond b 1 0 + g ≤ suc n
     go true = omega arith
@@ -76,7 +77,7 @@ module _ (p : Place) (line total : List ℕ) (r : Runs p) (out : List ℕ) (s : 
   unfolding afterLine
   ends-soundly total' out' h =
       let l : s .place .lines ≡ suc (p .lines) = ap (λ (q : Progress). q .lines) (h .progress) in
-      let g : s .place .good ≡ cond (isGood (reading (take (p .length) line))) 1 0 + p .good = ap (λ (q : Progress). q .good) (h .progress) in
+      let g : s .place .good ≡ cond (isDone (reading (take (p .length) line))) 1 0 + p .good = ap (λ (q : Progress). q .good) (h .progress) in
       (l, omega (arith, l, g, good-most (reading (take (p .length) line)) (p .good) (p .lines) (r .good)))
 
 module _ (p : Place) (line total : List ℕ) (r : Runs p) (b : ℕ) (out : List ℕ) (s : Next) where

@@ -5,12 +5,6 @@ use mathlib.Core.List.{List, [], _∷_}
 use Rattle.rounding_spec.specs.Format.{binary32}
 use Rattle.rounding_spec.specs.Value.{decode, isFinite}
 use Rattle.accumulator_spec.specs.Totals.{Term, ofPattern}
-use Rattle.question_spec.specs.Questions.{Answer, asked, refused}
-
--- the number of a refusal
-abbrev pub refusalOf : Answer → ℕ
-refusalOf (asked operation x y) = 0
-refusalOf (refused n) = n
 
 -- what the halves of a pair add
 abbrev pub halfTerms : ℕ → ℕ → List Term

@@ -4,13 +4,13 @@ mod adding;
 use question::Question;
 use worksheet::Filled;
 ghost use mathlib.Core.Path.{_≡_};
+ghost use Rattle.pattern_spec.specs.Answer.{refusalOf};
 ghost use Rattle.worksheet_spec.specs.Filling.{filling, afterFilling};
 ghost use Rattle.accumulator_spec.specs.Columns.{column};
 ghost use Rattle.question_spec.specs.Questions.{reading};
 ghost use Rattle.question.specs.Answers.{answerOf};
 ghost use Rattle.sheet_spec.specs.Printed.{blank, filledText, pairTerms};
 ghost use Rattle.sheet_line.specs.Answers.{Answers, Writes};
-ghost use Rattle.sheet_line.specs.Inner.{refusalOf};
 
 // How many bytes were written, and of good lines 1 or 0.
 pub struct Answered {

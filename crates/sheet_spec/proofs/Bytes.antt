@@ -7,7 +7,8 @@ use native.Mathlib.Omega.{arith}
 use borrow.Author.Tests.{le-leb, lt-leb}
 use lib.Dec.{eqb}
 use lib.ListN.{length, take}
-use Rattle.question_spec.specs.Questions.{Answer, reading}
+use Rattle.pattern_spec.specs.Answer.{Answer}
+use Rattle.question_spec.specs.Questions.{Asked, reading}
 use Rattle.transcript_spec.specs.Texts.{stopText}
 use Rattle.sheet_spec.specs.Printed.{linesFrom, lineText, Progress, start, afterAnswer, afterLine, closingText}
 use Rattle.sheet_spec.specs.States.{State, begin, stop, takeByte, byteText, takeBytes, bytesText, closeText}
@@ -66,7 +67,7 @@ unfolding bytesText takeBytes closeText ending linesFrom afterLine
 ended p [] room h = refl
 ended p (c ∷ begun) zero h = absurd (let e : _≡_ {A = ℕ} (suc (length begun)) 0 = ap length (h refl) in omega arith)
 ended p (c ∷ begun) (suc room) h =
-    rw (has-byte c begun, has-byte c (take 21 begun)) (ap₂ (λ (t : List ℕ) (a : Answer). t ++ closingText (afterAnswer p a)) (ap (lineText (suc (p .lines))) (first-bytes (c ∷ begun))) (first-bytes (c ∷ begun)))
+    rw (has-byte c begun, has-byte c (take 21 begun)) (ap₂ (λ (t : List ℕ) (a : Answer Asked). t ++ closingText (afterAnswer p a)) (ap (lineText (suc (p .lines))) (first-bytes (c ∷ begun))) (first-bytes (c ∷ begun)))
 
 -- no room: any byte stops
 stops : (p : Progress) (b : ℕ) (bs : List ℕ) → 32768 ≤ p .lines → printed (at p []) (b ∷ bs) ≡ stopText
@@ -88,7 +89,7 @@ module _ (p : Progress) (begun : List ℕ) (b : ℕ) (bs : List ℕ) (room : p .
   unfolding byteText takeByte afterLine
   at-newline e =
       one-byte (at p begun) b bs
-      ∙ rw (lt-leb 32768 (p .lines) room, e) (ap (λ (a : Answer). lineText (suc (p .lines)) a ++ printed (record { progress = afterAnswer p a; begun = []; stopped = false }) bs) (first-bytes begun))
+      ∙ rw (lt-leb 32768 (p .lines) room, e) (ap (λ (a : Answer Asked). lineText (suc (p .lines)) a ++ printed (record { progress = afterAnswer p a; begun = []; stopped = false }) bs) (first-bytes begun))
 
   at-byte : eqb b 10 ≡ false → printed (at p begun) (b ∷ bs) ≡ printed (at p (begun ++ (b ∷ []))) bs
   unfolding byteText takeByte

@@ -6,11 +6,10 @@ use Prim.Native.Nat.{ℕ, suc, _-_, _≤_}
 use native.Mathlib.Omega.{arith}
 use lib.Dec.{eqb, leb}
 use lib.ListN.{length, length-append}
-use Rattle.worksheet_spec.specs.Filling.{filled, filling, afterFilling}
-use Rattle.worksheet_spec.specs.Filling.{Answer as Filling·Answer, refused as filling·refused}
-use Rattle.accumulator_spec.specs.Totals.{pair, done, reading as readTotal}
-use Rattle.accumulator_spec.specs.Totals.{Answer as Totals·Answer, refused as totals·refused}
-use Rattle.question_spec.specs.Questions.{Answer, asked, refused, reading}
+use Rattle.pattern_spec.specs.Answer.{Answer, refused, done}
+use Rattle.worksheet_spec.specs.Filling.{FilledSheet, filled, filling, afterFilling}
+use Rattle.accumulator_spec.specs.Totals.{TwoPatterns, pair, reading as readTotal}
+use Rattle.question_spec.specs.Questions.{Asked, asked, reading}
 use Rattle.transcript_spec.specs.Texts.{badText, totalText, endText, stopText}
 use Rattle.transcript_spec.proofs.DecimalLaws.{decimal-most}
 use Rattle.transcript_spec.proofs.TextLengths.{counts-length}
@@ -23,14 +22,15 @@ bad-most : (number k : ℕ) → length (badText number k) ≤ 26
 unfolding badText
 bad-most number k = omega (arith, counts-length number k, decimal-most number, decimal-most k)
 
-filled-most : (number o x y : ℕ) (a : Filling·Answer) (words : List ℕ) → length (filledText number o x y a words) ≤ 680
+filled-most : (number o x y : ℕ) (a : Answer FilledSheet) (words : List ℕ) → length (filledText number o x y a words) ≤ 680
 unfolding filledText
-filled-most number o x y (filled lines p) words = at-most number o x y words lines p
-filled-most number o x y (filling·refused k) words = omega arith
+filled-most number o x y (done s) words = at-most number o x y words (s .lines) (s .pair)
+filled-most number o x y (refused k) words = omega arith
 
-pub line-most : (number : ℕ) (a : Answer) → length (lineText number a) ≤ 680
+pub line-most : (number : ℕ) (a : Answer Asked) → length (lineText number a) ≤ 680
 unfolding lineText
-line-most number (asked o x y) = filled-most number o x y (filling o x y blank) (afterFilling o x y blank)
+line-most number (done q) =
+    filled-most number (q .operation) (q .x) (q .y) (filling (q .operation) (q .x) (q .y) blank) (afterFilling (q .operation) (q .x) (q .y) blank)
 line-most number (refused k) = omega (arith, bad-most number k)
 
 pub byte-most : (s : State) (b : ℕ) → length (byteText s b) ≤ 680
@@ -55,11 +55,10 @@ pub end-most : (good bad : ℕ) → length (endText good bad) ≤ 26
 unfolding endText
 end-most good bad = omega (arith, counts-length good bad, decimal-most good, decimal-most bad)
 
-pub read-most : (a : Totals·Answer) → length (readText a) ≤ 24
+pub read-most : (a : Answer TwoPatterns) → length (readText a) ≤ 24
 unfolding totalText
-read-most (pair first second) = omega arith
-read-most done = omega arith
-read-most (totals·refused k) = omega arith
+read-most (done r) = omega arith
+read-most (refused k) = omega arith
 
 pub closing-most : (p : Progress) → length (closingText p) ≤ 50
 unfolding closingText

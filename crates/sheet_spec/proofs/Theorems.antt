@@ -2,7 +2,8 @@
 use mathlib.Core.Path.{_≡_, ap}
 use mathlib.Core.List.{[], _++_}
 use native.Mathlib.Omega.{arith}
-use Rattle.accumulator_spec.specs.Totals.{Answer, pair, reading}
+use Rattle.pattern_spec.specs.Answer.{Answer}
+use Rattle.accumulator_spec.specs.Totals.{TwoPatterns, pair, reading}
 use Rattle.accumulator_spec.specs.Columns.{zeros, column, AllFinite, columnSum}
 use Rattle.accumulator_spec.proofs.Columns.{exact-column}
 use Rattle.accumulator_spec.proofs.ReadTotal.{read-zero}
@@ -35,11 +36,11 @@ cleared = let c = exact-column [] (omega arith) tt in read-zero zeros (c .4) (c 
 
 pub empty-input : EmptyInput
 unfolding output linesFrom linesText afterLines closingText
-empty-input = ap (λ (a : Answer). readText a ++ endText 0 0) cleared
+empty-input = ap (λ (a : Answer TwoPatterns). readText a ++ endText 0 0) cleared
 
 pub two-bad-lines : TwoBadLines
 unfolding output linesFrom linesText lineText afterLines afterLine closingText questions.reading column badText decimalUpTo
-two-bad-lines = ap (λ (a : Answer). badText 1 1 ++ (badText 2 1 ++ (readText a ++ endText 0 2))) cleared
+two-bad-lines = ap (λ (a : Answer TwoPatterns). badText 1 1 ++ (badText 2 1 ++ (readText a ++ endText 0 2))) cleared
 
 pub line-terms : LineTerms
 line-terms = totals.line-terms

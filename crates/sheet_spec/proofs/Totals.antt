@@ -8,14 +8,14 @@ use native.Mathlib.Nat.{le-refl, le-trans, le-of-eq}
 use native.Mathlib.Omega.{arith}
 use borrow.Author.Tests.{le-leb}
 use lib.ListN.{length, length-append}
+use Rattle.pattern_spec.specs.Answer.{Answer, refused, done, isDone}
 use Rattle.rounding_spec.specs.Format.{binary32}
 use Rattle.rounding_spec.specs.Value.{decode, isFinite}
 use Rattle.augmented_spec.specs.declared.Pair.{Pair}
-use Rattle.augmented_spec.specs.Direct.{directPair}
-use Rattle.worksheet_spec.specs.Filling.{isOperation, operationOf, filled, answerOf, filling, isFilled}
-use Rattle.worksheet_spec.specs.Filling.{Answer as Filling·Answer, refused as filling·refused}
+use Rattle.augmented_spec.specs.Direct.{directPair, isOperation, operationOf}
+use Rattle.worksheet_spec.specs.Filling.{FilledSheet, filled, answerOf, filling}
 use Rattle.worksheet_spec.proofs.Filling.{fills, answer-is}
-use Rattle.question_spec.specs.Questions.{Answer, asked, refused, reading}
+use Rattle.question_spec.specs.Questions.{Asked, asked, reading}
 use Rattle.question_spec.proofs.Theorems.{only-text}
 use Rattle.accumulator_spec.specs.Totals.{number, Term, ofPattern, afterAdding}
 use Rattle.accumulator_spec.specs.Columns.{column, AllFinite}
@@ -25,20 +25,20 @@ use Rattle.sheet_spec.specs.Printed.{blank, pairTerms, lineTerms, Progre
 use Rattle.sheet_spec.specs.Theorems.{NeverRefused, LineTerms, termsOf, TotalTakesAll}
 
 -- ---- the terms of a line: none, or two that are finite
-pair-terms : (f : Filling·Answer) → AllFinite (pairTerms f) × (length (pairTerms f) ≤ 2)
+pair-terms : (f : Answer FilledSheet) → AllFinite (pairTerms f) × (length (pairTerms f) ≤ 2)
 unfolding AllFinite
-pair-terms (filling·refused n) = (tt, omega arith)
-pair-terms (filled n p) = go (isFinite (decode binary32 (p .first))) (isFinite (decode binary32 (p .second))) refl refl
+pair-terms (refused n) = (tt, omega arith)
+pair-terms (done s) = go (isFinite (decode binary32 (s .pair .first))) (isFinite (decode binary32 (s .pair .second))) refl refl
   where
-    go : (b c : Bool) → isFinite (decode binary32 (p .first)) ≡ b → isFinite (decode binary32 (p .second)) ≡ c
-        → AllFinite (cond (b && c) (ofPattern (p .first) ∷ ofPattern (p .second) ∷ []) []) × (length (cond (b && c) (ofPattern (p .first) ∷ ofPattern (p .second) ∷ []) []) ≤ 2)
+    go : (b c : Bool) → isFinite (decode binary32 (s .pair .first)) ≡ b → isFinite (decode binary32 (s .pair .second)) ≡ c
+        → AllFinite (cond (b && c) (ofPattern (s .pair .first) ∷ ofPattern (s .pair .second) ∷ []) []) × (length (cond (b && c) (ofPattern (s .pair .first) ∷ ofPattern (s .pair .second) ∷ []) []) ≤ 2)
     go true true e f = ((e, (f, tt)), omega arith)
     go true false e f = (tt, omega arith)
     go false c e f = (tt, omega arith)
 
-terms-of : (a : Answer) → AllFinite (lineTerms a) × (length (lineTerms a) ≤ 2)
+terms-of : (a : Answer Asked) → AllFinite (lineTerms a) × (length (lineTerms a) ≤ 2)
 unfolding AllFinite
-terms-of (asked o x y) = pair-terms (filling o x y blank)
+terms-of (done q) = pair-terms (filling (q .operation) (q .x) (q .y) blank)
 terms-of (refused n) = (tt, omega arith)
 
 finite-append : (xs ys : List Term) → AllFinite xs → AllFinite ys → AllFinite (xs ++ ys)
@@ -77,7 +77,7 @@ pub never-refused : NeverRefused
 unfolding answerOf
 never-refused line o x y e =
     let t = only-text line o x y e in
-    ap isFilled (fills o x y blank (rw (le-leb 1 o (t .1), le-leb o 3 (t .2))) (le-refl 65))
+    ap isDone (fills o x y blank (rw (le-leb 1 o (t .1), le-leb o 3 (t .2))) (le-refl 65))
 
 -- ---- the terms of a line, by its question's pair
 module _ (o x y : ℕ) (known : isOperation o ≡ true) where

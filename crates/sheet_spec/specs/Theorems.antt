@@ -5,11 +5,12 @@ use mathlib.Core.Logic.{_⊎_}
 use mathlib.Core.Bool.{true, false}
 use mathlib.Core.List.{List, [], _∷_, _++_}
 use lib.ListN.{length}
+use Rattle.pattern_spec.specs.Answer.{refused, isDone}
 use Rattle.rounding_spec.specs.Format.{binary32}
 use Rattle.rounding_spec.specs.Value.{decode, isFinite}
-use Rattle.augmented_spec.specs.Direct.{directPair}
-use Rattle.worksheet_spec.specs.Filling.{operationOf, isFilled, filling}
-use Rattle.question_spec.specs.Questions.{asked, refused, reading}
+use Rattle.augmented_spec.specs.Direct.{directPair, operationOf}
+use Rattle.worksheet_spec.specs.Filling.{filling}
+use Rattle.question_spec.specs.Questions.{asked, reading}
 use Rattle.transcript_spec.specs.Texts.{badText, totalText, endText}
 use Rattle.accumulator_spec.specs.Totals.{number, Term, ofPattern}
 use Rattle.accumulator_spec.specs.Columns.{zeros, column, Accepted, columnSum}
@@ -39,7 +40,7 @@ NothingAfterStop = (s : State) (bytes : List ℕ) → s .stopped ≡ true → (t
 
 -- ---- no question that is read is refused when its sheet is filled
 abbrev pub NeverRefused : Type 0
-NeverRefused = (line : List ℕ) (o x y : ℕ) → reading line ≡ asked o x y → isFilled (filling o x y blank) ≡ true
+NeverRefused = (line : List ℕ) (o x y : ℕ) → reading line ≡ asked o x y → isDone (filling o x y blank) ≡ true
 
 -- ---- "`total` adds every finite printed pair"
 -- the terms of all lines, in order

@@ -5,10 +5,9 @@ use borrow.Author.Tests.{ne-eqb}
 use Rattle.rounding_spec.specs.Format.{binary32}
 use Rattle.augmented_spec.specs.declared.Pair.{Pair}
 use Rattle.augmented_spec.specs.Pairs.{sumPair, differencePair, productPair}
-use Rattle.augmented_spec.specs.Direct.{directPair}
+use Rattle.augmented_spec.specs.Direct.{directPair, operationOf}
 use Rattle.worksheet_spec.specs.Lines.{minus}
 use Rattle.worksheet_spec.specs.Sheets.{sumSheet, productSheet, sheetOf}
-use Rattle.worksheet_spec.specs.Filling.{operationOf}
 use Rattle.worksheet_lines.specs.Inner.{Follows}
 use Rattle.worksheet_lines.specs.declared.Foot.{Foot}
 use Rattle.worksheet_lines.proofs.Placed.{Places}

@@ -8,9 +8,9 @@ ghost use mathlib.Core.Path.{_≡_};
 ghost use Prim.Native.Nat.{_≤_};
 ghost use lib.ListN.{length};
 ghost use Rattle.rounding_spec.specs.Format.{binary32};
-ghost use Rattle.augmented_spec.specs.Direct.{directPair};
+ghost use Rattle.augmented_spec.specs.Direct.{directPair, operationOf};
 ghost use Rattle.worksheet_spec.specs.Sheets.{sheetOf};
-ghost use Rattle.worksheet_spec.specs.Filling.{operationOf, filling, afterFilling, HasDirectPair};
+ghost use Rattle.worksheet_spec.specs.Filling.{filling, afterFilling, HasDirectPair};
 ghost use Rattle.worksheet.specs.Answers.{answerFilled};
 ghost use Rattle.worksheet_lines.specs.Inner.{Follows};
 

@@ -9,12 +9,13 @@ use borrow.Author.Tests.{lt-ltb, le-ltb, le-leb, lt-leb}
 use lib.Dec.{ltb}
 use lib.ListN.{length, take, drop, replicate, length-append, length-replicate, length-drop}
 use lib.Seq.{take-at, drop-at}
+use Rattle.pattern_spec.specs.Answer.{refused}
 use Rattle.rounding_spec.specs.Format.{binary32}
 use Rattle.augmented_spec.specs.declared.Pair.{Pair}
-use Rattle.augmented_spec.specs.Direct.{Operation, sum, difference, product, directPair}
+use Rattle.augmented_spec.specs.Direct.{Operation, sum, difference, product, directPair, isOperation, operationNumber, operationOf}
 use Rattle.worksheet_spec.specs.Lines.{Line}
 use Rattle.worksheet_spec.specs.Sheets.{sheetOf}
-use Rattle.worksheet_spec.specs.Filling.{isOperation, operationNumber, operationOf, lineWords, wordsOf, sheetWords, refused, filled, answerOf, filling, afterFilling, HasDirectPair}
+use Rattle.worksheet_spec.specs.Filling.{lineWords, wordsOf, sheetWords, filled, answerOf, filling, afterFilling, HasDirectPair}
 use Rattle.worksheet_spec.specs.Theorems.{FillingRefused, FilledPair}
 use Rattle.worksheet_spec.proofs.FootIsPair.{foot-is-pair}
 

@@ -5,15 +5,16 @@ use mathlib.Core.Bool.{true, false, cond}
 use mathlib.Core.List.{List, [], _∷_, _++_}
 use Prim.Native.Nat.{ℕ, _-_, _*_, _^_, _≤_, _<_}
 use lib.ListN.{length, take, drop, replicate}
+use Rattle.pattern_spec.specs.Answer.{refused}
 use Rattle.rounding_spec.specs.Format.{binary32}
 use Rattle.rounding_spec.specs.Value.{Value, nan, infinite, finite, isFinite, encode}
 use Rattle.binary32_spec.specs.Steps.{addStep, subStep, mulStep, fmaStep}
-use Rattle.augmented_spec.specs.Direct.{Operation, sum, difference, product, directPair}
+use Rattle.augmented_spec.specs.Direct.{Operation, sum, difference, product, directPair, operationNumber, operationOf}
 use Rattle.errorfree_spec.specs.Comparisons.{lessMagnitude}
 use Rattle.worksheet_spec.specs.Constants.{psi, two, minusTwo, half, kappa, twoTo24, twoTo48, twoToMinus24, plusZero, smallest, twoTo127, twoTo102, twoToMinus102, twoToMinus126}
 use Rattle.worksheet_spec.specs.Lines.{Step, add, subtract, multiply, fused, number, Line, line, value, minus, equal, zero}
 use Rattle.worksheet_spec.specs.Sheets.{sheetOf}
-use Rattle.worksheet_spec.specs.Filling.{operationNumber, operationOf, refused, filled, filling, afterFilling, HasDirectPair}
+use Rattle.worksheet_spec.specs.Filling.{filled, filling, afterFilling, HasDirectPair}
 
 -- ---- the constants: each is the pattern of its number. Magnitudes count u = 2^-149, so 1 is 2 ^ 149 of them.
 abbrev pub patternOf : ℕ → ℕ

@@ -1,6 +1,6 @@
 use borrow.Author.Needs.{needs}
 use mathlib.Core.Path.{ap, _∙_}
-use Rattle.exports_sheets.specs.Answers.{replayNumber}
+use Rattle.pattern_spec.specs.Answer.{refusalOf}
 use Rattle.exports_sheets.proofs.jirmeklo_replay.Statement.{statement}
 use Rattle.exports_sheets.proofs.jirmeklo_replay.Tie as tie
 
@@ -22,7 +22,7 @@ same-length-3 c = search needs
 returns : tie.Need-returns
 returns c =
     let r = c .before .before .before .before .before .before .before .replay in
-    (c .number .ensures ∙ ap replayNumber (r .ensures .0), (r .ensures .1 .0, (r .ensures .1 .1 .0, r .ensures .1 .1 .1 .0)))
+    (c .number .ensures ∙ ap refusalOf (r .ensures .0), (r .ensures .1 .0, (r .ensures .1 .1 .0, r .ensures .1 .1 .1 .0)))
 
 pub jirmeklo-replay-spec : {M : Type 1} → statement M
 jirmeklo-replay-spec =

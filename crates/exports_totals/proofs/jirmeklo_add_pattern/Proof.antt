@@ -1,6 +1,6 @@
 use borrow.Author.Needs.{needs}
 use mathlib.Core.Path.{ap, _∙_}
-use Rattle.exports_totals.specs.Answers.{refusalNumber}
+use Rattle.pattern_spec.specs.Answer.{refusalOf}
 use Rattle.exports_totals.proofs.jirmeklo_add_pattern.Statement.{statement}
 use Rattle.exports_totals.proofs.jirmeklo_add_pattern.Tie as tie
 
@@ -16,7 +16,7 @@ same-length c = search needs
 returns : tie.Need-returns
 returns c =
     let r = c .before .before .before .add-pattern in
-    (c .number .ensures ∙ ap refusalNumber (r .ensures .0), r .ensures .1)
+    (c .number .ensures ∙ ap refusalOf (r .ensures .0), r .ensures .1)
 
 pub jirmeklo-add-pattern-spec : {M : Type 1} → statement M
 jirmeklo-add-pattern-spec =

@@ -1,6 +1,6 @@
 use borrow.Author.Needs.{needs}
 use mathlib.Core.Path.{ap, _∙_}
-use Rattle.exports_totals.specs.Answers.{refusalNumber}
+use Rattle.pattern_spec.specs.Answer.{refusalOf}
 use Rattle.exports_totals.proofs.jirmeklo_add_product.Statement.{statement}
 use Rattle.exports_totals.proofs.jirmeklo_add_product.Tie as tie
 
@@ -16,7 +16,7 @@ same-length c = search needs
 returns : tie.Need-returns
 returns c =
     let r = c .before .before .before .add-product in
-    (c .number .ensures ∙ ap refusalNumber (r .ensures .0), r .ensures .1)
+    (c .number .ensures ∙ ap refusalOf (r .ensures .0), r .ensures .1)
 
 pub jirmeklo-add-product-spec : {M : Type 1} → statement M
 jirmeklo-add-product-spec =

@@ -1,6 +1,6 @@
 use borrow.Author.Needs.{needs}
 use mathlib.Core.Path.{ap}
-use Rattle.exports_totals.specs.Answers.{refusalNumber}
+use Rattle.pattern_spec.specs.Answer.{refusalOf}
 use Rattle.exports_totals.proofs.jirmeklo_clear.Statement.{statement}
 use Rattle.exports_totals.proofs.jirmeklo_clear.Tie as tie
 
@@ -20,7 +20,7 @@ returns : tie.Need-returns
 returns c =
     let r = c .before .before .before .before .clear in
     let e = rw (c .enum-told .given .1) at (r .ensures .0) in
-    (ap refusalNumber e, r .ensures .1)
+    (ap refusalOf e, r .ensures .1)
 
 same-length-2 : tie.Need-same-length-2
 same-length-2 c = search needs
@@ -29,7 +29,7 @@ returns-2 : tie.Need-returns-2
 returns-2 c =
     let r = c .before .before .before .before .clear in
     let e = rw (c .enum-told2 .given .1) at (r .ensures .0) in
-    (ap refusalNumber e, r .ensures .1)
+    (ap refusalOf e, r .ensures .1)
 
 pub jirmeklo-clear-spec : {M : Type 1} → statement M
 jirmeklo-clear-spec =

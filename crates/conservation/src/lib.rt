@@ -9,7 +9,7 @@ ghost use Rattle.lists.specs.Lists.{run};
 ghost use Rattle.conservation.specs.Replay.{eventsOf, wordsAfter, allWithin, replaying, totalsAfter, wordsLeft};
 ghost use Rattle.conservation.specs.Theorems.{Conserves};
 
-// Carried out, or refused by 21 to 24 in this order.
+// Carried out, or refused by 101 to 104 in this order.
 pub enum Replayed {
     Done,
     Unequal,

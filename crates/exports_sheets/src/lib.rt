@@ -75,9 +75,9 @@ fn number(answer: Replayed) -> u32
 {
     match answer {
         Replayed::Done => 0,
-        Replayed::Unequal => 21,
-        Replayed::TooMany => 22,
-        Replayed::NotCleared => 23,
-        Replayed::PastWords => 24,
+        Replayed::Unequal => 101,
+        Replayed::TooMany => 102,
+        Replayed::NotCleared => 103,
+        Replayed::PastWords => 104,
     }
 }

@@ -51,7 +51,7 @@ pub const FAULTS: [(Fault, Source, &str); 24] = [
     (Fault::ReplayTakesFewer, Source::Replayed(Shape::Long), "32,768 questions refused"),
     (Fault::ReplayTakesUncleared, Source::RefusedReplays, "a total that is not cleared taken"),
     (Fault::ReplayTakesLong, Source::RefusedReplays, "a count above the words taken"),
-    (Fault::ReplayOrder, Source::RefusedReplays, "24 before 23"),
+    (Fault::ReplayOrder, Source::RefusedReplays, "104 before 103"),
     (Fault::ReplayRefusalWrites, Source::RefusedReplays, "a refused replay that writes"),
     (Fault::InexactEnters, Source::Replayed(Shape::Random), "a product with X added"),
 ];
@@ -92,12 +92,12 @@ impl Fault {
         let uncleared = lents.first.words() != [0; 21] || lents.second.words() != [0; 21];
         let long = arrays.counts.iter().any(|&count| count as usize > lents.words.words().len());
         match self {
-            Fault::ReplayTakesFewer if count == 32_768 => return 22,
+            Fault::ReplayTakesFewer if count == 32_768 => return 102,
             Fault::ReplayTakesUnequal if !arrays.are_equal() => return 0,
             Fault::ReplayTakesMore if arrays.are_equal() && count > 32_768 => return 0,
             Fault::ReplayTakesUncleared if arrays.are_equal() && uncleared => return 0,
             Fault::ReplayTakesLong if arrays.are_equal() && long => return 0,
-            Fault::ReplayOrder if arrays.are_equal() && count <= 32_768 && long => return 24,
+            Fault::ReplayOrder if arrays.are_equal() && count <= 32_768 && long => return 104,
             _ => {}
         }
         self.given(arrays, lents)

@@ -1,19 +1,72 @@
--- The answers of calls on sheets and lists as numbers, for other languages: document 01 leaves free how they are handed over. Assumes nothing.
+-- What the exported calls on sheets and lists answer, as numbers, and the words that they leave (R5, R7, R8).
 use Prim.Native.Nat.{ℕ}
+use mathlib.Core.Path.{_≡_}
+use mathlib.Core.Bool.{cond}
+use mathlib.Core.List.{List}
+use lib.Dec.{eqb}
 use Rattle.pairs.specs.Direct.{none}
-use Rattle.emulation.specs.Filling as Filling
-use Rattle.conservation.specs.Replay as Replay
-use Rattle.exports_sheets.specs.declared.Sheet.{Sheet}
+use Rattle.emulation.specs.Filling.{refused as filling·refused, filled, Answer as FillingAnswer, filling, afterFilling, HasDirectPair}
+use Rattle.lists.specs.Lists.{Totals, Event}
+use Rattle.conservation.specs.Replay.{refused as replay·refused, done, Answer as ReplayAnswer, eventsOf, replaying, totalsAfter, wordsLeft}
+use Rattle.conservation.specs.Theorems.{Conserves}
+use Rattle.jirmeklo.specs.declared.sheets.FlatFilled.{FlatFilled}
 
--- the line count and the pair of a filled sheet; zeros and no flag where there is none
-abbrev pub noSheet : ℕ → Sheet
-noSheet n = record { refusal = n; lines = 0; pair = record { first = 0; second = 0; flags = none } }
+-- ---- filling a sheet
+-- zeros and no flag where there is none
+abbrev pub noSheet : ℕ → FlatFilled
+noSheet n = record { refusal = n; lines = 0; first = 0; second = 0; flags = none }
 
-abbrev pub sheetReply : Filling.Answer → Sheet
-sheetReply (Filling.refused n) = noSheet n
-sheetReply (Filling.filled n p) = record { refusal = 0; lines = n; pair = p }
+-- the line count of a filled sheet, the pair at its foot and the flags
+abbrev pub filledNumbers : FillingAnswer → FlatFilled
+filledNumbers (filling·refused n) = noSheet n
+filledNumbers (filled n p) = record { refusal = 0; lines = n; first = p .first; second = p .second; flags = p .flags }
 
--- the number of a refusal of a list, and 0 for one that is carried out
-abbrev pub replayNumber : Replay.Answer → ℕ
-replayNumber (Replay.refused n) = n
-replayNumber Replay.done = 0
+-- the answer that the numbers stand for
+abbrev pub filledAnswer : FlatFilled → FillingAnswer
+filledAnswer r =
+    cond (eqb (r .refusal) 0) (filled (r .lines) (record { first = r .first; second = r .second; flags = r .flags }))
+    (filling·refused (r .refusal))
+
+-- r is answered, and the lent words are `after` where they were `before`; a sheet that is filled has the direct pair and its flags
+abbrev pub Fills : ℕ → ℕ → ℕ → FlatFilled → List ℕ → List ℕ → Type 0
+Fills operation x y r before after =
+    (r ≡ filledNumbers (filling operation x y before))
+    × (after ≡ afterFilling operation x y before)
+    × HasDirectPair operation x y (filledAnswer r)
+
+-- ---- replaying a list
+-- the number of a refusal, and 0 for a list that is carried out
+abbrev pub replayNumber : ReplayAnswer → ℕ
+replayNumber (replay·refused n) = n
+replayNumber done = 0
+
+-- the answer that the number stands for
+abbrev pub replayAnswer : ℕ → ReplayAnswer
+replayAnswer r = cond (eqb r 0) done (replay·refused r)
+
+-- the arrays that say what is asked
+pub record Asked : Type 0 where
+  pub operations : List ℕ
+  pub xs : List ℕ
+  pub ys : List ℕ
+  pub counts : List ℕ
+
+-- the arrays that are written: the words that the questions fill, and the two totals
+pub record Lent : Type 0 where
+  pub words : List ℕ
+  pub first : List ℕ
+  pub second : List ℕ
+
+abbrev pub totals : Lent → Totals
+totals l = record { first = l .first; other = l .second }
+
+abbrev pub events : Asked → Lent → List Event
+events q l = eventsOf (q .operations) (q .xs) (q .ys) (q .counts) (l .words)
+
+-- r is answered, and the arrays that are written are `after` where they were `before`
+pub record Replays (r : ℕ) (q : Asked) (before after : Lent) : Type 0 where
+  pub answered : r ≡ replayNumber (replaying (q .operations) (q .xs) (q .ys) (q .counts) (before .words) (before .first) (before .second))
+  pub totalled : totals after ≡ totalsAfter (q .operations) (q .xs) (q .ys) (q .counts) (before .words) (before .first) (before .second)
+  pub written : after .words ≡ wordsLeft (q .operations) (q .xs) (q .ys) (q .counts) (before .words) (before .first) (before .second)
+  -- where it is carried out, the claim about lists holds of the questions and of both totals
+  pub conserved : Conserves (replayAnswer r) (totals before) (totals after) (events q before)

@@ -1,15 +1,15 @@
-// Column totals for programs in C and Rust. Lent words are a pointer and a count.
+// Column totals for programs in C. Lent words are a pointer and a count.
 use accumulator::Added;
 use accumulator::Cleared;
 use accumulator::Reading;
 ghost use mathlib.Core.Path.{_≡_};
-ghost use Rattle.totals.specs.Totals.{ofPattern, ofProduct, adding, afterAdding, clearing, afterClearing, reading};
+ghost use Rattle.totals.specs.Totals.{ofPattern, ofProduct, reading};
 ghost use Rattle.accumulator.specs.Answers.{answerAdded};
-ghost use Rattle.exports_totals.specs.Answers.{refusalNumber, replyOf};
+ghost use Rattle.jirmeklo.specs.Totals.{refusalNumber, noReading, readingNumbers, Clears, Adds};
 
-// Document 01's number of the refusal, and two zeros; or 0, and the pair.
+// The refusal's number and two zeros; or 0 and the pair.
 #[repr(C)]
-pub struct Reply {
+pub struct FlatReading {
     pub refusal: u32,
     pub first: u32,
     pub second: u32,
@@ -17,7 +17,7 @@ pub struct Reply {
 
 #[no_mangle]
 pub extern "C" fn jirmeklo_clear(total: &mut [u32]) -> u32
-    ensures { λ r. ⌜ (r ≡ refusalNumber (clearing (now (total .entry)))) × (now (total .exit) ≡ afterClearing (now (total .entry))) ⌝ }
+    ensures { λ r. ⌜ Clears r (now (total .entry)) (now (total .exit)) ⌝ }
 {
     let answer = accumulator::clear(total);
     match answer {
@@ -28,31 +28,35 @@ pub extern "C" fn jirmeklo_clear(total: &mut [u32]) -> u32
 
 #[no_mangle]
 pub extern "C" fn jirmeklo_add_pattern(total: &mut [u32], x: u32) -> u32
-    ensures { λ r. ⌜ (r ≡ refusalNumber (adding (now (total .entry)) (ofPattern x))) × (now (total .exit) ≡ afterAdding (now (total .entry)) (ofPattern x)) ⌝ }
+    ensures { λ r. ⌜ Adds (ofPattern x) r (now (total .entry)) (now (total .exit)) ⌝ }
 {
-    number(accumulator::add_pattern(total, x))
+    refusal_number(accumulator::add_pattern(total, x))
 }
 
 #[no_mangle]
 pub extern "C" fn jirmeklo_add_product(total: &mut [u32], x: u32, y: u32) -> u32
-    ensures { λ r. ⌜ (r ≡ refusalNumber (adding (now (total .entry)) (ofProduct x y))) × (now (total .exit) ≡ afterAdding (now (total .entry)) (ofProduct x y)) ⌝ }
+    ensures { λ r. ⌜ Adds (ofProduct x y) r (now (total .entry)) (now (total .exit)) ⌝ }
 {
-    number(accumulator::add_product(total, x, y))
+    refusal_number(accumulator::add_product(total, x, y))
 }
 
 #[no_mangle]
-pub extern "C" fn jirmeklo_read(total: &[u32]) -> Reply
-    ensures { λ r. ⌜ r ≡ replyOf (reading (now (total .entry))) ⌝ }
+pub extern "C" fn jirmeklo_read(total: &[u32]) -> FlatReading
+    ensures { λ r. ⌜ r ≡ readingNumbers (reading (now (total .entry))) ⌝ }
 {
     let answer = accumulator::read(total);
     match answer {
-        Reading::Pair { first, second } => answered(0, first, second),
-        Reading::Length => answered(5, 0, 0),
-        Reading::Unfit => answered(6, 0, 0),
+        Reading::Pair { first, second } => FlatReading {
+            refusal: 0,
+            first,
+            second,
+        },
+        Reading::Length => refused(5),
+        Reading::Unfit => refused(6),
     }
 }
 
-fn number(answer: Added) -> u32
+fn refusal_number(answer: Added) -> u32
     ensures { λ r. ⌜ r ≡ refusalNumber (answerAdded answer) ⌝ }
 {
     match answer {
@@ -64,12 +68,12 @@ fn number(answer: Added) -> u32
     }
 }
 
-fn answered(refusal: u32, first: u32, second: u32) -> Reply
-    ensures { λ r. ⌜ r ≡ record { refusal = refusal; first = first; second = second } ⌝ }
+fn refused(refusal: u32) -> FlatReading
+    ensures { λ r. ⌜ r ≡ noReading refusal ⌝ }
 {
-    Reply {
+    FlatReading {
         refusal,
-        first,
-        second,
+        first: 0,
+        second: 0,
     }
 }

@@ -1,5 +1,8 @@
-// The steps and pairs for programs in C and Rust.
-use pairs::Pair;
+// The library's functions for programs in C and other languages: steps and pairs here, totals and sheets in files of their own.
+mod column_totals;
+mod sheets;
+
+use augmented::Pair;
 ghost use mathlib.Core.Path.{_≡_};
 ghost use Rattle.rounding.specs.Format.{binary32};
 ghost use Rattle.steps.specs.Steps.{addStep, subStep, mulStep, fmaStep};

@@ -1,6 +1,6 @@
 use borrow.Author.Needs.{needs}
-use Rattle.exports.proofs.jirmeklo_add.Statement.{statement}
-use Rattle.exports.proofs.jirmeklo_add.Tie as tie
+use Rattle.jirmeklo.proofs.jirmeklo_add.Statement.{statement}
+use Rattle.jirmeklo.proofs.jirmeklo_add.Tie as tie
 
 add-requires : tie.Need-add-requires
 add-requires c κs = search needs

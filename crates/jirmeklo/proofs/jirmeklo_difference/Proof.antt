@@ -1,6 +1,6 @@
 use borrow.Author.Needs.{needs}
-use Rattle.exports.proofs.jirmeklo_difference.Statement.{statement}
-use Rattle.exports.proofs.jirmeklo_difference.Tie as tie
+use Rattle.jirmeklo.proofs.jirmeklo_difference.Statement.{statement}
+use Rattle.jirmeklo.proofs.jirmeklo_difference.Tie as tie
 
 difference-requires : tie.Need-difference-requires
 difference-requires c κs = search needs

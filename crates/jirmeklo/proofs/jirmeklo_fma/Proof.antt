@@ -1,6 +1,6 @@
 use borrow.Author.Needs.{needs}
-use Rattle.exports.proofs.jirmeklo_fma.Statement.{statement}
-use Rattle.exports.proofs.jirmeklo_fma.Tie as tie
+use Rattle.jirmeklo.proofs.jirmeklo_fma.Statement.{statement}
+use Rattle.jirmeklo.proofs.jirmeklo_fma.Tie as tie
 
 fma-requires : tie.Need-fma-requires
 fma-requires c κs = search needs

@@ -1,6 +1,6 @@
 use borrow.Author.Needs.{needs}
-use Rattle.exports.proofs.jirmeklo_mul.Statement.{statement}
-use Rattle.exports.proofs.jirmeklo_mul.Tie as tie
+use Rattle.jirmeklo.proofs.jirmeklo_mul.Statement.{statement}
+use Rattle.jirmeklo.proofs.jirmeklo_mul.Tie as tie
 
 mul-requires : tie.Need-mul-requires
 mul-requires c κs = search needs

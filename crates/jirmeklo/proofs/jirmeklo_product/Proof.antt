@@ -1,6 +1,6 @@
 use borrow.Author.Needs.{needs}
-use Rattle.exports.proofs.jirmeklo_product.Statement.{statement}
-use Rattle.exports.proofs.jirmeklo_product.Tie as tie
+use Rattle.jirmeklo.proofs.jirmeklo_product.Statement.{statement}
+use Rattle.jirmeklo.proofs.jirmeklo_product.Tie as tie
 
 product-requires : tie.Need-product-requires
 product-requires c κs = search needs

@@ -1,6 +1,6 @@
 use borrow.Author.Needs.{needs}
-use Rattle.exports.proofs.jirmeklo_sub.Statement.{statement}
-use Rattle.exports.proofs.jirmeklo_sub.Tie as tie
+use Rattle.jirmeklo.proofs.jirmeklo_sub.Statement.{statement}
+use Rattle.jirmeklo.proofs.jirmeklo_sub.Tie as tie
 
 sub-requires : tie.Need-sub-requires
 sub-requires c κs = search needs

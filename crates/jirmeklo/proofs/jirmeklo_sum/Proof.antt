@@ -1,6 +1,6 @@
 use borrow.Author.Needs.{needs}
-use Rattle.exports.proofs.jirmeklo_sum.Statement.{statement}
-use Rattle.exports.proofs.jirmeklo_sum.Tie as tie
+use Rattle.jirmeklo.proofs.jirmeklo_sum.Statement.{statement}
+use Rattle.jirmeklo.proofs.jirmeklo_sum.Tie as tie
 
 sum-requires : tie.Need-sum-requires
 sum-requires c κs = search needs

@@ -1,14 +1,14 @@
 use borrow.Author.Needs.{needs}
 use mathlib.Core.Path.{ap, _∙_}
-use Rattle.exports_totals.specs.Answers.{refusalNumber}
-use Rattle.exports_totals.proofs.jirmeklo_add_product.Statement.{statement}
-use Rattle.exports_totals.proofs.jirmeklo_add_product.Tie as tie
+use Rattle.jirmeklo.specs.Totals.{refusalNumber}
+use Rattle.jirmeklo.proofs.column_totals.jirmeklo_add_product.Statement.{statement}
+use Rattle.jirmeklo.proofs.column_totals.jirmeklo_add_product.Tie as tie
 
 add-product-requires : tie.Need-add-product-requires
 add-product-requires c κs = search needs
 
-number-requires : tie.Need-number-requires
-number-requires c κs = search needs
+refusal-number-requires : tie.Need-refusal-number-requires
+refusal-number-requires c κs = search needs
 
 same-length : tie.Need-same-length
 same-length c = search needs
@@ -16,8 +16,8 @@ same-length c = search needs
 returns : tie.Need-returns
 returns c =
     let r = c .before .before .before .add-product in
-    (c .number .ensures ∙ ap refusalNumber (r .ensures .0), r .ensures .1)
+    (c .refusal-number .ensures ∙ ap refusalNumber (r .ensures .0), r .ensures .1)
 
 pub jirmeklo-add-product-spec : {M : Type 1} → statement M
 jirmeklo-add-product-spec =
-    tie.close (tie.spec add-product-requires number-requires same-length returns)
+    tie.close (tie.spec add-product-requires refusal-number-requires same-length returns)

@@ -1,8 +1,8 @@
 use borrow.Author.Needs.{needs}
 use mathlib.Core.Path.{ap}
-use Rattle.exports_totals.specs.Answers.{refusalNumber}
-use Rattle.exports_totals.proofs.jirmeklo_clear.Statement.{statement}
-use Rattle.exports_totals.proofs.jirmeklo_clear.Tie as tie
+use Rattle.jirmeklo.specs.Totals.{refusalNumber}
+use Rattle.jirmeklo.proofs.column_totals.jirmeklo_clear.Statement.{statement}
+use Rattle.jirmeklo.proofs.column_totals.jirmeklo_clear.Tie as tie
 
 clear-requires : tie.Need-clear-requires
 clear-requires c κs = search needs

@@ -1,12 +1,17 @@
-use mathlib.Core.Path.{ap, _∙_}
-use Rattle.exports_sheets.specs.Answers.{sheetReply}
 use borrow.Author.Needs.{needs}
-use Rattle.exports_sheets.proofs.jirmeklo_fill.Statement.{statement}
-use Rattle.exports_sheets.proofs.jirmeklo_fill.Tie as tie
-use Rattle.exports_sheets.proofs.jirmeklo_fill.Reads as reads
-use Rattle.exports_sheets.proofs.jirmeklo_fill.Lts as lts
-use Rattle.exports_sheets.proofs.refused.Reads as refused-reads
-use Rattle.worksheet.proofs.fill.Reads as fill-reads
+use mathlib.Core.Path.{_≡_, refl, ap, sym, subst, _∙_}
+use mathlib.Core.Bool.{false}
+use Prim.Native.Nat.{ℕ}
+use lib.Dec.{eqb}
+use Rattle.emulation.specs.Filling.{HasDirectPair}
+use Rattle.jirmeklo.specs.Sheets.{noSheet, filledNumbers, filledAnswer}
+use Rattle.jirmeklo.specs.declared.sheets.FlatFilled.{FlatFilled}
+use Rattle.jirmeklo.proofs.sheets.jirmeklo_fill.Statement.{statement}
+use Rattle.jirmeklo.proofs.sheets.jirmeklo_fill.Tie as tie
+
+-- of a pair that there is not, nothing is said
+no-pair : (o x y n : ℕ) (r : FlatFilled) → eqb n 0 ≡ false → r ≡ noSheet n → HasDirectPair o x y (filledAnswer r)
+no-pair o x y n r f e = rw (e, f) tt
 
 fill-requires : tie.Need-fill-requires
 fill-requires c κs = search needs
@@ -31,27 +36,31 @@ same-length c = search needs
 
 returns : tie.Need-returns
 returns c =
-    let r = c .before .before .before .before .before .fill in
-    let e = rw (c .before .filled .given .1) at (r .ensures .0) in
-    (ap sheetReply e, r .ensures .1)
+    let r = c .before .before .before .before .before .before .fill in
+    let e = c .before .before .filled .given .1 in
+    (ap filledNumbers (rw e at (r .ensures .0)), r .ensures .1, rw e at (r .ensures .2))
 
 same-length-2 : tie.Need-same-length-2
 same-length-2 c = search needs
 
 returns-2 : tie.Need-returns-2
 returns-2 c =
+    let a = c .before .before .before .before .before .before .before .before .args in
     let r = c .before .before .before .before .before .fill in
     let e = rw (c .before .enum-told .given .1) at (r .ensures .0) in
-    (c .refused .ensures ∙ ap sheetReply e, r .ensures .1)
+    let n = c .refused .ensures in
+    (n ∙ ap filledNumbers e, r .ensures .1, no-pair (a .operation) (a .x) (a .y) 10 _ refl n)
 
 same-length-3 : tie.Need-same-length-3
 same-length-3 c = search needs
 
 returns-3 : tie.Need-returns-3
 returns-3 c =
+    let a = c .before .before .before .before .before .before .before .before .args in
     let r = c .before .before .before .before .before .fill in
     let e = rw (c .before .enum-told2 .given .1) at (r .ensures .0) in
-    (c .refused2 .ensures ∙ ap sheetReply e, r .ensures .1)
+    let n = c .refused2 .ensures in
+    (n ∙ ap filledNumbers e, r .ensures .1, no-pair (a .operation) (a .x) (a .y) 9 _ refl n)
 
 pub jirmeklo-fill-spec : {M : Type 1} → statement M
 jirmeklo-fill-spec =

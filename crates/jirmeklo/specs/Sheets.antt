@@ -1,4 +1,4 @@
--- What the exported calls on sheets and lists answer, as numbers, and the words that they leave (R5, R7, R8).
+-- What the exported calls on sheets and lists answer, as numbers, and the words that they leave.
 use Prim.Native.Nat.{ℕ}
 use mathlib.Core.Path.{_≡_}
 use mathlib.Core.Bool.{cond}
@@ -16,7 +16,7 @@ use Rattle.jirmeklo.specs.declared.sheets.FlatFilled.{FlatFilled}
 abbrev pub noSheet : ℕ → FlatFilled
 noSheet n = record { refusal = n; lines = 0; first = 0; second = 0; flags = none }
 
--- the line count of a filled sheet, the pair at its foot and the flags
+-- the line count of a filled sheet, the pair at its foot and the flags (R8.5, R8.6)
 abbrev pub filledNumbers : FillingAnswer → FlatFilled
 filledNumbers (filling·refused n) = noSheet n
 filledNumbers (filled n p) = record { refusal = 0; lines = n; first = p .first; second = p .second; flags = p .flags }
@@ -27,7 +27,8 @@ filledAnswer r =
     cond (eqb (r .refusal) 0) (filled (r .lines) (record { first = r .first; second = r .second; flags = r .flags }))
     (filling·refused (r .refusal))
 
--- r is answered, and the lent words are `after` where they were `before`; a sheet that is filled has the direct pair and its flags
+-- r is answered, and the lent words are `after` where they were `before`; a sheet that is filled has the direct pair
+-- and its flags (R7.4)
 abbrev pub Fills : ℕ → ℕ → ℕ → FlatFilled → List ℕ → List ℕ → Type 0
 Fills operation x y r before after =
     (r ≡ filledNumbers (filling operation x y before))
@@ -35,7 +36,7 @@ Fills operation x y r before after =
     × HasDirectPair operation x y (filledAnswer r)
 
 -- ---- replaying a list
--- the number of a refusal, and 0 for a list that is carried out
+-- the number of a refusal, and 0 for a list that is carried out (R8.12)
 abbrev pub replayNumber : ReplayAnswer → ℕ
 replayNumber (replay·refused n) = n
 replayNumber done = 0
@@ -51,7 +52,7 @@ pub record Asked : Type 0 where
   pub ys : List ℕ
   pub counts : List ℕ
 
--- the arrays that are written: the words that the questions fill, and the two totals
+-- the arrays that are written: the words that the questions share (R8.13), and the two totals
 pub record Lent : Type 0 where
   pub words : List ℕ
   pub first : List ℕ
@@ -68,5 +69,5 @@ pub record Replays (r : ℕ) (q : Asked) (before after : Lent) : Type 0 where
   pub answered : r ≡ replayNumber (replaying (q .operations) (q .xs) (q .ys) (q .counts) (before .words) (before .first) (before .second))
   pub totalled : totals after ≡ totalsAfter (q .operations) (q .xs) (q .ys) (q .counts) (before .words) (before .first) (before .second)
   pub written : after .words ≡ wordsLeft (q .operations) (q .xs) (q .ys) (q .counts) (before .words) (before .first) (before .second)
-  -- where it is carried out, the claim about lists holds of the questions and of both totals
+  -- where it is carried out, the claim about lists holds of the questions and of both totals (R7.13)
   pub conserved : Conserves (replayAnswer r) (totals before) (totals after) (events q before)

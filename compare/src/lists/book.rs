@@ -1,4 +1,4 @@
-//! The plain book beside the totals, and what document 01 claims of a whole list.
+//! The plain book beside the totals, and what R7 claims of a whole list.
 use super::model::{operation, Filled, WORDS};
 use super::subject::Question;
 use crate::pairs::model as pairs;

@@ -1,5 +1,6 @@
--- The answers of the code's calls: document 01's number and values for each case of its enums. Assumes nothing.
-use Rattle.totals.specs.Totals.{Answer, refused, done, pair}
+-- The answers of the code's calls: document 01's number and values for each case of its enums.
+use Rattle.pattern_spec.specs.Answer.{Answer, refused, done}
+use Rattle.accumulator_spec.specs.Totals.{TwoPatterns, pair}
 use Rattle.accumulator.specs.declared.Cleared.{Cleared}
 use Rattle.accumulator.specs.declared.Added.{Added}
 use Rattle.accumulator.specs.declared.Reading.{Reading}
@@ -7,18 +8,18 @@ use Rattle.accumulator.specs.declared.Cleared.the-variants as the-cleare
 use Rattle.accumulator.specs.declared.Added.the-variants as the-added
 use Rattle.accumulator.specs.declared.Reading.the-variants as the-reading
 
-abbrev pub answerCleared : Cleared → Answer
-answerCleared the-cleared.Done = done
+abbrev pub answerCleared : Cleared → Answer (Unit {0})
+answerCleared the-cleared.Done = done tt
 answerCleared the-cleared.Length = refused 5
 
-abbrev pub answerAdded : Added → Answer
-answerAdded the-added.Done = done
+abbrev pub answerAdded : Added → Answer (Unit {0})
+answerAdded the-added.Done = done tt
 answerAdded the-added.Length = refused 5
 answerAdded the-added.Unfit = refused 6
 answerAdded the-added.NotFinite = refused 7
 answerAdded the-added.Full = refused 8
 
-abbrev pub answerRead : Reading → Answer
+abbrev pub answerRead : Reading → Answer TwoPatterns
 answerRead (the-reading.Pair first second) = pair first second
 answerRead the-reading.Length = refused 5
 answerRead the-reading.Unfit = refused 6

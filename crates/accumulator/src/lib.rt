@@ -1,7 +1,7 @@
 // Exact totals of up to 65,536 patterns and products of two patterns, in 21 lent words.
 ghost use mathlib.Core.Path.{_≡_};
-ghost use Rattle.totals.specs.Totals.{ofPattern, ofProduct, adding, afterAdding, clearing, afterClearing, reading};
-ghost use Rattle.term.specs.Inner.{numbered};
+ghost use Rattle.accumulator_spec.specs.Totals.{ofPattern, ofProduct, adding, afterAdding, clearing, afterClearing, reading};
+ghost use Rattle.accumulator_add.specs.Inner.{numbered};
 ghost use Rattle.accumulator.specs.Answers.{answerCleared, answerAdded, answerRead};
 
 pub enum Cleared {
@@ -41,19 +41,19 @@ pub fn clear(total: &mut [u32]) -> Cleared
 pub fn add_pattern(total: &mut [u32], x: u32) -> Added
     ensures { λ r. ⌜ (answerAdded r ≡ adding (now (total .entry)) (ofPattern x)) × (now (total .exit) ≡ afterAdding (now (total .entry)) (ofPattern x)) ⌝ }
 {
-    named(term::add_pattern(total, x))
+    named(accumulator_add::add_pattern(total, x))
 }
 
 pub fn add_product(total: &mut [u32], x: u32, y: u32) -> Added
     ensures { λ r. ⌜ (answerAdded r ≡ adding (now (total .entry)) (ofProduct x y)) × (now (total .exit) ≡ afterAdding (now (total .entry)) (ofProduct x y)) ⌝ }
 {
-    named(term::add_product(total, x, y))
+    named(accumulator_add::add_product(total, x, y))
 }
 
 pub fn read(total: &[u32]) -> Reading
     ensures { λ r. ⌜ answerRead r ≡ reading (now (total .entry)) ⌝ }
 {
-    let reply = halves::read(total);
+    let reply = accumulator_read::read(total);
     let refusal = reply.refusal;
     match refusal {
         0 => Reading::Pair {

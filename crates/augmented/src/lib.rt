@@ -1,35 +1,45 @@
 // Direct pairs of two binary32 patterns: the result rounded to nearest with ties to zero, RN0 of what that left over, and the flags.
-use operands::flipped;
-pub use pairs::Flags;
-pub use pairs::Pair;
-use parts::is_finite;
-use parts::raised;
+use augmented_pack::is_finite;
+use augmented_pack::raised;
+pub use augmented_spec::Flags;
+pub use augmented_spec::Pair;
+use pattern::flipped;
 ghost use mathlib.Core.Path.{_≡_};
 ghost use mathlib.Core.Bool.{true, false};
-ghost use Rattle.rounding.specs.Format.{binary32};
-ghost use Rattle.rounding.specs.Value.{decode, isFinite};
-ghost use Rattle.pairs.specs.Pairs.{invalid, overflowed, flagsOf, sumPair, differencePair, productPair};
-ghost use Rattle.pairs.specs.Direct.{none};
+ghost use Rattle.rounding_spec.specs.Format.{binary32};
+ghost use Rattle.rounding_spec.specs.Value.{decode, isFinite};
+ghost use Rattle.augmented_spec.specs.Pairs.{invalid, overflowed, flagsOf, sumPair, differencePair, productPair};
+ghost use Rattle.augmented_spec.specs.Direct.{none};
 
 pub fn sum(x: u32, y: u32) -> Pair
     ensures { λ r. ⌜ r ≡ sumPair binary32 x y ⌝ }
 {
-    let both = sum_halves::of_patterns(x, y);
-    pair(x, y, parts::first(both), parts::second(both))
+    let both = augmented_sum::of_patterns(x, y);
+    pair(
+        x,
+        y,
+        augmented_pack::first(both),
+        augmented_pack::second(both),
+    )
 }
 
 pub fn difference(x: u32, y: u32) -> Pair
     ensures { λ r. ⌜ r ≡ differencePair binary32 x y ⌝ }
 {
     let z = flipped(y);
-    let both = sum_halves::of_patterns(x, z);
-    pair(x, z, parts::first(both), parts::second(both))
+    let both = augmented_sum::of_patterns(x, z);
+    pair(
+        x,
+        z,
+        augmented_pack::first(both),
+        augmented_pack::second(both),
+    )
 }
 
 pub fn product(x: u32, y: u32) -> Pair
     ensures { λ r. ⌜ r ≡ productPair binary32 x y ⌝ }
 {
-    product_pairs::of_patterns(x, y)
+    augmented_product::of_patterns(x, y)
 }
 
 // A finite first comes from finite operands, and no sum is inexact.

@@ -1,25 +1,25 @@
 // The four rounding steps on binary32 patterns: the exact result on integers, and one rounding.
-use operands::infinity;
-use rounding::Ties;
-use steps::Class;
-use steps::NAN;
+use pattern::infinity;
+use pattern_spec::Class;
+use pattern_spec::NAN;
+use rounding_spec::Ties;
 ghost use mathlib.Core.Path.{_≡_};
-ghost use Rattle.rounding.specs.declared.Ties.the-variants.{ToEven};
-ghost use Rattle.rounding.specs.Format.{binary32};
-ghost use Rattle.rounding.specs.Value.{encode, round};
-ghost use Rattle.steps.specs.Classes.{valueOf};
-ghost use Rattle.steps.specs.Steps.{addStep, subStep, mulStep, fmaStep};
+ghost use Rattle.rounding_spec.specs.declared.Ties.the-variants.{ToEven};
+ghost use Rattle.rounding_spec.specs.Format.{binary32};
+ghost use Rattle.rounding_spec.specs.Value.{encode, round};
+ghost use Rattle.pattern_spec.specs.Classes.{valueOf};
+ghost use Rattle.binary32_spec.specs.Steps.{addStep, subStep, mulStep, fmaStep};
 
 pub fn add(x: u32, y: u32) -> u32
     ensures { λ r. ⌜ r ≡ addStep x y ⌝ }
 {
-    addition::of_patterns(x, y)
+    binary32_add::of_patterns(x, y)
 }
 
 pub fn sub(x: u32, y: u32) -> u32
     ensures { λ r. ⌜ r ≡ subStep x y ⌝ }
 {
-    addition::of_patterns(x, operands::flipped(y))
+    binary32_add::of_patterns(x, pattern::flipped(y))
 }
 
 pub fn mul(x: u32, y: u32) -> u32
@@ -31,7 +31,7 @@ pub fn mul(x: u32, y: u32) -> u32
 pub fn fma(x: u32, y: u32, z: u32) -> u32
     ensures { λ r. ⌜ r ≡ fmaStep x y z ⌝ }
 {
-    fused::of_patterns(x, y, z)
+    binary32_fma::of_patterns(x, y, z)
 }
 
 // A product with no third operand: the only rounding of `mul`.
@@ -45,6 +45,6 @@ fn rounded(p: Class) -> u32
             sign: s,
             sig: m,
             exp: e,
-        } => nearest::round(Ties::ToEven, s, m, e),
+        } => rounding::round(Ties::ToEven, s, m, e),
     }
 }

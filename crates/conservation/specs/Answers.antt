@@ -1,10 +1,10 @@
--- The answers of the code's call: the number of each case of its enum (specs/Replay.antt). Assumes nothing.
-use Rattle.conservation.specs.Replay.{Answer, refused, done}
+-- The answers of the code's call: the number of each case of its enum (specs/Replay.antt).
+use Rattle.pattern_spec.specs.Answer.{Answer, refused, done}
 use Rattle.conservation.specs.declared.Replayed.{Replayed}
 use Rattle.conservation.specs.declared.Replayed.the-variants as the-replayed
 
-abbrev pub answerReplayed : Replayed → Answer
-answerReplayed the-replayed.Done = done
+abbrev pub answerReplayed : Replayed → Answer (Unit {0})
+answerReplayed the-replayed.Done = done tt
 answerReplayed the-replayed.Unequal = refused 101
 answerReplayed the-replayed.TooMany = refused 102
 answerReplayed the-replayed.NotCleared = refused 103

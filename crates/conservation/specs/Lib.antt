@@ -1,3 +1,1 @@
-pub mod Replay
 pub mod Answers
-pub mod Theorems

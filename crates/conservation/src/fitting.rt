@@ -4,8 +4,9 @@ ghost use mathlib.Core.Path.{_≡_};
 ghost use mathlib.Core.Bool.{not, _&&_};
 ghost use lib.Dec.{eqb};
 ghost use lib.ListN.{length};
+ghost use Rattle.pattern_spec.specs.Answer.{isDone};
 ghost use Rattle.conservation.specs.Answers.{answerReplayed};
-ghost use Rattle.conservation.specs.Replay.{allZero, isCleared, allWithin, replaying, isDone};
+ghost use Rattle.conservation_spec.specs.Replay.{allZero, isCleared, allWithin, replaying};
 
 // `Done` where nothing is wrong.
 pub fn answer(

@@ -1,13 +1,14 @@
 // A list of questions over two totals: one is given the feet of their sheets, the other the terms set.
 mod fitting;
+mod settling;
 
 ghost use mathlib.Core.Path.{_≡_};
 ghost use mathlib.Core.Bool.{true};
 ghost use lib.ListN.{length};
 ghost use Rattle.conservation.specs.Answers.{answerReplayed};
-ghost use Rattle.lists.specs.Lists.{run};
-ghost use Rattle.conservation.specs.Replay.{eventsOf, wordsAfter, allWithin, replaying, totalsAfter, wordsLeft};
-ghost use Rattle.conservation.specs.Theorems.{Conserves};
+ghost use Rattle.conservation_spec.specs.Lists.{run};
+ghost use Rattle.conservation_spec.specs.Replay.{eventsOf, wordsAfter, allWithin, replaying, totalsAfter, wordsLeft};
+ghost use Rattle.conservation_spec.specs.ReplayTheorems.{Conserves};
 
 // Carried out, or refused by 101 to 104 in this order.
 pub enum Replayed {

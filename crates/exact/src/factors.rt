@@ -1,11 +1,11 @@
 // Products of two classes.
-use steps::Class;
+use pattern_spec::Class;
 ghost use mathlib.Core.Path.{_≡_};
 ghost use Prim.Native.Nat.{_*_, _^_};
-ghost use Rattle.rounding.specs.Value.{infinite, finite};
-ghost use Rattle.steps.specs.Exact.{times};
-ghost use Rattle.steps.specs.Classes.{valueOf, Operand};
-ghost use Rattle.steps.specs.Unrounded.{Bounded, ProductIs};
+ghost use Rattle.rounding_spec.specs.Value.{infinite, finite};
+ghost use Rattle.pattern_spec.specs.Exact.{times};
+ghost use Rattle.pattern_spec.specs.Classes.{valueOf, Operand};
+ghost use Rattle.pattern_spec.specs.Unrounded.{Bounded, ProductIs};
 
 // The exact product, in units of 2^-298.
 pub fn times(a: Class, b: Class) -> Class

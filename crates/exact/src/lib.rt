@@ -1,16 +1,16 @@
 // Exact sums and products, before any rounding.
 mod factors;
 
-use operands::classify;
-use pick::pick;
-use pick::pick_sign;
-use steps::Class;
+use choose::choose;
+use choose::choose_sign;
+use pattern::classify;
+use pattern_spec::Class;
 ghost use mathlib.Core.Path.{_≡_};
 ghost use Prim.Native.Nat.{_*_, _%_, _^_, _<_};
-ghost use Rattle.rounding.specs.Format.{binary32};
-ghost use Rattle.rounding.specs.Value.{finite, decode};
-ghost use Rattle.steps.specs.Exact.{plusFinite, times};
-ghost use Rattle.steps.specs.Unrounded.{ProductIs};
+ghost use Rattle.rounding_spec.specs.Format.{binary32};
+ghost use Rattle.rounding_spec.specs.Value.{finite, decode};
+ghost use Rattle.pattern_spec.specs.Exact.{plusFinite, times};
+ghost use Rattle.pattern_spec.specs.Unrounded.{ProductIs};
 
 // An exact sum, whose zero has its sign already.
 pub struct Signed {
@@ -31,13 +31,13 @@ pub fn signed_sum(s: bool, a: u64, t: bool, b: u64) -> Signed
     ensures { λ r. ⌜ plusFinite s a t b ≡ finite (r .sign) (r .sig) ⌝ }
 {
     let above = b < a;
-    let high = pick(above, a, b);
-    let low = pick(above, b, a);
+    let high = choose(above, a, b);
+    let low = choose(above, b, a);
     // An exact zero is minus only where both addends are.
-    let common = pick_sign(s, t, false);
+    let common = choose_sign(s, t, false);
     Signed {
-        sign: pick_sign(above, s, pick_sign(a < b, t, common)),
-        sig: pick(s == t, high + low, high - low),
+        sign: choose_sign(above, s, choose_sign(a < b, t, common)),
+        sig: choose(s == t, high + low, high - low),
     }
 }
 

@@ -4,11 +4,12 @@ use mathlib.Core.Path.{_≡_}
 use mathlib.Core.Bool.{cond}
 use mathlib.Core.List.{List}
 use lib.Dec.{eqb}
-use Rattle.pairs.specs.Direct.{none}
-use Rattle.emulation.specs.Filling.{refused as filling·refused, filled, Answer as FillingAnswer, filling, afterFilling, HasDirectPair}
-use Rattle.lists.specs.Lists.{Totals, Event}
-use Rattle.conservation.specs.Replay.{refused as replay·refused, done, Answer as ReplayAnswer, eventsOf, replaying, totalsAfter, wordsLeft}
-use Rattle.conservation.specs.Theorems.{Conserves}
+use Rattle.pattern_spec.specs.Answer.{Answer, refused, done, refusalOf}
+use Rattle.augmented_spec.specs.Direct.{none}
+use Rattle.worksheet_spec.specs.Filling.{FilledSheet, filled, filling, afterFilling, HasDirectPair}
+use Rattle.conservation_spec.specs.Lists.{Totals, Event}
+use Rattle.conservation_spec.specs.Replay.{eventsOf, replaying, totalsAfter, wordsLeft}
+use Rattle.conservation_spec.specs.ReplayTheorems.{Conserves}
 use Rattle.jirmeklo.specs.declared.sheets.FlatFilled.{FlatFilled}
 
 -- ---- filling a sheet
@@ -17,15 +18,16 @@ abbrev pub noSheet : ℕ → FlatFilled
 noSheet n = record { refusal = n; lines = 0; first = 0; second = 0; flags = none }
 
 -- the line count of a filled sheet, the pair at its foot and the flags (R8.5, R8.6)
-abbrev pub filledNumbers : FillingAnswer → FlatFilled
-filledNumbers (filling·refused n) = noSheet n
-filledNumbers (filled n p) = record { refusal = 0; lines = n; first = p .first; second = p .second; flags = p .flags }
+abbrev pub filledNumbers : Answer FilledSheet → FlatFilled
+filledNumbers (refused n) = noSheet n
+filledNumbers (done s) =
+    record { refusal = 0; lines = s .lines; first = s .pair .first; second = s .pair .second; flags = s .pair .flags }
 
 -- the answer that the numbers stand for
-abbrev pub filledAnswer : FlatFilled → FillingAnswer
+abbrev pub filledAnswer : FlatFilled → Answer FilledSheet
 filledAnswer r =
     cond (eqb (r .refusal) 0) (filled (r .lines) (record { first = r .first; second = r .second; flags = r .flags }))
-    (filling·refused (r .refusal))
+    (refused (r .refusal))
 
 -- r is answered, and the lent words are `after` where they were `before`; a sheet that is filled has the direct pair
 -- and its flags (R7.4)
@@ -36,14 +38,9 @@ Fills operation x y r before after =
     × HasDirectPair operation x y (filledAnswer r)
 
 -- ---- replaying a list
--- the number of a refusal, and 0 for a list that is carried out (R8.12)
-abbrev pub replayNumber : ReplayAnswer → ℕ
-replayNumber (replay·refused n) = n
-replayNumber done = 0
-
--- the answer that the number stands for
-abbrev pub replayAnswer : ℕ → ReplayAnswer
-replayAnswer r = cond (eqb r 0) done (replay·refused r)
+-- the answer that the number stands for (R8.12)
+abbrev pub replayAnswer : ℕ → Answer (Unit {0})
+replayAnswer r = cond (eqb r 0) (done tt) (refused r)
 
 -- the arrays that say what is asked
 pub record Asked : Type 0 where
@@ -66,7 +63,7 @@ events q l = eventsOf (q .operations) (q .xs) (q .ys) (q .counts) (l .words)
 
 -- r is answered, and the arrays that are written are `after` where they were `before`
 pub record Replays (r : ℕ) (q : Asked) (before after : Lent) : Type 0 where
-  pub answered : r ≡ replayNumber (replaying (q .operations) (q .xs) (q .ys) (q .counts) (before .words) (before .first) (before .second))
+  pub answered : r ≡ refusalOf (replaying (q .operations) (q .xs) (q .ys) (q .counts) (before .words) (before .first) (before .second))
   pub totalled : totals after ≡ totalsAfter (q .operations) (q .xs) (q .ys) (q .counts) (before .words) (before .first) (before .second)
   pub written : after .words ≡ wordsLeft (q .operations) (q .xs) (q .ys) (q .counts) (before .words) (before .first) (before .second)
   -- where it is carried out, the claim about lists holds of the questions and of both totals (R7.13)

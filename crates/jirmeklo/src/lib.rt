@@ -1,12 +1,12 @@
 // The library's functions for programs in C and other languages: steps and pairs here, totals and sheets in files of their own.
-mod column_totals;
 mod sheets;
+mod totals;
 
 use augmented::Pair;
 ghost use mathlib.Core.Path.{_≡_};
-ghost use Rattle.rounding.specs.Format.{binary32};
-ghost use Rattle.steps.specs.Steps.{addStep, subStep, mulStep, fmaStep};
-ghost use Rattle.pairs.specs.Pairs.{sumPair, differencePair, productPair};
+ghost use Rattle.rounding_spec.specs.Format.{binary32};
+ghost use Rattle.binary32_spec.specs.Steps.{addStep, subStep, mulStep, fmaStep};
+ghost use Rattle.augmented_spec.specs.Pairs.{sumPair, differencePair, productPair};
 
 #[no_mangle]
 pub extern "C" fn jirmeklo_add(x: u32, y: u32) -> u32

@@ -3,8 +3,9 @@ use augmented::Flags;
 use conservation::Replayed;
 use worksheet::Filled;
 ghost use mathlib.Core.Path.{_≡_};
+ghost use Rattle.pattern_spec.specs.Answer.{refusalOf};
 ghost use Rattle.conservation.specs.Answers.{answerReplayed};
-ghost use Rattle.jirmeklo.specs.Sheets.{noSheet, Fills, replayNumber, Replays};
+ghost use Rattle.jirmeklo.specs.Sheets.{noSheet, Fills, Replays};
 
 // The refusal's number and zeros; or 0, the line count, and the pair at the foot with its flags.
 #[repr(C)]
@@ -73,7 +74,7 @@ pub extern "C" fn jirmeklo_replay(
 }
 
 fn replay_number(answer: Replayed) -> u32
-    ensures { λ r. ⌜ r ≡ replayNumber (answerReplayed answer) ⌝ }
+    ensures { λ r. ⌜ r ≡ refusalOf (answerReplayed answer) ⌝ }
 {
     match answer {
         Replayed::Done => 0,

@@ -1,4 +1,4 @@
--- The cases of a question line, each from the facts that lead to it.
+-- The patterns of a question line whose letters and tabs are right.
 use mathlib.Core.Path.{_≡_, refl, sym, _∙_}
 use mathlib.Core.List.{List}
 use mathlib.Core.Bool.{Bool, true, false, cond, _&&_}
@@ -6,7 +6,8 @@ use Prim.Native.Nat.{ℕ}
 use native.Mathlib.Omega.{arith}
 use borrow.Author.Tests.{eq-eqb, ne-eqb}
 use lib.ListN.{length, getD}
-use Rattle.question.specs.Questions.{operationOf, allDigits, patternFrom, firstPattern, secondPattern, asked, refused, reading}
+use Rattle.pattern_spec.specs.Answer.{refused}
+use Rattle.question_spec.specs.Questions.{lettersOperation, allDigits, patternFrom, firstPattern, secondPattern, asked, reading}
 use Rattle.question.specs.declared.digits.Pattern.the-variants.{Value, NoDigit}
 use Rattle.question.specs.Inner.{patternOf, patternsRead}
 
@@ -18,33 +19,10 @@ no-digits : (b : Bool) (n : ℕ) → cond b (Value n) NoDigit ≡ NoDigit → b 
 no-digits true n e = let z : _≡_ {A = ℕ} 0 1 = cc in absurd (omega arith)
 no-digits false n e = refl
 
-pub length-refused : (s : List ℕ) → (length s ≡ 21 → ⊥) → refused 1 ≡ reading s
-unfolding reading
-length-refused s n = rw (ne-eqb (length s) 21 n)
-
-module _ (s : List ℕ) (op : ℕ) (full : length s ≡ 21) (is : op ≡ operationOf s) where
-  pub letters-refused : op ≡ 0 → refused 2 ≡ reading s
+module _ (s : List ℕ) (op : ℕ) (full : length s ≡ 21) (is : op ≡ lettersOperation s) (known : op ≡ 0 → ⊥) (tab : getD s 3 0 ≡ 9) (tab2 : getD s 12 0 ≡ 9) where
+  pub tabs-passed : patternsRead op s ≡ reading s
   unfolding reading
-  letters-refused z = rw (eq-eqb (length s) 21 full, eq-eqb (operationOf s) 0 (sym is ∙ z))
-
-  module _ (known : op ≡ 0 → ⊥) where
-    pub first-tab-refused : (getD s 3 0 ≡ 9 → ⊥) → refused 3 ≡ reading s
-    unfolding reading
-    first-tab-refused n = rw (eq-eqb (length s) 21 full, ne-eqb (operationOf s) 0 (λ z. known (is ∙ z)), ne-eqb (getD s 3 0) 9 n)
-
-    module _ (tab : getD s 3 0 ≡ 9) where
-      pub second-tab-refused : (getD s 12 0 ≡ 9 → ⊥) → refused 3 ≡ reading s
-      unfolding reading
-      second-tab-refused n = rw (eq-eqb (length s) 21 full, ne-eqb (operationOf s) 0 (λ z. known (is ∙ z)), eq-eqb (getD s 3 0) 9 tab, ne-eqb (getD s 12 0) 9 n)
-
-      module _ (tab2 : getD s 12 0 ≡ 9) where
-        pub digits-refused : (allDigits (firstPattern s) && allDigits (secondPattern s)) ≡ false → refused 4 ≡ reading s
-        unfolding reading
-        digits-refused b = rw (eq-eqb (length s) 21 full, ne-eqb (operationOf s) 0 (λ z. known (is ∙ z)), eq-eqb (getD s 3 0) 9 tab, eq-eqb (getD s 12 0) 9 tab2, b)
-
-        pub tabs-passed : patternsRead op s ≡ reading s
-        unfolding reading
-        tabs-passed = rw (eq-eqb (length s) 21 full, ne-eqb (operationOf s) 0 (λ z. known (is ∙ z)), eq-eqb (getD s 3 0) 9 tab, eq-eqb (getD s 12 0) 9 tab2, is)
+  tabs-passed = rw (eq-eqb (length s) 21 full, ne-eqb (lettersOperation s) 0 (λ z. known (is ∙ z)), eq-eqb (getD s 3 0) 9 tab, eq-eqb (getD s 12 0) 9 tab2, is)
 
 -- ---- the patterns
 module _ (s : List ℕ) (op : ℕ) where

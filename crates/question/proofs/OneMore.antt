@@ -9,9 +9,9 @@ use native.Mathlib.Numerals.{add-one}
 use lib.Dec.{lit<}
 use lib.ListN.{length, drop, getD, drop-of-length-le}
 use lib.Seq.{drop-cons}
-use Rattle.question.specs.Questions.{isDigit, digitValue, allDigits, patternFrom}
+use Rattle.question_spec.specs.Questions.{isDigit, digitValue, allDigits, patternFrom}
 use Rattle.question.specs.Inner.{digitOr16}
-use Rattle.question.proofs.OneDigit.{digit-low}
+use Rattle.question_spec.proofs.OneDigit.{digit-low}
 
 chosen : (b : Bool) (d v : ℕ) → d ≡ cond b v 16 → d < 16 → (b ≡ true) × (d ≡ v)
 chosen true d v e h = (refl, e)

@@ -1,4 +1,2 @@
-pub mod Questions
 pub mod Answers
 pub mod Inner
-pub mod Theorems

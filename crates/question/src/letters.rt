@@ -2,7 +2,7 @@
 ghost use mathlib.Core.Path.{_≡_};
 ghost use Prim.Native.Nat.{_≤_};
 ghost use lib.ListN.{length};
-ghost use Rattle.question.specs.Questions.{starts, operationOf};
+ghost use Rattle.question_spec.specs.Questions.{starts, lettersOperation};
 
 fn starts_with(line: &[u8], three: &[u8; 3]) -> bool
     requires { ⌜ 3 ≤ length (now line) ⌝ }
@@ -19,7 +19,7 @@ fn starts_with(line: &[u8], three: &[u8; 3]) -> bool
 // 0 where they are unknown.
 pub fn operation(line: &[u8]) -> u32
     requires { ⌜ 3 ≤ length (now line) ⌝ }
-    ensures { λ r. ⌜ r ≡ operationOf (now (line .entry)) ⌝ }
+    ensures { λ r. ⌜ r ≡ lettersOperation (now (line .entry)) ⌝ }
 {
     if starts_with(line, b"sum") {
         return 1;

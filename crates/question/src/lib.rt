@@ -5,7 +5,7 @@ mod letters;
 use digits::Pattern;
 ghost use mathlib.Core.Path.{_≡_};
 ghost use lib.ListN.{length};
-ghost use Rattle.question.specs.Questions.{reading};
+ghost use Rattle.question_spec.specs.Questions.{reading};
 ghost use Rattle.question.specs.Answers.{answerOf};
 ghost use Rattle.question.specs.Inner.{patternsRead};
 

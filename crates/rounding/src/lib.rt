@@ -1,5 +1,163 @@
-// What a tie does: to the even last bit (RNe), or to the smaller magnitude (RN0).
-pub enum Ties {
-    ToEven,
-    ToZero,
+// Rounding of an exact magnitude to binary32: the one place where any operation rounds.
+use choose::choose;
+use rounding_spec::Ties;
+ghost use mathlib.Core.Path.{_≡_};
+ghost use Prim.Native.Nat.{suc, _+_, _-_, _*_, _/_, _^_, _≤_, _<_, min, max};
+ghost use lib.Dec.{ltb};
+ghost use Rattle.rounding_spec.specs.Format.{binary32, infinity};
+ghost use Rattle.rounding_spec.specs.Round.{keep, leftOver, roundedUp};
+ghost use Rattle.rounding_spec.specs.Nearest.{dist};
+ghost use Rattle.rounding_spec.specs.Inner.{tieBit};
+ghost use Rattle.rounding_spec.specs.Value.{signed, encode, roundFinite};
+
+const INFINITY: u64 = 0x7f80_0000;
+
+// Rounds sig * 2^exp, counted in 2^-298.
+pub fn round(ties: Ties, sign: bool, sig: u64, exp: u16) -> u32
+    ensures { λ r. ⌜ r ≡ encode binary32 (roundFinite ties binary32 sign (sig * 2 ^ exp)) ⌝ }
+{
+    round_with_rest(ties, sign, sig, exp).pattern
+}
+
+// A rounded number, and what the rounding left over, in the unit of the significand that was rounded.
+pub struct WithRest {
+    pub pattern: u32,
+    pub rest: u64,
+    pub up: bool,
+}
+
+// Rounds sig * 2^exp, counted in 2^-298; the rest counts 2^exp of these. The leading zeros give the shift and the result's exponent.
+// Where the pattern is infinite, rest and side are those of the number that it would be if exponents had no bound.
+pub fn round_with_rest(ties: Ties, sign: bool, sig: u64, exp: u16) -> WithRest
+    ensures { λ r. ⌜ r .pattern ≡ encode binary32 (roundFinite ties binary32 sign (sig * 2 ^ exp)) ⌝ }
+    ensures { λ r. ⌜ r .rest * 2 ^ exp ≡ leftOver ties 23 149 (sig * 2 ^ exp) ⌝ }
+    ensures { λ r. ⌜ r .up ≡ roundedUp ties 23 149 (sig * 2 ^ exp) ⌝ }
+{
+    if sig == 0 {
+        return WithRest {
+            pattern: pack(sign, 0),
+            rest: 0,
+            up: false,
+        };
+    }
+    let zeros = u64::leading_zeros(sig) as u64;
+    let digits = (exp as u64) + 64 - zeros;
+    let place = last_place(digits);
+    let n = sig << zeros;
+    let shift = place + 64 - digits;
+    let q = kept(ties, n, shift);
+    let left = left_over(n, shift, q);
+    WithRest {
+        pattern: pack(sign, assemble(place - 149, q)),
+        rest: left.rest >> zeros,
+        up: left.up,
+    }
+}
+
+// The exponent of the last place of a number with so many digits: 24 are kept, and none below 2^-149.
+fn last_place(digits: u64) -> u64
+    ensures { λ r. ⌜ r ≡ max 149 (digits - 24) ⌝ }
+{
+    if digits <= 173 { 149 } else { digits - 24 }
+}
+
+// n / 2^shift to the nearest whole number.
+fn kept(ties: Ties, n: u64, shift: u64) -> u64
+    requires { ⌜ 0 < shift ⌝ }
+    ensures { λ r. ⌜ r ≡ keep ties shift n ⌝ }
+{
+    if shift > 63 {
+        return kept_far(ties, n, shift);
+    }
+    let q = n >> shift;
+    let rest = n - (q << shift);
+    if rest + tie_bit(ties, q) > 1 << (shift - 1) {
+        q + 1
+    } else {
+        q
+    }
+}
+
+// All digits are dropped; a half that is exactly met goes to 0, which is even, under either rule.
+fn kept_far(ties: Ties, n: u64, shift: u64) -> u64
+    requires { ⌜ 64 ≤ shift ⌝ }
+    ensures { λ r. ⌜ r ≡ keep ties shift n ⌝ }
+{
+    if shift > 64 {
+        return 0;
+    }
+    if n > 0x8000_0000_0000_0000 {
+        return 1;
+    }
+    0
+}
+
+// The distance of two numbers, and whether the second is the larger.
+pub struct Left {
+    pub rest: u64,
+    pub up: bool,
+}
+
+// How far q * 2^shift is from n, where q is n / 2^shift rounded down or up.
+fn left_over(n: u64, shift: u64, q: u64) -> Left
+    requires { ⌜ (n / 2 ^ shift ≤ q) × (q ≤ suc (n / 2 ^ shift)) ⌝ }
+    requires { ⌜ (0 < n) × (2 * (q * 2 ^ shift) ≤ 2 * n + 2 ^ shift) ⌝ }
+    ensures { λ r. ⌜ r .rest ≡ dist (q * 2 ^ shift) n ⌝ }
+    ensures { λ r. ⌜ r .up ≡ ltb n (q * 2 ^ shift) ⌝ }
+{
+    if shift > 63 {
+        return left_far(n, q);
+    }
+    let down = n >> shift;
+    let rest = n - (down << shift);
+    let up = down < q;
+    Left {
+        rest: choose(up, (1 << shift) - rest, rest),
+        up,
+    }
+}
+
+// All digits were dropped: q is 0 or 1, and where it is 1 the unit is 2^64.
+fn left_far(n: u64, q: u64) -> Left
+    requires { ⌜ (q ≤ 1) × (0 < n) ⌝ }
+    ensures { λ r. ⌜ r .rest ≡ dist (q * 2 ^ 64) n ⌝ }
+    ensures { λ r. ⌜ r .up ≡ ltb n (q * 2 ^ 64) ⌝ }
+{
+    if q == 0 {
+        return Left { rest: n, up: false };
+    }
+    Left {
+        rest: 0xffff_ffff_ffff_ffff - n + 1,
+        up: true,
+    }
+}
+
+// What is added to the remainder, so that more than a half means up.
+fn tie_bit(ties: Ties, q: u64) -> u64
+    ensures { λ r. ⌜ r ≡ tieBit ties q ⌝ }
+{
+    match ties {
+        Ties::ToEven => q % 2,
+        Ties::ToZero => 0,
+    }
+}
+
+// Exponent field and fraction side by side. A carry out of the fraction runs into the field by itself.
+fn assemble(field: u64, q: u64) -> u32
+    requires { ⌜ (field ≤ 0x1_0000) × (q ≤ 0x100_0000) ⌝ }
+    ensures { λ r. ⌜ r ≡ min (infinity binary32) (field * 2 ^ 23 + q) ⌝ }
+{
+    let c = field * 0x80_0000 + q;
+    if c < INFINITY {
+        c as u32
+    } else {
+        INFINITY as u32
+    }
+}
+
+fn pack(sign: bool, c: u32) -> u32
+    requires { ⌜ c ≤ infinity binary32 ⌝ }
+    ensures { λ r. ⌜ r ≡ signed binary32 sign c ⌝ }
+{
+    if sign { 0x8000_0000 + c } else { c }
 }

@@ -3,5 +3,5 @@ use libc::STDIN_FILENO;
 use libc::STDOUT_FILENO;
 
 fn main() {
-    stream::run(STDIN_FILENO, STDOUT_FILENO);
+    sheet_stream::run(STDIN_FILENO, STDOUT_FILENO);
 }

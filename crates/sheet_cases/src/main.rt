@@ -7,7 +7,7 @@ fn of_file(name: &[u8]) {
         os::fail(name);
         return;
     }
-    stream::run(file, STDOUT_FILENO);
+    sheet_stream::run(file, STDOUT_FILENO);
     libc::close(file);
 }
 

@@ -1,19 +1,21 @@
 // The lines that are printed. Each function writes its text at the start of the lent buffer and answers its length; where the buffer is too
 // short, no byte is written and the answer is 0.
+mod notices;
+
+use augmented_spec::Pair;
 pub use notices::bad;
 pub use notices::end;
 pub use notices::stop;
 pub use notices::total;
-use pairs::Pair;
-use text_lines::lengths;
-use text_lines::put_answered;
-use text_lines::put_ask;
-use text_lines::put_pair;
-use text_lines::put_step;
+use transcript_lines::lengths;
+use transcript_lines::put_answered;
+use transcript_lines::put_ask;
+use transcript_lines::put_pair;
+use transcript_lines::put_step;
 ghost use mathlib.Core.Path.{_≡_};
 ghost use Prim.Native.Nat.{min};
 ghost use lib.ListN.{getD};
-ghost use Rattle.texts.specs.Texts.{askText, stepText, pairText, answeredText, written, afterWriting};
+ghost use Rattle.transcript_spec.specs.Texts.{askText, stepText, pairText, answeredText, written, afterWriting};
 
 pub fn ask(out: &mut [u8], number: u32, operation: u32, x: u32, y: u32) -> usize
     ensures { λ r. ⌜ (r ≡ written (now (out .entry)) (askText number operation x y)) × (now (out .exit) ≡ afterWriting (now (out .entry)) (askText number operation x y)) ⌝ }

@@ -1,17 +1,16 @@
--- The sheet and the flags of an operation's number. Assumes nothing.
+-- The sheet and the flags of an operation's number.
 use mathlib.Core.Path.{_≡_}
 use Prim.Native.Nat.{ℕ}
 use borrow.Author.Tests.{ne-eqb}
-use Rattle.rounding.specs.Format.{binary32}
-use Rattle.pairs.specs.declared.Pair.{Pair}
-use Rattle.pairs.specs.Pairs.{sumPair, differencePair, productPair}
-use Rattle.pairs.specs.Direct.{directPair}
-use Rattle.emulation.specs.Lines.{minus}
-use Rattle.emulation.specs.Sheets.{sumSheet, productSheet, sheetOf}
-use Rattle.emulation.specs.Filling.{operationOf}
-use Rattle.sheet_lines.specs.Inner.{Follows}
-use Rattle.sheet_lines.specs.declared.Foot.{Foot}
-use Rattle.sheet_lines.proofs.Placed.{Places}
+use Rattle.rounding_spec.specs.Format.{binary32}
+use Rattle.augmented_spec.specs.declared.Pair.{Pair}
+use Rattle.augmented_spec.specs.Pairs.{sumPair, differencePair, productPair}
+use Rattle.augmented_spec.specs.Direct.{directPair, operationOf}
+use Rattle.worksheet_spec.specs.Lines.{minus}
+use Rattle.worksheet_spec.specs.Sheets.{sumSheet, productSheet, sheetOf}
+use Rattle.worksheet_lines.specs.Inner.{Follows}
+use Rattle.worksheet_lines.specs.declared.Foot.{Foot}
+use Rattle.worksheet_lines.proofs.Placed.{Places}
 
 module _ (o x y : ℕ) where
   -- ---- the sheet

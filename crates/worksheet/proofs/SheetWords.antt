@@ -1,4 +1,4 @@
--- A sheet's lines in places of zeros are its words, and what filling answers then. Assumes nothing.
+-- A sheet's lines in places of zeros are its words, and what filling answers then.
 use mathlib.Core.Path.{_≡_, refl, sym, ap, _∙_, subst}
 use mathlib.Core.Logic.{_⊎_}
 use mathlib.Core.Bool.{true}
@@ -8,18 +8,19 @@ use native.Mathlib.Omega.{arith}
 use borrow.Author.Tests.{le-leb}
 use lib.ListN.{length, drop, replicate, length-append}
 use lib.Seq.{set-append-seam, append-snoc}
-use Rattle.rounding.specs.Format.{binary32}
-use Rattle.pairs.specs.declared.Flags.{Flags}
-use Rattle.pairs.specs.Direct.{Operation, directPair}
-use Rattle.emulation.specs.Lines.{Line}
-use Rattle.emulation.specs.Sheets.{sheetOf}
-use Rattle.emulation.specs.Filling.{isOperation, operationOf, lineWords, wordsOf, sheetWords, Answer, refused, filled, answerOf, filling, afterFilling, HasDirectPair}
-use Rattle.emulation.proofs.Filling.{fills, filled-words}
-use Rattle.emulation.proofs.Theorems.{at-most-13, filling-refused, filled-pair}
-use Rattle.sheet_lines.specs.Inner.{placed, Follows, flat}
-use Rattle.sheet_lines.specs.declared.Foot.{Foot}
-use Rattle.sheet_lines.proofs.Placed.{Places}
-use Rattle.sheet_lines.proofs.Copied.{flat-snoc}
+use Rattle.pattern_spec.specs.Answer.{Answer, refused}
+use Rattle.rounding_spec.specs.Format.{binary32}
+use Rattle.augmented_spec.specs.declared.Flags.{Flags}
+use Rattle.augmented_spec.specs.Direct.{Operation, directPair, isOperation, operationOf}
+use Rattle.worksheet_spec.specs.Lines.{Line}
+use Rattle.worksheet_spec.specs.Sheets.{sheetOf}
+use Rattle.worksheet_spec.specs.Filling.{FilledSheet, lineWords, wordsOf, sheetWords, filled, answerOf, filling, afterFilling, HasDirectPair}
+use Rattle.worksheet_spec.proofs.Filling.{fills, filled-words}
+use Rattle.worksheet_spec.proofs.Theorems.{at-most-13, filling-refused, filled-pair}
+use Rattle.worksheet_lines.specs.Inner.{placed, Follows, flat}
+use Rattle.worksheet_lines.specs.declared.Foot.{Foot}
+use Rattle.worksheet_lines.proofs.Placed.{Places}
+use Rattle.worksheet_lines.proofs.Copied.{flat-snoc}
 
 -- ---- words
 abbrev pub blank : ℕ → Places
@@ -62,7 +63,7 @@ lines-at-most-13 o x y f = omega (arith, f .next, at-most-13 o x y .1)
 
 -- ---- answers
 module _ (o x y : ℕ) (words : List ℕ) where
-  abbrev Answers : Answer → List ℕ → Type 0
+  abbrev Answers : Answer FilledSheet → List ℕ → Type 0
   Answers r after = (r ≡ filling o x y words) × (after ≡ afterFilling o x y words) × HasDirectPair o x y r
 
   pub not-an-operation : (o ≡ 0) ⊎ (3 < o) → Answers (refused 10) words

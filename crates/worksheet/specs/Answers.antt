@@ -1,9 +1,10 @@
--- The answers of the code's call: document 01's number and values for each case of its enum. Assumes nothing.
-use Rattle.emulation.specs.Filling.{Answer, refused, filled}
+-- The answers of the code's call: document 01's number and values for each case of its enum.
+use Rattle.pattern_spec.specs.Answer.{Answer, refused}
+use Rattle.worksheet_spec.specs.Filling.{FilledSheet, filled}
 use Rattle.worksheet.specs.declared.Filled.{Filled}
 use Rattle.worksheet.specs.declared.Filled.the-variants as the-filled
 
-abbrev pub answerFilled : Filled → Answer
+abbrev pub answerFilled : Filled → Answer FilledSheet
 answerFilled (the-filled.Sheet lines pair) = filled lines pair
 answerFilled the-filled.Operation = refused 10
 answerFilled the-filled.Words = refused 9

@@ -1,18 +1,18 @@
 // The step sheet of a question in 65 lent words. Each result on a line is a rounding step's.
-use operands::flipped;
-use pairs::Flags;
-use pairs::Pair;
-use sheet_lines::Foot;
-use sheet_lines::Places;
+use augmented_spec::Flags;
+use augmented_spec::Pair;
+use pattern::flipped;
+use worksheet_lines::Foot;
+use worksheet_lines::Places;
 ghost use mathlib.Core.Path.{_≡_};
 ghost use Prim.Native.Nat.{_≤_};
 ghost use lib.ListN.{length};
-ghost use Rattle.rounding.specs.Format.{binary32};
-ghost use Rattle.pairs.specs.Direct.{directPair};
-ghost use Rattle.emulation.specs.Sheets.{sheetOf};
-ghost use Rattle.emulation.specs.Filling.{operationOf, filling, afterFilling, HasDirectPair};
+ghost use Rattle.rounding_spec.specs.Format.{binary32};
+ghost use Rattle.augmented_spec.specs.Direct.{directPair, operationOf};
+ghost use Rattle.worksheet_spec.specs.Sheets.{sheetOf};
+ghost use Rattle.worksheet_spec.specs.Filling.{filling, afterFilling, HasDirectPair};
 ghost use Rattle.worksheet.specs.Answers.{answerFilled};
-ghost use Rattle.sheet_lines.specs.Inner.{Follows};
+ghost use Rattle.worksheet_lines.specs.Inner.{Follows};
 
 pub enum Filled {
     Sheet { lines: u32, pair: Pair },
@@ -43,7 +43,7 @@ fn written(operation: u32, x: u32, y: u32, words: &mut [u32]) -> Filled
 {
     let mut lines = [[0u32; 5]; 13];
     let foot = sheet(&mut lines, operation, x, y);
-    sheet_lines::copy_out(lines, words);
+    worksheet_lines::copy_out(lines, words);
     let pair = Pair {
         first: foot.first,
         second: foot.second,
@@ -67,10 +67,10 @@ fn sheet(lines: &mut Places, operation: u32, x: u32, y: u32) -> Foot
     ensures { λ r. ⌜ Follows (now (lines .entry)) (now (lines .exit)) 0 (sheetOf (operationOf operation) x y) r ⌝ }
 {
     match operation {
-        1 => sheet_sums::sum(lines, x, y),
-        2 => sheet_sums::sum(lines, x, flipped(y)),
+        1 => worksheet_sum::sum(lines, x, y),
+        2 => worksheet_sum::sum(lines, x, flipped(y)),
         // 3
-        _ => sheet_products::product(lines, x, y),
+        _ => worksheet_product::product(lines, x, y),
     }
 }
 

@@ -3,8 +3,8 @@ use Prim.Native.Nat.{ℕ, _-_, _≤_}
 use native.Mathlib.Omega.{arith}
 use lib.ListN.{length, take, replicate, length-set}
 use lib.Seq.{take-all}
-use Rattle.totals.proofs.Answers.{clearing-length, clearing-done}
-use Rattle.totals.proofs.Zeros.{clear-more}
+use Rattle.accumulator_spec.proofs.Answers.{clearing-length, clearing-done}
+use Rattle.accumulator_spec.proofs.Zeros.{clear-more}
 use Rattle.accumulator.proofs.clear.Statement.{statement}
 use Rattle.accumulator.proofs.clear.Tie as tie
 

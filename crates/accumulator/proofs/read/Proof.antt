@@ -2,7 +2,7 @@ use borrow.Author.Needs.{needs}
 use mathlib.Core.Path.{sym, ap, _∙_}
 use Prim.Native.Nat.{ℕ}
 use borrow.Author.Tests.{ne-eqb}
-use Rattle.halves.specs.Inner.{replied}
+use Rattle.accumulator_read.specs.Inner.{replied}
 use Rattle.accumulator.proofs.read.Statement.{statement}
 use Rattle.accumulator.proofs.read.Tie as tie
 

@@ -1,8 +1,8 @@
 use borrow.Author.Needs.{needs}
 use mathlib.Core.Path.{ap, _∙_}
-use Rattle.rounding.specs.Format.{binary32}
-use Rattle.pairs.specs.Pairs.{sumPair, differencePair}
-use Rattle.pairs.proofs.Answered.{none-raised, sum-answer}
+use Rattle.rounding_spec.specs.Format.{binary32}
+use Rattle.augmented_spec.specs.Pairs.{sumPair, differencePair}
+use Rattle.augmented_spec.proofs.Answered.{none-raised, sum-answer}
 use Rattle.augmented.proofs.difference.Statement.{statement}
 use Rattle.augmented.proofs.difference.Tie as tie
 

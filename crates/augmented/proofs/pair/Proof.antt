@@ -1,6 +1,6 @@
 use borrow.Author.Needs.{needs}
 use mathlib.Core.Path.{sym, _∙_}
-use Rattle.pairs.proofs.Patterns.{finite-is}
+use Rattle.augmented_spec.proofs.Patterns.{finite-is}
 use Rattle.augmented.proofs.pair.Statement.{statement}
 use Rattle.augmented.proofs.pair.Tie as tie
 

@@ -1,6 +1,6 @@
 use borrow.Author.Needs.{needs}
 use mathlib.Core.Path.{_∙_}
-use Rattle.pairs.proofs.Answered.{none-raised, sum-answer}
+use Rattle.augmented_spec.proofs.Answered.{none-raised, sum-answer}
 use Rattle.augmented.proofs.sum.Statement.{statement}
 use Rattle.augmented.proofs.sum.Tie as tie
 

@@ -1,6 +1,6 @@
 use borrow.Author.Needs.{needs}
 use mathlib.Core.Path.{sym, _∙_}
-use Rattle.steps.proofs.Result.{add-step}
+use Rattle.binary32_spec.proofs.Result.{add-step}
 use Rattle.binary32.proofs.add.Statement.{statement}
 use Rattle.binary32.proofs.add.Tie as tie
 

@@ -1,10 +1,10 @@
 use borrow.Author.Needs.{needs}
 use mathlib.Core.Path.{sym, ap, _∙_}
-use Rattle.rounding.specs.declared.Ties.the-variants.{ToEven}
-use Rattle.rounding.specs.Format.{binary32}
-use Rattle.rounding.specs.Value.{Value, encode, round}
-use Rattle.steps.specs.Steps.{mulValue}
-use Rattle.steps.proofs.Result.{mul-step}
+use Rattle.rounding_spec.specs.declared.Ties.the-variants.{ToEven}
+use Rattle.rounding_spec.specs.Format.{binary32}
+use Rattle.rounding_spec.specs.Value.{Value, encode, round}
+use Rattle.binary32_spec.specs.Steps.{mulValue}
+use Rattle.binary32_spec.proofs.Result.{mul-step}
 use Rattle.binary32.proofs.mul.Statement.{statement}
 use Rattle.binary32.proofs.mul.Tie as tie
 

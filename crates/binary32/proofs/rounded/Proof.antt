@@ -1,6 +1,6 @@
 use borrow.Author.Needs.{needs}
-use Rattle.rounding.specs.Value.{encode, round}
-use Rattle.steps.specs.Classes.{valueOf}
+use Rattle.rounding_spec.specs.Value.{encode, round}
+use Rattle.pattern_spec.specs.Classes.{valueOf}
 use Rattle.binary32.proofs.rounded.Statement.{statement}
 use Rattle.binary32.proofs.rounded.Tie as tie
 

@@ -1,10 +1,10 @@
 use borrow.Author.Needs.{needs}
 use mathlib.Core.Path.{sym, ap, _∙_}
-use Rattle.rounding.specs.Format.{binary32}
-use Rattle.rounding.specs.Value.{Value, encode, decode}
-use Rattle.steps.specs.Steps.{addValue, subValue}
-use Rattle.steps.proofs.Classified.{decode-flip}
-use Rattle.steps.proofs.Result.{sub-step}
+use Rattle.rounding_spec.specs.Format.{binary32}
+use Rattle.rounding_spec.specs.Value.{Value, encode, decode}
+use Rattle.binary32_spec.specs.Steps.{addValue, subValue}
+use Rattle.pattern_spec.proofs.Classified.{decode-flip}
+use Rattle.binary32_spec.proofs.Result.{sub-step}
 use Rattle.binary32.proofs.sub.Statement.{statement}
 use Rattle.binary32.proofs.sub.Tie as tie
 

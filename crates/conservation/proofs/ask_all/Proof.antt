@@ -4,9 +4,9 @@ use Prim.Native.Nat.{_-_, _≤_}
 use native.Mathlib.Omega.{arith}
 use lib.ListN.{getD, length}
 use lib.Seq.{length-take-le, length-front}
-use Rattle.lists.specs.Lists.{Totals}
-use Rattle.conservation.proofs.Events.{totalsFrom, wordsFrom, nothing-left, next-question}
-use Rattle.conservation.proofs.Misfits.{within-at}
+use Rattle.conservation_spec.specs.Lists.{Totals}
+use Rattle.conservation_spec.proofs.Events.{totalsFrom, wordsFrom, nothing-left, next-question}
+use Rattle.conservation_spec.proofs.Misfits.{within-at}
 use Rattle.conservation.proofs.ask_all.Statement.{statement}
 use Rattle.conservation.proofs.ask_all.Tie as tie
 

@@ -1,7 +1,7 @@
 use borrow.Author.Needs.{needs}
 use mathlib.Core.Path.{sym, _∙_}
 use borrow.Author.Tests.{not-true, not-false}
-use Rattle.conservation.proofs.Outcome.{refusal-outcome, ready, done-outcome}
+use Rattle.conservation_spec.proofs.Outcome.{refusal-outcome, ready, done-outcome}
 use Rattle.conservation.proofs.replay.Statement.{statement}
 use Rattle.conservation.proofs.replay.Tie as tie
 

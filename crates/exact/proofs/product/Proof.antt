@@ -1,7 +1,7 @@
 use borrow.Author.Needs.{needs}
 use mathlib.Core.Path.{sym, ap₂, _∙_}
-use Rattle.steps.specs.Exact.{times}
-use Rattle.steps.proofs.Classified.{class-value, class-operand}
+use Rattle.pattern_spec.specs.Exact.{times}
+use Rattle.pattern_spec.proofs.Classified.{class-value, class-operand}
 use Rattle.exact.proofs.product.Statement.{statement}
 use Rattle.exact.proofs.product.Tie as tie
 

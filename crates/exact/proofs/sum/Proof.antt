@@ -2,8 +2,8 @@ use borrow.Author.Needs.{needs}
 use mathlib.Core.Path.{sym, ap, _∙_}
 use Prim.Native.Nat.{ℕ, _%_}
 use native.Mathlib.Omega.{arith}
-use Rattle.steps.specs.Exact.{plusFinite}
-use Rattle.steps.proofs.Near.{moved}
+use Rattle.pattern_spec.specs.Exact.{plusFinite}
+use Rattle.pattern_spec.proofs.Moved.{moved}
 use Rattle.exact.proofs.sum.Statement.{statement}
 use Rattle.exact.proofs.sum.Tie as tie
 

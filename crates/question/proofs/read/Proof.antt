@@ -1,6 +1,7 @@
 use borrow.Author.Needs.{needs}
 use mathlib.Core.Path.{_∙_}
-use Rattle.question.proofs.Cases.{length-refused, letters-refused, first-tab-refused, second-tab-refused, tabs-passed}
+use Rattle.question_spec.proofs.Refusals.{length-refused, letters-refused, first-tab-refused, second-tab-refused}
+use Rattle.question.proofs.Cases.{tabs-passed}
 use Rattle.question.proofs.read.Statement.{statement}
 use Rattle.question.proofs.read.Tie as tie
 

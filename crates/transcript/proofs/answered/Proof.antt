@@ -1,10 +1,10 @@
 use Prim.Native.Nat.{ℕ}
 use mathlib.Core.Path.{ap}
 use lib.ListN.{length}
-use Rattle.texts.proofs.TextLengths.{answered-length}
-use Rattle.texts.specs.Texts.{stepsText, answeredText}
-use Rattle.texts.proofs.Written.{whole}
-use Rattle.texts.proofs.Buffers.{too-short}
+use Rattle.transcript_spec.proofs.TextLengths.{answered-length}
+use Rattle.transcript_spec.specs.Texts.{stepsText, answeredText}
+use Rattle.transcript_spec.proofs.Written.{whole}
+use Rattle.transcript_spec.proofs.Buffers.{too-short}
 use native.Mathlib.Omega.{arith}
 use borrow.Author.Needs.{needs}
 use Rattle.transcript.proofs.answered.Statement.{statement}

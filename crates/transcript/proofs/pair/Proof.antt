@@ -1,8 +1,8 @@
 use native.Mathlib.Omega.{arith}
-use Rattle.texts.specs.Texts.{pairText}
-use Rattle.texts.proofs.TextLengths.{pair-length}
-use Rattle.texts.proofs.Buffers.{too-short}
-use Rattle.texts.proofs.Written.{whole}
+use Rattle.transcript_spec.specs.Texts.{pairText}
+use Rattle.transcript_spec.proofs.TextLengths.{pair-length}
+use Rattle.transcript_spec.proofs.Buffers.{too-short}
+use Rattle.transcript_spec.proofs.Written.{whole}
 use borrow.Author.Needs.{needs}
 use Rattle.transcript.proofs.pair.Statement.{statement}
 use Rattle.transcript.proofs.pair.Tie as tie

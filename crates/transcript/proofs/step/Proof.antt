@@ -1,8 +1,8 @@
 use native.Mathlib.Omega.{arith}
 use lib.ListN.{getD}
-use Rattle.texts.specs.Texts.{stepText}
-use Rattle.texts.proofs.Buffers.{too-short}
-use Rattle.texts.proofs.Written.{whole}
+use Rattle.transcript_spec.specs.Texts.{stepText}
+use Rattle.transcript_spec.proofs.Buffers.{too-short}
+use Rattle.transcript_spec.proofs.Written.{whole}
 use borrow.Author.Needs.{needs}
 use Rattle.transcript.proofs.step.Statement.{statement}
 use Rattle.transcript.proofs.step.Tie as tie

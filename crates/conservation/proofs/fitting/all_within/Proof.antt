@@ -2,8 +2,8 @@ use mathlib.Core.Path.{_≡_, refl, _∙_}
 use Prim.Native.Nat.{_-_, _≤_}
 use native.Mathlib.Omega.{arith}
 use lib.ListN.{length, drop}
-use Rattle.conservation.specs.Replay.{allWithin}
-use Rattle.conservation.proofs.Misfits.{within-more, within-not, within-done}
+use Rattle.conservation_spec.specs.Replay.{allWithin}
+use Rattle.conservation_spec.proofs.Misfits.{within-more, within-not, within-done}
 use Rattle.conservation.proofs.fitting.all_within.Statement.{statement}
 use Rattle.conservation.proofs.fitting.all_within.Tie as tie
 

@@ -2,8 +2,8 @@ use mathlib.Core.Path.{_≡_, refl, _∙_}
 use Prim.Native.Nat.{_-_, _≤_}
 use native.Mathlib.Omega.{arith}
 use lib.ListN.{length, drop}
-use Rattle.conservation.specs.Replay.{allZero}
-use Rattle.conservation.proofs.Misfits.{zero-more, zero-not, zero-done}
+use Rattle.conservation_spec.specs.Replay.{allZero}
+use Rattle.conservation_spec.proofs.Misfits.{zero-more, zero-not, zero-done}
 use Rattle.conservation.proofs.fitting.all_zero.Statement.{statement}
 use Rattle.conservation.proofs.fitting.all_zero.Tie as tie
 

@@ -1,7 +1,7 @@
 use borrow.Author.Needs.{needs}
 use mathlib.Core.Path.{sym, _∙_}
 use borrow.Author.Tests.{not-true, not-false}
-use Rattle.conservation.proofs.Misfits.{unequal, too-many, first-not-cleared, second-not-cleared, past-words, nothing-wrong}
+use Rattle.conservation_spec.proofs.Misfits.{unequal, too-many, first-not-cleared, second-not-cleared, past-words, nothing-wrong}
 use Rattle.conservation.proofs.fitting.answer.Statement.{statement}
 use Rattle.conservation.proofs.fitting.answer.Tie as tie
 

@@ -1,15 +1,15 @@
 use borrow.Author.Needs.{needs}
-use Rattle.rounding.specs.Value.{finite}
-use Rattle.steps.specs.Exact.{times}
-use Rattle.steps.specs.Classes.{valueOf}
-use Rattle.steps.specs.Unrounded.{Product}
+use Rattle.rounding_spec.specs.Value.{finite}
+use Rattle.pattern_spec.specs.Exact.{times}
+use Rattle.pattern_spec.specs.Classes.{valueOf}
+use Rattle.pattern_spec.specs.Unrounded.{Product}
 use mathlib.Core.Path.{refl, ap}
 use Prim.Native.Nat.{_+_, _*_}
 use native.Mathlib.Nat.{le-trans}
 use native.Mathlib.Omega.{arith}
 use lib.Ieee.{unlike}
 use lib.Pow.{pow-mono}
-use Rattle.steps.proofs.Products.{none, some-left, product-value, product-bounded}
+use Rattle.pattern_spec.proofs.Products.{none, some-left, product-value, product-bounded}
 use Rattle.exact.proofs.factors.finite_times.Statement.{statement}
 use Rattle.exact.proofs.factors.finite_times.Tie as tie
 

@@ -1,8 +1,8 @@
 use mathlib.Core.Path.{refl}
 use borrow.Author.Needs.{needs}
-use Rattle.steps.specs.Exact.{times}
-use Rattle.steps.specs.Classes.{valueOf}
-use Rattle.steps.proofs.Products.{none, some-left}
+use Rattle.pattern_spec.specs.Exact.{times}
+use Rattle.pattern_spec.specs.Classes.{valueOf}
+use Rattle.pattern_spec.proofs.Products.{none, some-left}
 use Rattle.exact.proofs.factors.infinite_times.Statement.{statement}
 use Rattle.exact.proofs.factors.infinite_times.Tie as tie
 

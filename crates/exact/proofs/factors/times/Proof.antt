@@ -1,7 +1,7 @@
 use mathlib.Core.Path.{refl}
 use borrow.Author.Needs.{needs}
-use Rattle.steps.specs.Exact.{times}
-use Rattle.steps.specs.Classes.{valueOf}
+use Rattle.pattern_spec.specs.Exact.{times}
+use Rattle.pattern_spec.specs.Classes.{valueOf}
 use Rattle.exact.proofs.factors.times.Statement.{statement}
 use Rattle.exact.proofs.factors.times.Tie as tie
 

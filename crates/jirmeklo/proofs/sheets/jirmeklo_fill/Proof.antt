@@ -3,7 +3,7 @@ use mathlib.Core.Path.{_≡_, refl, ap, sym, subst, _∙_}
 use mathlib.Core.Bool.{false}
 use Prim.Native.Nat.{ℕ}
 use lib.Dec.{eqb}
-use Rattle.emulation.specs.Filling.{HasDirectPair}
+use Rattle.worksheet_spec.specs.Filling.{HasDirectPair}
 use Rattle.jirmeklo.specs.Sheets.{noSheet, filledNumbers, filledAnswer}
 use Rattle.jirmeklo.specs.declared.sheets.FlatFilled.{FlatFilled}
 use Rattle.jirmeklo.proofs.sheets.jirmeklo_fill.Statement.{statement}

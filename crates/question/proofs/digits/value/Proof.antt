@@ -4,7 +4,7 @@ use mathlib.Core.Path.{_≡_, refl, sym, _∙_}
 use native.Mathlib.Omega.{arith}
 use lib.Dec.{lit<}
 use lib.ListN.{length, drop}
-use Rattle.question.specs.Questions.{allDigits, patternFrom}
+use Rattle.question_spec.specs.Questions.{allDigits, patternFrom}
 use Rattle.question.proofs.OneMore.{pattern-more, all-more, not-all, pattern-done, all-done, room}
 use Rattle.question.proofs.digits.value.Statement.{statement}
 use Rattle.question.proofs.digits.value.Tie as tie

@@ -1,0 +1,44 @@
+use borrow.Author.Needs.{needs}
+use mathlib.Core.Path.{sym, ap, _∙_}
+use mathlib.Core.List.{List}
+use Prim.Native.Nat.{ℕ}
+use lib.IntN.{natAbs}
+use Rattle.rounding_spec.specs.Format.{binary32}
+use Rattle.augmented_spec.specs.Pairs.{pairOf}
+use Rattle.accumulator_spec.specs.Words.{integer}
+use Rattle.accumulator_spec.specs.Totals.{number, count, exact, pairAnswer}
+use Rattle.accumulator_spec.proofs.Adding.{fit-bounds, sum-room}
+use Rattle.accumulator_spec.proofs.Answers.{reading-pair}
+use Rattle.accumulator_fit.proofs.Lent.{sound}
+use Rattle.accumulator_read.specs.Inner.{replied}
+use Rattle.accumulator_read.proofs.Replies.{lent-replied}
+use Rattle.accumulator_read.proofs.read.Statement.{statement}
+use Rattle.accumulator_read.proofs.read.Tie as tie
+
+refusal-requires : tie.Need-refusal-requires
+refusal-requires c κs = search needs
+
+returns : tie.Need-returns
+returns c =
+    let k = c .before in
+    ap (λ (n : ℕ). replied n 0 0) (k .refusal .ensures) ∙ lent-replied (k .before .before .args .total .now) (λ e. c .if1 .taken (k .refusal .ensures ∙ e))
+
+copied-requires : tie.Need-copied-requires
+copied-requires c κs = sound (c .before .before .before .args .total .now) (sym (c .before .refusal .ensures) ∙ c .if1 .left) .0
+
+of-number-requires : tie.Need-of-number-requires
+of-number-requires c κs =
+    let t = c .before .before .before .before .args .total .now in
+    let s = sound t (sym (c .before .before .refusal .ensures) ∙ c .before .if1 .left) in
+    let b = fit-bounds t (s .1) in
+    rw (c .copied .ensures) (sum-room (natAbs (number t)) (count t) (b .0) (b .1))
+
+returns-2 : tie.Need-returns-2
+returns-2 c =
+    let t = c .before .before .before .before .before .args .total .now in
+    let s = sound t (sym (c .before .before .before .refusal .ensures) ∙ c .before .before .if1 .left) in
+    c .of-number .ensures ∙ ap (λ (ws : List ℕ). pairAnswer (pairOf binary32 (exact (integer ws)))) (c .before .copied .ensures) ∙ sym (reading-pair t (s .0) (s .1))
+
+pub read-spec : {M : Type 1} → statement M
+read-spec =
+    tie.close (tie.spec refusal-requires returns copied-requires of-number-requires returns-2)

@@ -1,0 +1,105 @@
+// What a total reads: RN0 of its number, and RN0 of the number less that.
+mod leading;
+
+use augmented_pack::zero_takes;
+use leading::first_digits;
+use leading::magnitude;
+use pattern::classify;
+use pattern_spec::Class;
+use rounding_spec::Ties;
+ghost use mathlib.Core.Path.{_≡_};
+ghost use Prim.Native.Nat.{_*_, _^_, _≤_, _<_};
+ghost use lib.ListN.{length, take};
+ghost use lib.IntN.{natAbs, _+ℤ_};
+ghost use Rattle.rounding_spec.specs.declared.Ties.the-variants.{ToZero};
+ghost use Rattle.rounding_spec.specs.Format.{binary32};
+ghost use Rattle.rounding_spec.specs.Value.{encode, round};
+ghost use Rattle.pattern_spec.specs.Exact.{int};
+ghost use Rattle.augmented_spec.specs.Pairs.{pairOf};
+ghost use Rattle.accumulator_spec.specs.Words.{integer, wordsOfInteger};
+ghost use Rattle.accumulator_spec.specs.Totals.{exact, pairAnswer, reading};
+ghost use Rattle.accumulator_read.specs.Inner.{replied};
+
+// Document 01's number of the refusal; or 0, and the pair. Free are the halves of a refusal, and which number stands for 6 (`replied`).
+pub struct Reply {
+    pub refusal: u32,
+    pub first: u32,
+    pub second: u32,
+}
+
+pub fn read(total: &[u32]) -> Reply
+    ensures { λ r. ⌜ replied (r .refusal) (r .first) (r .second) ≡ reading (now (total .entry)) ⌝ }
+{
+    let refusal = accumulator_fit::refusal(total);
+    if refusal != 0 {
+        return Reply {
+            refusal,
+            first: 0,
+            second: 0,
+        };
+    }
+    of_number(copied(total))
+}
+
+// The number's words, which are not changed where they were lent.
+fn copied(total: &[u32]) -> [u32; 20]
+    requires { ⌜ length (now total) ≡ 21 ⌝ }
+    ensures { λ r. ⌜ r ≡ take 20 (now (total .entry)) ⌝ }
+{
+    let mut number = [0; 20];
+    let mut i: usize = 0;
+    while i < 20 {
+        number[i] = total[i];
+        i += 1;
+    }
+    number
+}
+
+// Second is rounded from the words that are left when first is taken away. RN0 of a number is never NaN.
+fn of_number(number: [u32; 20]) -> Reply
+    requires { ⌜ natAbs (integer number) < 2 ^ 639 ⌝ }
+    ensures { λ r. ⌜ replied (r .refusal) (r .first) (r .second) ≡ pairAnswer (pairOf binary32 (exact (integer number))) ⌝ }
+{
+    let first = rounded(number);
+    let a = classify(first);
+    match a {
+        Class::Finite { sign, sig, exp } => {
+            let second = rounded(moved(number, !sign, sig, exp + 149));
+            Reply {
+                refusal: 0,
+                first,
+                second: zero_takes(sign, second),
+            }
+        }
+        Class::Infinite(_) => Reply {
+            refusal: 0,
+            first,
+            second: first,
+        },
+        Class::NotANumber => Reply {
+            refusal: 0,
+            first,
+            second: first,
+        },
+    }
+}
+
+// The number and ±sig * 2^exp.
+fn moved(number: [u32; 20], minus: bool, sig: u64, exp: u16) -> [u32; 20]
+    requires { ⌜ exp ≤ 640 ⌝ }
+    ensures { λ r. ⌜ r ≡ wordsOfInteger 20 (integer number +ℤ int minus (sig * 2 ^ exp)) ⌝ }
+{
+    let mut sum = number;
+    let w = (exp / 32) as usize;
+    accumulator_words::add(&mut sum[w..20], minus, sig, exp);
+    sum
+}
+
+// RN0 of the number.
+fn rounded(number: [u32; 20]) -> u32
+    ensures { λ r. ⌜ r ≡ encode binary32 (round ToZero binary32 (exact (integer number))) ⌝ }
+{
+    let minus = number[19] >= 0x8000_0000;
+    let top = first_digits(magnitude(number));
+    rounding::round(Ties::ToZero, minus, top.sig, top.exp)
+}

@@ -1,0 +1,86 @@
+-- What clearing, adding and reading answer, and the words as they end, by the conditions in their order.
+use mathlib.Core.Path.{_≡_, sym}
+use mathlib.Core.Bool.{true, false}
+use mathlib.Core.List.{List}
+use Prim.Native.Nat.{ℕ, suc}
+use borrow.Author.Tests.{eq-eqb, ne-eqb}
+use lib.ListN.{length, replicate}
+use lib.IntN.{_+ℤ_}
+use Rattle.pattern_spec.specs.Answer.{refused, done}
+use Rattle.rounding_spec.specs.Format.{binary32}
+use Rattle.augmented_spec.specs.Pairs.{pairOf}
+use Rattle.accumulator_spec.specs.Theorems.{RefusedTerm, AddingRefused, ReadingRefused, Clears}
+use Rattle.accumulator_spec.specs.Totals.{number, count, totalOf, fit, Term, finiteOperands, exactTerm, whole, adding, afterAdding, clearing, afterClearing, exact, pairAnswer, reading}
+
+-- ---- clearing
+module _ (t : List ℕ) where
+  pub clearing-length : (length t ≡ 21 → ⊥) → (refused 5 ≡ clearing t) × (t ≡ afterClearing t)
+  unfolding clearing afterClearing
+  clearing-length n = let e = ne-eqb (length t) 21 n in (rw e, rw e)
+
+  pub clearing-done : length t ≡ 21 → ((done tt) ≡ clearing t) × (replicate 21 0 ≡ afterClearing t)
+  unfolding clearing afterClearing
+  clearing-done h = let e = eq-eqb (length t) 21 h in (rw e, rw e)
+
+-- ---- adding
+module _ (t : List ℕ) (x : Term) where
+  pub adding-length : (length t ≡ 21 → ⊥) → adding t x ≡ refused 5
+  unfolding adding
+  adding-length n = rw (ne-eqb (length t) 21 n)
+
+  module _ (full : length t ≡ 21) where
+    pub adding-unfit : fit t ≡ false → adding t x ≡ refused 6
+    unfolding adding
+    adding-unfit f = rw (eq-eqb (length t) 21 full, f)
+
+    module _ (fits : fit t ≡ true) where
+      pub adding-special : finiteOperands x ≡ false → adding t x ≡ refused 7
+      unfolding adding
+      adding-special o = rw (eq-eqb (length t) 21 full, fits, o)
+
+      pub adding-full : finiteOperands x ≡ true → count t ≡ 65536 → adding t x ≡ refused 8
+      unfolding adding
+      adding-full o n = rw (eq-eqb (length t) 21 full, fits, o, eq-eqb (count t) 65536 n)
+
+      pub adding-done : finiteOperands x ≡ true → (count t ≡ 65536 → ⊥) → adding t x ≡ done tt
+      unfolding adding
+      adding-done o n = rw (eq-eqb (length t) 21 full, fits, o, ne-eqb (count t) 65536 n)
+
+  pub after-refused : (n : ℕ) → adding t x ≡ refused n → afterAdding t x ≡ t
+  unfolding afterAdding
+  after-refused n e = rw e
+
+  pub after-done : adding t x ≡ done tt → afterAdding t x ≡ totalOf (number t +ℤ whole (exactTerm x)) (suc (count t))
+  unfolding afterAdding
+  after-done e = rw e
+
+  -- both at once, as a contract has them
+  pub refuses : (n : ℕ) → adding t x ≡ refused n → (refused n ≡ adding t x) × (t ≡ afterAdding t x)
+  refuses n e = (sym e, sym (after-refused n e))
+
+-- ---- reading
+module _ (t : List ℕ) where
+  pub reading-length : (length t ≡ 21 → ⊥) → reading t ≡ refused 5
+  unfolding reading
+  reading-length n = rw (ne-eqb (length t) 21 n)
+
+  pub reading-unfit : length t ≡ 21 → fit t ≡ false → reading t ≡ refused 6
+  unfolding reading
+  reading-unfit full f = rw (eq-eqb (length t) 21 full, f)
+
+  pub reading-pair : length t ≡ 21 → fit t ≡ true → reading t ≡ pairAnswer (pairOf binary32 (exact (number t)))
+  unfolding reading
+  reading-pair full f = rw (eq-eqb (length t) 21 full, f)
+
+-- ---- as they are stated
+pub refused-term : RefusedTerm
+refused-term t x n e = after-refused t x n e
+
+pub adding-refused : AddingRefused
+adding-refused t x = (adding-length t x, adding-unfit t x, adding-special t x, adding-full t x)
+
+pub reading-refused : ReadingRefused
+reading-refused t = (reading-length t, reading-unfit t)
+
+pub clears : Clears
+clears t = (λ n. let c = clearing-length t n in (sym (c .0), sym (c .1)), λ h. let c = clearing-done t h in (sym (c .0), sym (c .1), sym (c .1)))

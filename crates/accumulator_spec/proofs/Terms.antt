@@ -1,0 +1,69 @@
+-- A term of a fit total, by its class as the code has it: what is answered, and the words as they end.
+use mathlib.Core.Path.{_≡_, refl, sym, ap, _∙_}
+use mathlib.Core.Bool.{Bool, true, false, not, cond, _&&_}
+use mathlib.Core.List.{List}
+use Prim.Native.Nat.{ℕ, suc}
+use native.Mathlib.Decide.{ℕ-discrete}
+use borrow.Author.Tests.{eq-eqb, ne-eqb}
+use lib.Dec.{eqb}
+use lib.IntN.{_+ℤ_}
+use lib.ListN.{length}
+use Rattle.pattern_spec.specs.Answer.{Answer, refused, done}
+use Rattle.rounding_spec.specs.Format.{binary32}
+use Rattle.rounding_spec.specs.Value.{Value, nan, infinite, finite, decode, isFinite}
+use Rattle.pattern_spec.specs.Exact.{int, times, finer}
+use Rattle.accumulator_spec.specs.Totals.{number, count, totalOf, fit, Term, ofPattern, ofProduct, finiteOperands, exactTerm, whole, adding, afterAdding}
+use Rattle.accumulator_spec.proofs.Answers.{adding-special, adding-full, adding-done, after-refused, after-done}
+
+-- ---- a product is finite where both operands are
+special-choice : (c s : Bool) → isFinite (cond c nan (infinite s)) ≡ false
+special-choice true s = refl
+special-choice false s = refl
+
+times-finite : (v w : Value) → isFinite (times v w) ≡ (isFinite v && isFinite w)
+unfolding times
+times-finite nan w = refl
+times-finite (infinite s) nan = refl
+times-finite (infinite s) (infinite t) = refl
+times-finite (infinite s) (finite t b) = special-choice (eqb b 0) _
+times-finite (finite s a) nan = refl
+times-finite (finite s a) (infinite t) = special-choice (eqb a 0) _
+times-finite (finite s a) (finite t b) = refl
+
+-- ---- so that a term is refused by its exact value
+finer-finite : (v : Value) → isFinite (finer binary32 v) ≡ isFinite v
+unfolding finer
+finer-finite nan = refl
+finer-finite (infinite s) = refl
+finer-finite (finite s a) = refl
+
+term-finite : (x : Term) → finiteOperands x ≡ isFinite (exactTerm x)
+term-finite (ofPattern x) = sym (finer-finite (decode binary32 x))
+term-finite (ofProduct x y) = sym (times-finite (decode binary32 x) (decode binary32 y))
+
+-- ---- of a fit total
+module _ (t : List ℕ) (x : Term) (full : length t ≡ 21) (fits : fit t ≡ true) where
+  abbrev Ends : Answer (Unit {0}) → List ℕ → Type 0
+  Ends a ws = (a ≡ adding t x) × (ws ≡ afterAdding t x)
+
+  pub special : isFinite (exactTerm x) ≡ false → Ends (refused 7) t
+  special o = let e = adding-special t x full fits (term-finite x ∙ o) in (sym e, sym (after-refused t x 7 e))
+
+  module _ (s : Bool) (N : ℕ) (is : exactTerm x ≡ finite s N) where
+    finite-term : finiteOperands x ≡ true
+    finite-term = term-finite x ∙ ap isFinite is
+
+    -- with what adding it promises: whether there is room, and the words as they end
+    pub tried : (room : Bool) (a : Answer (Unit {0})) (ws : List ℕ) → room ≡ not (eqb (count t) 65536) → a ≡ cond room (done tt) (refused 8)
+        → ws ≡ cond room (totalOf (number t +ℤ int s N) (suc (count t))) t → Ends a ws
+    tried room a ws r ea ews =
+        elim (ℕ-discrete (count t) 65536) [
+          | yes n ↦
+              let e = adding-full t x full fits finite-term n in
+              let q : room ≡ false = r ∙ ap not (eq-eqb (count t) 65536 n) in
+              ((rw q at ea) ∙ sym e, (rw q at ews) ∙ sym (after-refused t x 8 e))
+          | no n ↦
+              let e = adding-done t x full fits finite-term n in
+              let q : room ≡ true = r ∙ ap not (ne-eqb (count t) 65536 n) in
+              ((rw q at ea) ∙ sym e, (rw q at ews) ∙ ap (λ (v : Value). totalOf (number t +ℤ whole v) (suc (count t))) (sym is) ∙ sym (after-done t x e))
+        ]

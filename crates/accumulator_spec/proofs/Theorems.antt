@@ -1,0 +1,43 @@
+-- All that specs/Theorems states, proved.
+use Rattle.accumulator_spec.specs.Theorems.{All}
+use Rattle.accumulator_spec.proofs.Held.{number-and-count, number-held, total-unique}
+use Rattle.accumulator_spec.proofs.Landmarks.{total-landmarks, finite-operands-are, pattern-term, product-term, term-landmarks, exact-back}
+use Rattle.accumulator_spec.proofs.Answers.{adding-refused, refused-term, clears, reading-refused}
+use Rattle.accumulator_spec.proofs.Adding.{fit-is, lowest-unfit, accepted-term, exact-adding}
+use Rattle.accumulator_spec.proofs.Columns.{column-next, accepted-each, all-finite-is, exact-column, any-order}
+use Rattle.accumulator_spec.proofs.ReadTotal.{read-fit, read-column, read-finite, read-zero, read-rounded-to-zero}
+use Rattle.accumulator_spec.proofs.ReadPairs.{read-overflow, read-sum, read-product}
+
+pub all : All
+all = (
+  number-and-count,
+  number-held,
+  total-unique,
+  total-landmarks,
+  fit-is,
+  lowest-unfit,
+  finite-operands-are,
+  pattern-term,
+  product-term,
+  term-landmarks,
+  adding-refused,
+  accepted-term,
+  exact-adding,
+  refused-term,
+  clears,
+  column-next,
+  accepted-each,
+  all-finite-is,
+  exact-column,
+  any-order,
+  reading-refused,
+  read-fit,
+  read-column,
+  exact-back,
+  read-finite,
+  read-overflow,
+  read-zero,
+  read-rounded-to-zero,
+  read-sum,
+  read-product,
+)

@@ -1,0 +1,6 @@
+pub mod Words
+pub mod Totals
+pub mod Columns
+pub mod Theorems
+pub mod Inner
+pub mod WordTheorems

@@ -1,1 +1,0 @@
-// Agreement of the steps with the toolchain's own account of IEEE 754; see specs/.

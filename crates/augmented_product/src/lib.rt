@@ -1,0 +1,112 @@
+// Product pairs.
+use augmented_pack::is_infinite;
+use augmented_pack::packed;
+use augmented_pack::raised;
+use augmented_pack::zero_takes;
+use augmented_spec::Flags;
+use augmented_spec::Pair;
+use choose::choose_exponent;
+use choose::choose_pattern;
+use choose::choose_sign;
+use pattern::infinity;
+use pattern_spec::Class;
+use pattern_spec::NAN;
+use rounding::round_with_rest;
+use rounding_spec::Ties;
+ghost use mathlib.Core.Path.{_≡_};
+ghost use mathlib.Core.Bool.{false};
+ghost use Prim.Native.Nat.{_*_, _^_, _<_};
+ghost use Rattle.rounding_spec.specs.Format.{binary32};
+ghost use Rattle.rounding_spec.specs.Value.{finite, decode};
+ghost use Rattle.augmented_spec.specs.Pairs.{pairOf, invalid, overflowed, underflowed, flagsOf, productPair};
+ghost use Rattle.augmented_spec.specs.Inner.{finitePair, ShortRest};
+
+pub fn of_patterns(x: u32, y: u32) -> Pair
+    ensures { λ r. ⌜ r ≡ productPair binary32 x y ⌝ }
+{
+    let total = exact::product(x, y);
+    match total {
+        Class::Finite {
+            sign: s,
+            sig: m,
+            exp: e,
+        } => of_number(s, m, e),
+        Class::Infinite(s) => twice(x, y, infinity(s)),
+        Class::NotANumber => twice(x, y, NAN),
+    }
+}
+
+// An infinite or NaN product stands twice.
+fn twice(x: u32, y: u32, half: u32) -> Pair
+    ensures { λ r. ⌜ r ≡ record { first = half; second = half; flags = flagsOf (invalid binary32 x y (decode binary32 half)) (overflowed binary32 x y (decode binary32 half)) false } ⌝ }
+{
+    let flags = raised::of_special(x, y, half);
+    Pair {
+        first: half,
+        second: half,
+        flags,
+    }
+}
+
+// Where the exponent is below 149, the rest can have digits below u.
+fn of_number(sign: bool, sig: u64, exp: u16) -> Pair
+    requires { ⌜ sig < 2 ^ 48 ⌝ }
+    ensures { λ r. ⌜ r ≡ finitePair (pairOf binary32 (finite sign (sig * 2 ^ exp))) (underflowed binary32 (finite sign (sig * 2 ^ exp)) (pairOf binary32 (finite sign (sig * 2 ^ exp)))) ⌝ }
+{
+    if exp < 149 {
+        twice_rounded(sign, sig, exp)
+    } else {
+        with_rest(sign, sig, exp)
+    }
+}
+
+// The rest is a number of the format itself, and nothing is lost.
+fn with_rest(sign: bool, sig: u64, exp: u16) -> Pair
+    requires { ⌜ ShortRest sig exp ⌝ }
+    ensures { λ r. ⌜ r ≡ finitePair (pairOf binary32 (finite sign (sig * 2 ^ exp))) false ⌝ }
+{
+    let first = round_with_rest(Ties::ToZero, sign, sig, exp);
+    let over = is_infinite(first.pattern);
+    // The rest of an infinite first is not used, and has to stay in range.
+    let unit = choose_exponent(over, 0, exp - 149);
+    let second = packed(sign, first.up, first.rest, unit);
+    pair(
+        first.pattern,
+        choose_pattern(over, first.pattern, second),
+        over,
+        false,
+    )
+}
+
+// First is the rounded number, second what that left over, rounded again on its side of first.
+fn twice_rounded(sign: bool, sig: u64, exp: u16) -> Pair
+    ensures { λ r. ⌜ r ≡ finitePair (pairOf binary32 (finite sign (sig * 2 ^ exp))) (underflowed binary32 (finite sign (sig * 2 ^ exp)) (pairOf binary32 (finite sign (sig * 2 ^ exp)))) ⌝ }
+{
+    let first = round_with_rest(Ties::ToZero, sign, sig, exp);
+    if is_infinite(first.pattern) {
+        return pair(first.pattern, first.pattern, true, false);
+    }
+    let second = round_with_rest(Ties::ToZero, sign != first.up, first.rest, exp);
+    pair(
+        first.pattern,
+        zero_takes(sign, second.pattern),
+        false,
+        second.rest != 0,
+    )
+}
+
+fn pair(first: u32, second: u32, overflow: bool, underflow: bool) -> Pair
+    ensures { λ r. ⌜ r ≡ record { first = first; second = second; flags = flagsOf false overflow underflow } ⌝ }
+{
+    let flags = Flags {
+        invalid: false,
+        overflow,
+        underflow,
+        inexact: choose_sign(overflow, true, underflow),
+    };
+    Pair {
+        first,
+        second,
+        flags,
+    }
+}

@@ -1,0 +1,155 @@
+-- The theorems of `specs/Theorems.antt`, and the table of `specs/Cases.antt`.
+use mathlib.Core.Path.{_≡_, refl, sym, ap, _∙_}
+use mathlib.Core.Bool.{true, false, not}
+use Prim.Native.Nat.{ℕ}
+use native.Mathlib.Nat.{lt-of-le-of-lt}
+use native.Mathlib.Omega.{arith}
+use borrow.Author.Tests.{eqb-true, eq-eqb, not-false}
+use lib.Dec.{eqb}
+use lib.IntN.{natAbs}
+use Rattle.rounding_spec.specs.declared.Ties.the-variants.{ToZero}
+use Rattle.rounding_spec.specs.Format.{binary32, low}
+use Rattle.rounding_spec.specs.Value.{nan, infinite, encode, round}
+use Rattle.rounding_spec.proofs.Codec.{pattern-rep}
+use Rattle.rounding_spec.proofs.HalfPlace.{left-half}
+use Rattle.rounding_spec.proofs.RoundValue.{round-below, over-edge, zero-at-edge}
+use Rattle.augmented_spec.specs.Pairs.{secondOf, pairOf}
+use Rattle.augmented_spec.specs.Cases.{Table}
+use Rattle.augmented_spec.specs.Direct.{directPair}
+use Rattle.augmented_spec.specs.Theorems.{EveryFinite, DirectPairs, FirstRounded, FirstNearest, Overflow, SecondRounded, SecondNearest, HalfUnit, SumAddsUp, ProductAddsUp, FlagsOfFinite, NaNOperand, OppositeInfinities, ZeroTimesInfinity, InfiniteOperand, FlagSets, InfiniteTwice, NaNTwice, PatternWidth, All}
+use Rattle.augmented_spec.proofs.Second.{head, tail-le, first-finite, first-infinite}
+use Rattle.augmented_spec.proofs.Read.{exactFor, first, second, first-pattern, second-pattern, first-fits, second-fits, first-read}
+use Rattle.augmented_spec.proofs.Width.{encode-width}
+use Rattle.augmented_spec.proofs.FiniteOperands.{number, first-is, rest, side, secondSize, secondSign, lost, halved}
+use Rattle.augmented_spec.proofs.AddsUp.{rest-exact, adds-up, added-up, sum-lost, product-underflow, product-inexact}
+use Rattle.augmented_spec.proofs.Nearest.{first-near, second-near}
+use Rattle.augmented_spec.proofs.FiniteFlags.{flags-above, sum-flags, product-flags}
+use Rattle.augmented_spec.proofs.SpecialOperands as special
+use Rattle.augmented_spec.proofs.FlagSets as flags
+use Rattle.augmented_spec.proofs.Table as cases
+
+-- ---- of whom
+pub every-finite : EveryFinite
+every-finite o x y s a t b w p q =
+    record { proper = omega arith; x = x; y = y; width = w; s = s; a = a; t = t; b = b; left = p; right = q; exact = refl; zero = refl; pair = refl }
+
+pub direct-pairs : DirectPairs
+unfolding directPair
+direct-pairs = (refl, refl, refl)
+
+-- ---- first
+pub first-rounded : FirstRounded
+unfolding pairOf round
+first-rounded o F E z p h = (number h .sign, natAbs E, number h .exact, number h .zero, first-is h)
+
+pub first-nearest : FirstNearest
+first-nearest o F E z p h q c e w r b d = first-near (halved h q c e) r b (pattern-rep F (h .proper .0) w r b d)
+
+pub overflow : Overflow
+overflow o F E z p h =
+    let r = number h .sign in (
+      λ g. (r, first-is h ∙ first-infinite F r (natAbs E) (over-edge F (h .proper) ToZero (natAbs E) g), number h .exact),
+      λ g. (r, head F r (natAbs E), first-is h ∙ first-finite F r (natAbs E) (zero-at-edge F (h .proper) (natAbs E) g)),
+    )
+
+-- ---- second
+pub second-rounded : SecondRounded
+second-rounded o F E z p h q c e =
+    let k = halved h q c e in
+    let below = lt-of-le-of-lt (tail-le F q (natAbs E)) (k .below) in
+    (side F E q, rest F E q, secondSize F E q, rest-exact k, round-below ToZero F (side F E q) (rest F E q) below, k .second)
+
+pub second-nearest : SecondNearest
+second-nearest o F E z p h q c e t d f w r b g = second-near (halved h q c e) r b (pattern-rep F (h .proper .0) w r b g) t d f
+
+pub half-unit : HalfUnit
+half-unit o F E z p h q c e =
+    let k = halved h q c e in
+    (secondSign F E q, secondSize F E q, k .second, rw (k .first) (left-half (F .fraction) (low F) (natAbs E)))
+
+-- ---- what a finite pair adds up to
+pub sum-adds-up : SumAddsUp
+sum-adds-up o F E z p n h q c e =
+    let k = halved h q c e in
+    (secondSign F E q, secondSize F E q, k .second, adds-up k (sum-lost n h q))
+
+pub product-adds-up : ProductAddsUp
+product-adds-up F E z p h q c e =
+    let k = halved h q c e in
+    let u : p .flags .inexact ≡ not (eqb (lost F E q) 0) = sym (product-inexact h k) ∙ product-underflow h k in (
+      secondSign F E q,
+      secondSize F E q,
+      k .second,
+      product-inexact h k,
+      λ f. adds-up k (eqb-true (lost F E q) 0 (not-false (eqb (lost F E q) 0) (sym u ∙ f))),
+      λ f s. let i : true ≡ false = sym f ∙ u ∙ ap not (eq-eqb (lost F E q) 0 (added-up k s)) in let n : _≡_ {A = ℕ} 0 1 = cc in omega arith,
+    )
+
+-- ---- flags of finite operands
+pub flags-of-finite : FlagsOfFinite
+flags-of-finite o F E z p h = (flags-above h, sum-flags h, product-flags h)
+
+-- ---- special operands
+pub nan-operand : NaNOperand
+nan-operand = special.nan-operand
+
+pub opposite-infinities : OppositeInfinities
+opposite-infinities = special.opposite-infinities
+
+pub zero-times-infinity : ZeroTimesInfinity
+zero-times-infinity = special.zero-times-infinity
+
+pub infinite-operand : InfiniteOperand
+infinite-operand = special.infinite-operand
+
+-- ---- all patterns
+pub flag-sets : FlagSets
+flag-sets = flags.flag-sets
+
+pub infinite-twice : InfiniteTwice
+unfolding pairOf secondOf
+infinite-twice o F ok x y s e =
+    let is : first o F x y ≡ infinite s = sym (first-read o F ok x y) ∙ e in
+    second-pattern o F x y ∙ ap (encode F) (ap (secondOf F (exactFor o F x y)) is ∙ sym is) ∙ sym (first-pattern o F x y)
+
+pub nan-twice : NaNTwice
+unfolding pairOf secondOf encode
+nan-twice o x y e =
+    let is : first o binary32 x y ≡ nan = sym (first-read o binary32 (omega arith) x y) ∙ e in (
+      first-pattern o binary32 x y ∙ ap (encode binary32) is,
+      second-pattern o binary32 x y ∙ ap (encode binary32) (ap (secondOf binary32 (exactFor o binary32 x y)) is),
+    )
+
+pub pattern-width : PatternWidth
+pattern-width o F ok x y = (
+  rw (first-pattern o F x y) (encode-width F (ok .0) (first o F x y) (first-fits o F x y)),
+  rw (second-pattern o F x y) (encode-width F (ok .0) (second o F x y) (second-fits o F x y)),
+)
+
+-- ---- document 01's cases
+pub table : Table
+table = cases.table
+
+pub all : All
+all = (
+  every-finite,
+  direct-pairs,
+  first-rounded,
+  first-nearest,
+  overflow,
+  second-rounded,
+  second-nearest,
+  half-unit,
+  sum-adds-up,
+  product-adds-up,
+  flags-of-finite,
+  nan-operand,
+  opposite-infinities,
+  zero-times-infinity,
+  infinite-operand,
+  flag-sets,
+  infinite-twice,
+  nan-twice,
+  pattern-width,
+  table,
+)

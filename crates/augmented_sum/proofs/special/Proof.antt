@@ -1,0 +1,20 @@
+use borrow.Author.Needs.{needs}
+use mathlib.Core.Path.{_∙_}
+use Rattle.binary32_spec.specs.Steps.{addValue}
+use Rattle.binary32_spec.proofs.Result.{add-step}
+use Rattle.augmented_spec.proofs.Unrounded.{special-word}
+use Rattle.augmented_sum.proofs.special.Statement.{statement}
+use Rattle.augmented_sum.proofs.special.Tie as tie
+
+add-requires : tie.Need-add-requires
+add-requires c κs = search needs
+
+joined-requires : tie.Need-joined-requires
+joined-requires c κs = search needs
+
+returns : tie.Need-returns
+unfolding addValue
+returns c = c .joined .ensures ∙ special-word _ (c .before .before .pre) _ (c .before .add .ensures ∙ add-step _ _)
+
+pub special-spec : {M : Type 1} → statement M
+special-spec = tie.close (tie.spec add-requires joined-requires returns)

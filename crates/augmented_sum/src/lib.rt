@@ -1,0 +1,96 @@
+// Both halves of a sum. They come back in one word, which goes in a register; what is large here is compiled once for sums and differences.
+use augmented_pack::is_infinite;
+use augmented_pack::joined;
+use augmented_pack::packed;
+use augmented_pack::zero_takes;
+use choose::choose_exponent;
+use choose::choose_pattern;
+use pattern::classify;
+use pattern::larger;
+use pattern::smaller;
+use pattern_spec::Class;
+use rounding::round_with_rest;
+use rounding_spec::Ties;
+ghost use mathlib.Core.Path.{_≡_};
+ghost use mathlib.Core.Bool.{true, false};
+ghost use Prim.Native.Nat.{_*_, _^_};
+ghost use Rattle.rounding_spec.specs.Format.{binary32};
+ghost use Rattle.rounding_spec.specs.Value.{finite, decode, isFinite};
+ghost use Rattle.pattern_spec.specs.Classes.{classOf, Operand, Below};
+ghost use Rattle.augmented_spec.specs.Pairs.{pairOf, invalid, overflowed, flagsOf, exactSum};
+ghost use Rattle.augmented_spec.specs.Direct.{none};
+ghost use Rattle.augmented_spec.specs.Inner.{join, Apart, ShortRest};
+
+// The larger magnitude comes first, whose exponent then is not below the other's.
+pub fn of_patterns(x: u32, y: u32) -> u64
+    ensures { λ r. ⌜ r ≡ join (pairOf binary32 (exactSum binary32 x y)) ⌝ }
+{
+    let p = larger(x, y);
+    let q = smaller(x, y);
+    let a = classify(p);
+    match a {
+        Class::Finite {
+            sign: s,
+            sig: m,
+            exp: e,
+        } => finite_plus(s, m, e, p, q),
+        Class::Infinite(_) => special(p, q),
+        Class::NotANumber => special(p, q),
+    }
+}
+
+// From 26 places on the second operand does not reach a quarter of the first one's last place; `exact::sum` goes up to 31.
+fn finite_plus(s: bool, m: u64, e: u16, p: u32, q: u32) -> u64
+    requires { ⌜ Operand m e ⌝ }
+    requires { ⌜ decode binary32 p ≡ finite s (m * 2 ^ e) ⌝ }
+    requires { ⌜ Below e (classOf q) ⌝ }
+    ensures { λ r. ⌜ r ≡ join (pairOf binary32 (exactSum binary32 p q)) ⌝ }
+{
+    let b = classify(q);
+    match b {
+        Class::Finite {
+            sign: t,
+            sig: n,
+            exp: d,
+        } => {
+            if e - d > 31 {
+                apart(p, q)
+            } else {
+                let total = exact::sum(s, m as u32, e - d, t, n as u32);
+                near(total.sign, total.sig, d + 149)
+            }
+        }
+        Class::Infinite(_) => special(p, q),
+        Class::NotANumber => special(p, q),
+    }
+}
+
+// An infinite or NaN sum needs no rounding, so that it is the step's.
+fn special(p: u32, q: u32) -> u64
+    requires { ⌜ isFinite (exactSum binary32 p q) ≡ false ⌝ }
+    ensures { λ r. ⌜ r ≡ join (pairOf binary32 (exactSum binary32 p q)) ⌝ }
+{
+    let r = binary32::add(p, q);
+    joined(r, r)
+}
+
+// Two operands so far apart that they are their own pair, but for the sign of a zero.
+fn apart(p: u32, q: u32) -> u64
+    requires { ⌜ Apart p q ⌝ }
+    ensures { λ r. ⌜ r ≡ join (pairOf binary32 (exactSum binary32 p q)) ⌝ }
+{
+    joined(p, zero_takes(p >= 0x8000_0000, q))
+}
+
+// The rest of a sum has at most 24 digits, and none below u: it is a number of the format itself.
+fn near(sign: bool, sig: u64, exp: u16) -> u64
+    requires { ⌜ ShortRest sig exp ⌝ }
+    ensures { λ r. ⌜ r ≡ join (pairOf binary32 (finite sign (sig * 2 ^ exp))) ⌝ }
+{
+    let first = round_with_rest(Ties::ToZero, sign, sig, exp);
+    let over = is_infinite(first.pattern);
+    // The rest of an infinite first is not used, and has to stay in range.
+    let unit = choose_exponent(over, 0, exp - 149);
+    let second = packed(sign, first.up, first.rest, unit);
+    joined(first.pattern, choose_pattern(over, first.pattern, second))
+}

@@ -1,0 +1,106 @@
+// Sums of two patterns, rounded once. An addend is a sign, a significand and an exponent: s, m, e and t, n, d.
+use exact::signed_sum;
+use pattern::classify;
+use pattern::infinity;
+use pattern::larger;
+use pattern::smaller;
+use pattern_spec::Class;
+use pattern_spec::NAN;
+use rounding_spec::Ties;
+ghost use mathlib.Core.Path.{_≡_};
+ghost use Prim.Native.Nat.{_+_, _*_, _^_, _≤_, _<_};
+ghost use Rattle.rounding_spec.specs.declared.Ties.the-variants.{ToEven};
+ghost use Rattle.rounding_spec.specs.Format.{binary32};
+ghost use Rattle.rounding_spec.specs.Value.{infinite, finite, decode, encode, round};
+ghost use Rattle.pattern_spec.specs.Exact.{plusFinite, plus};
+ghost use Rattle.binary32_spec.specs.Steps.{addValue};
+ghost use Rattle.pattern_spec.specs.Classes.{valueOf, Operand, Below, Descending};
+ghost use Rattle.pattern_spec.specs.Unrounded.{Bounded};
+
+// The sum of two patterns.
+pub fn of_patterns(x: u32, y: u32) -> u32
+    ensures { λ r. ⌜ r ≡ encode binary32 (addValue binary32 (decode binary32 x) (decode binary32 y)) ⌝ }
+{
+    plus(classify(larger(x, y)), classify(smaller(x, y)))
+}
+
+fn plus(a: Class, b: Class) -> u32
+    requires { ⌜ Bounded Operand a ⌝ }
+    requires { ⌜ Bounded Operand b ⌝ }
+    requires { ⌜ Descending a b ⌝ }
+    ensures { λ r. ⌜ r ≡ encode binary32 (addValue binary32 (valueOf a) (valueOf b)) ⌝ }
+{
+    match a {
+        Class::NotANumber => NAN,
+        Class::Infinite(s) => infinite_plus(s, b),
+        Class::Finite {
+            sign: s,
+            sig: m,
+            exp: e,
+        } => finite_plus(s, m, e, b),
+    }
+}
+
+// An infinity and an operand, which need no rounding.
+pub fn infinite_plus(s: bool, b: Class) -> u32
+    ensures { λ r. ⌜ r ≡ encode binary32 (plus (infinite s) (valueOf b)) ⌝ }
+{
+    match b {
+        Class::NotANumber => NAN,
+        Class::Infinite(t) => { if s == t { infinity(s) } else { NAN } }
+        Class::Finite {
+            sign: _,
+            sig: _,
+            exp: _,
+        } => infinity(s),
+    }
+}
+
+fn finite_plus(s: bool, m: u64, e: u16, b: Class) -> u32
+    requires { ⌜ Operand m e ⌝ }
+    requires { ⌜ Bounded Operand b ⌝ }
+    requires { ⌜ Below e b ⌝ }
+    ensures { λ r. ⌜ r ≡ encode binary32 (addValue binary32 (finite s (m * 2 ^ e)) (valueOf b)) ⌝ }
+{
+    match b {
+        Class::NotANumber => NAN,
+        Class::Infinite(t) => infinity(t),
+        Class::Finite {
+            sign: t,
+            sig: n,
+            exp: d,
+        } => finite_sum(s, m, e, t, n, d),
+    }
+}
+
+// From 26 places on the second operand does not reach a quarter of the first one's last place; up to 39 the first one's shifted significand fits 63 bits. 31 is between.
+fn finite_sum(s: bool, m: u64, e: u16, t: bool, n: u64, d: u16) -> u32
+    requires { ⌜ d ≤ e ⌝ }
+    requires { ⌜ Operand m e ⌝ }
+    requires { ⌜ Operand n d ⌝ }
+    ensures { λ r. ⌜ r ≡ encode binary32 (addValue binary32 (finite s (m * 2 ^ e)) (finite t (n * 2 ^ d))) ⌝ }
+{
+    let gap = e - d;
+    if gap > 31 {
+        return packed(s, m, e);
+    }
+    round_sum(s, m << gap, t, n, d + 149)
+}
+
+// The pattern of an operand: exponent and significand side by side.
+fn packed(sign: bool, sig: u64, exp: u16) -> u32
+    requires { ⌜ Operand sig exp ⌝ }
+    ensures { λ r. ⌜ r ≡ encode binary32 (finite sign (sig * 2 ^ exp)) ⌝ }
+{
+    let c = (exp as u32) * 0x80_0000 + (sig as u32);
+    if sign { 0x8000_0000 + c } else { c }
+}
+
+// ±a * 2^exp and ±b * 2^exp units of 2^-298.
+pub fn round_sum(s: bool, a: u64, t: bool, b: u64, exp: u16) -> u32
+    requires { ⌜ (a < 2 ^ 63) × (b < 2 ^ 63) ⌝ }
+    ensures { λ r. ⌜ r ≡ encode binary32 (round ToEven binary32 (plusFinite s (a * 2 ^ exp) t (b * 2 ^ exp))) ⌝ }
+{
+    let sum = signed_sum(s, a, t, b);
+    rounding::round(Ties::ToEven, sum.sign, sum.sig, exp)
+}

@@ -1,0 +1,14 @@
+pub mod Result
+pub mod Special
+pub mod Near
+pub mod Jam
+pub mod Infinities
+pub mod Theorems
+pub mod IeeeFraction
+pub mod IeeeSame
+pub mod IeeeDecode
+pub mod IeeeRound
+pub mod IeeeSum
+pub mod IeeeProduct
+pub mod Agreement
+pub mod ThirdOperand

@@ -1,0 +1,4 @@
+pub mod Steps
+pub mod Theorems
+pub mod Inner
+pub mod Agreement

@@ -1,0 +1,117 @@
+-- An entering question: the terms of its foot and the terms set are finite, and both add up to its exact result.
+use mathlib.Core.Path.{_≡_, refl, sym, ap, ap₂, _∙_, subst}
+use mathlib.Core.Logic.{_≢_}
+use mathlib.Core.Bool.{true≢false, Bool, true, false, not, _&&_}
+use mathlib.Core.List.{[], _∷_}
+use Prim.Native.Nat.{ℕ, _+_, _*_, _^_, _<_}
+use native.Mathlib.Omega.{arith}
+use lib.IntN.{ℤ, _+ℤ_, +ℤ-idr}
+use lib.ListN.{length}
+use Rattle.pattern_spec.specs.Answer.{Answer, refused, done, isDone}
+use Rattle.rounding_spec.specs.Format.{binary32}
+use Rattle.rounding_spec.specs.Value.{finite, decode, isFinite}
+use Rattle.augmented_spec.specs.declared.Pair.{Pair}
+use Rattle.augmented_spec.specs.Direct.{Operation, sum, difference, product, directPair}
+use Rattle.augmented_spec.specs.Theorems.{finerInt}
+use Rattle.augmented_spec.proofs.Theorems.{every-finite, sum-adds-up, product-adds-up}
+use Rattle.worksheet_spec.specs.Filling.{FilledSheet, filled, HasDirectPair}
+use Rattle.worksheet_spec.proofs.Theorems.{filled-pair}
+use Rattle.accumulator_spec.specs.Totals.{ofPattern, exactTerm, whole}
+use Rattle.accumulator_spec.specs.Columns.{AllFinite, columnSum}
+use Rattle.accumulator_spec.proofs.Landmarks.{pattern-term}
+use Rattle.conservation_spec.specs.Lists.{Question, answer, operation, direct, finitePair, enters, footTerms, setTerms, exactResult, oneSum, oneProduct}
+use Rattle.conservation_spec.proofs.Operands.{both, number-of, operands, result-is, terms-sum, terms-finite}
+
+pub not-true : (b : Bool) → not b ≡ true → b ≡ false
+not-true false e = refl
+not-true true e = absurd (true≢false (sym e))
+
+-- ---- the two halves of a finite pair without X add up to the exact result
+record Halves (o : Operation) (x y : ℕ) (p : Pair) : Type 0 where
+  pub finite : AllFinite (ofPattern (p .first) ∷ ofPattern (p .second) ∷ [])
+  pub adds : columnSum (ofPattern (p .first) ∷ ofPattern (p .second) ∷ []) ≡ exactResult o x y
+
+two-halves : (o : Operation) (x y : ℕ) (p : Pair) (E : ℤ) (q : Bool) (c : ℕ) (r : Bool) (d : ℕ) → decode binary32 (p .first) ≡ finite q c → decode binary32 (p .second) ≡ finite r d
+    → finerInt binary32 q c +ℤ finerInt binary32 r d ≡ E → exactResult o x y ≡ E → Halves o x y p
+unfolding AllFinite columnSum
+two-halves o x y p E q c r d e f s g =
+    record {
+      finite = (ap isFinite e, (ap isFinite f, tt));
+      adds = ap₂ _+ℤ_ (pattern-term (p .first) q c e) (+ℤ-idr (whole (exactTerm (ofPattern (p .second)))) ∙ pattern-term (p .second) r d f) ∙ s ∙ sym g;
+    }
+
+module _ (x y : ℕ) (width : y < 2 ^ 32) where
+  by-sum : (o : Operation) → o ≢ product → isFinite (decode binary32 (directPair o binary32 x y .first)) ≡ true → Halves o x y (directPair o binary32 x y)
+  by-sum o n e =
+      let m = operands o x y width e in
+      let h = every-finite o x y (m .0 .sign) (m .0 .magnitude) (m .1 .sign) (m .1 .magnitude) width (m .0 .is) (m .1 .is) in
+      let f = number-of (decode binary32 (directPair o binary32 x y .first)) e in
+      let g = sum-adds-up o binary32 _ _ _ n h (f .sign) (f .magnitude) (f .is) in
+      two-halves o x y (directPair o binary32 x y) _ (f .sign) (f .magnitude) (g .0) (g .1) (f .is) (g .2) (g .3)
+      (result-is x y (m .0 .sign) (m .0 .magnitude) (m .1 .sign) (m .1 .magnitude) width (m .0 .is) (m .1 .is) o)
+
+  by-product : isFinite (decode binary32 (directPair product binary32 x y .first)) ≡ true → directPair product binary32 x y .flags .inexact ≡ false
+      → Halves product x y (directPair product binary32 x y)
+  by-product e i =
+      let m = operands product x y width e in
+      let h = every-finite product x y (m .0 .sign) (m .0 .magnitude) (m .1 .sign) (m .1 .magnitude) width (m .0 .is) (m .1 .is) in
+      let f = number-of (decode binary32 (directPair product binary32 x y .first)) e in
+      let g = product-adds-up binary32 _ _ _ h (f .sign) (f .magnitude) (f .is) in
+      two-halves product x y (directPair product binary32 x y) _ (f .sign) (f .magnitude) (g .0) (g .1) (f .is) (g .2) (g .4 i)
+      (result-is x y (m .0 .sign) (m .0 .magnitude) (m .1 .sign) (m .1 .magnitude) width (m .0 .is) (m .1 .is) product)
+
+  halves : (o : Operation) → isFinite (decode binary32 (directPair o binary32 x y .first)) ≡ true → directPair o binary32 x y .flags .inexact ≡ false → Halves o x y (directPair o binary32 x y)
+  halves sum e i = by-sum sum (λ (q : sum ≡ product). apart q) e
+    where
+      apart : sum ≡ product → ⊥
+      apart q = let z : _≡_ {A = ℕ} 0 1 = ap oneProduct q in omega arith
+  halves difference e i = by-sum difference (λ (q : difference ≡ product). apart q) e
+    where
+      apart : difference ≡ product → ⊥
+      apart q = let z : _≡_ {A = ℕ} 0 1 = ap oneProduct q in omega arith
+  halves product e i = by-product e i
+
+-- ---- an entering question
+pub record Entering (q : Question) : Type 0 where
+  pub footFinite : AllFinite (footTerms (answer q))
+  pub footAdds : columnSum (footTerms (answer q)) ≡ exactResult (operation q) (q .x) (q .y)
+  pub footCount : length (footTerms (answer q)) ≡ 2 * (oneSum (operation q) + oneProduct (operation q))
+  pub setFinite : AllFinite (setTerms (operation q) (q .x) (q .y))
+  pub setAdds : columnSum (setTerms (operation q) (q .x) (q .y)) ≡ exactResult (operation q) (q .x) (q .y)
+  pub setCount : length (setTerms (operation q) (q .x) (q .y)) ≡ 2 * oneSum (operation q) + oneProduct (operation q)
+
+foot-count : (o : Operation) → 2 ≡ 2 * (oneSum o + oneProduct o)
+foot-count sum = refl
+foot-count difference = refl
+foot-count product = refl
+
+set-count : (o : Operation) (x y : ℕ) → length (setTerms o x y) ≡ 2 * oneSum o + oneProduct o
+set-count sum x y = refl
+set-count difference x y = refl
+set-count product x y = refl
+
+-- the foot of a filled sheet is the direct pair
+foot-is : (a : Answer FilledSheet) (p : Pair) → isDone a ≡ true → ((n : ℕ) (r : Pair) → a ≡ filled n r → r ≡ p) → footTerms a ≡ ofPattern (p .first) ∷ ofPattern (p .second) ∷ []
+foot-is (refused n) p e h = absurd (true≢false (sym e))
+foot-is (done s) p e h = ap (λ (z : Pair). footTerms (filled (s .lines) z)) (h (s .lines) (s .pair) refl)
+
+pub entering : (q : Question) → q .y < 2 ^ 32 → enters q ≡ true → Entering q
+unfolding enters
+entering q width e =
+    let p = both (isDone (answer q)) (finitePair (direct q) && not (direct q .flags .inexact)) e in
+    let f = both (finitePair (direct q)) (not (direct q .flags .inexact)) (p .1) in
+    let g = both (isFinite (decode binary32 (direct q .first))) (isFinite (decode binary32 (direct q .second))) (f .0) in
+    let i = not-true (direct q .flags .inexact) (f .1) in
+    let m = operands (operation q) (q .x) (q .y) width (g .0) in
+    let h = halves (q .x) (q .y) width (operation q) (g .0) i in
+    let is : footTerms (answer q) ≡ ofPattern (direct q .first) ∷ ofPattern (direct q .second) ∷ [] =
+    foot-is (answer q) (direct q) (p .0) (λ n r k. subst (HasDirectPair (q .operation) (q .x) (q .y)) k (filled-pair (q .operation) (q .x) (q .y) (q .words))) in
+    let s = m .0 .sign in let a = m .0 .magnitude in let t = m .1 .sign in let b = m .1 .magnitude in
+    record {
+      footFinite = subst AllFinite (sym is) (h .finite);
+      footAdds = ap columnSum is ∙ h .adds;
+      footCount = ap length is ∙ foot-count (operation q);
+      setFinite = terms-finite (q .x) (q .y) s a t b width (m .0 .is) (m .1 .is) (operation q);
+      setAdds = terms-sum (q .x) (q .y) s a t b width (m .0 .is) (m .1 .is) (operation q) ∙ sym (result-is (q .x) (q .y) s a t b width (m .0 .is) (m .1 .is) (operation q));
+      setCount = set-count (operation q) (q .x) (q .y);
+    }

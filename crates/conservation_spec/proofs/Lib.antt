@@ -1,0 +1,10 @@
+pub mod Operands
+pub mod Entering
+pub mod Conservation
+pub mod Settled
+pub mod Theorems
+pub mod Events
+pub mod Misfits
+pub mod Refusals
+pub mod ReplayTheorems
+pub mod Outcome

@@ -1,0 +1,63 @@
+-- One question by the pair that came back: whether it enters, and what it leaves on both totals.
+use mathlib.Core.Path.{_≡_, refl, sym, ap, _∙_, subst}
+use mathlib.Core.Bool.{true, false, not, _&&_}
+use mathlib.Core.List.{List, [], _∷_}
+use Prim.Native.Nat.{ℕ}
+use borrow.Author.Tests.{ne-eqb}
+use Rattle.pattern_spec.specs.Answer.{refused}
+use Rattle.rounding_spec.specs.Format.{binary32}
+use Rattle.pattern_spec.specs.Classes.{flip}
+use Rattle.augmented_spec.specs.declared.Pair.{Pair}
+use Rattle.augmented_spec.specs.Direct.{operationOf}
+use Rattle.worksheet_spec.specs.Filling.{filled, HasDirectPair}
+use Rattle.worksheet_spec.proofs.Theorems.{filled-pair}
+use Rattle.accumulator_spec.specs.Totals.{Term, ofPattern, ofProduct, afterAdding}
+use Rattle.accumulator_spec.specs.Columns.{column}
+use Rattle.conservation_spec.specs.Lists.{Question, answer, operation, direct, finitePair, enters, setTerms, Totals, asked}
+
+module _ (q : Question) where
+  -- the pair that came back is the direct pair
+  enters-is : (n : ℕ) (p : Pair) → filled n p ≡ answer q → enters q ≡ finitePair p && not (p .flags .inexact)
+  unfolding enters
+  enters-is n p e =
+      let d : p ≡ direct q = subst (HasDirectPair (q .operation) (q .x) (q .y)) (sym e) (filled-pair (q .operation) (q .x) (q .y) (q .words)) in
+      rw (← e, d)
+
+  refused-out : (n : ℕ) → refused n ≡ answer q → enters q ≡ false
+  unfolding enters
+  refused-out n e = rw (← e)
+
+  module _ (t : Totals) where
+    out : enters q ≡ false → (t .first ≡ asked q t .first) × (t .other ≡ asked q t .other)
+    out e = rw e (refl, refl)
+
+    pub refused-adds-nothing : (n : ℕ) → refused n ≡ answer q → (t .first ≡ asked q t .first) × (t .other ≡ asked q t .other)
+    refused-adds-nothing n e = out (refused-out n e)
+
+    pub outside-adds-nothing : (n : ℕ) (p : Pair) → filled n p ≡ answer q → finitePair p && not (p .flags .inexact) ≡ false → (t .first ≡ asked q t .first) × (t .other ≡ asked q t .other)
+    outside-adds-nothing n p e b = out (enters-is n p e ∙ b)
+
+    pub entering-adds : (n : ℕ) (p : Pair) → filled n p ≡ answer q → finitePair p && not (p .flags .inexact) ≡ true → (first other : List ℕ)
+        → first ≡ column (t .first) (ofPattern (p .first) ∷ ofPattern (p .second) ∷ []) → other ≡ column (t .other) (setTerms (operation q) (q .x) (q .y))
+        → (first ≡ asked q t .first) × (other ≡ asked q t .other)
+    entering-adds n p e b first other f o = rw (enters-is n p e ∙ b, ← e) (f, o)
+
+-- ---- terms one after the other
+pub one-term : (t a : List ℕ) (x : Term) → a ≡ afterAdding t x → a ≡ column t (x ∷ [])
+unfolding column
+one-term t a x e = e
+
+pub two-terms : (t a b : List ℕ) (x y : Term) → a ≡ afterAdding t x → b ≡ afterAdding a y → b ≡ column t (x ∷ y ∷ [])
+unfolding column
+two-terms t a b x y e f = f ∙ ap (λ (u : List ℕ). afterAdding u y) e
+
+-- the terms set, by the operation's number
+module _ (n x y : ℕ) where
+  pub sum-set : n ≡ 1 → ofPattern x ∷ ofPattern y ∷ [] ≡ setTerms (operationOf n) x y
+  sum-set e = rw e
+
+  pub difference-set : {z : ℕ} → n ≡ 2 → z ≡ flip binary32 y → ofPattern x ∷ ofPattern z ∷ [] ≡ setTerms (operationOf n) x y
+  difference-set e f = rw (e, f)
+
+  pub product-set : (n ≡ 1 → ⊥) → (n ≡ 2 → ⊥) → ofProduct x y ∷ [] ≡ setTerms (operationOf n) x y
+  product-set a b = rw (ne-eqb n 1 a, ne-eqb n 2 b)

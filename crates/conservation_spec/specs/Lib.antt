@@ -1,0 +1,4 @@
+pub mod Lists
+pub mod Theorems
+pub mod Replay
+pub mod ReplayTheorems

@@ -1,9 +1,0 @@
--- The numbers that a reply goes by inside the library. No public contract of `accumulator` cites it. Assumes nothing.
-use Prim.Native.Nat.{ℕ}
-use mathlib.Core.Bool.{cond}
-use lib.Dec.{eqb}
-use Rattle.totals.specs.Totals.{Answer, refused, pair}
-
--- what a reply says: 0 that the pair was read, 5 or 6 a refusal
-abbrev pub replied : ℕ → ℕ → ℕ → Answer
-replied refusal first second = cond (eqb refusal 0) (pair first second) (cond (eqb refusal 5) (refused 5) (refused 6))

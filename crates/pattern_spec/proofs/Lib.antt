@@ -1,0 +1,10 @@
+pub mod Classified
+pub mod Sums
+pub mod Exchanged
+pub mod Exacts
+pub mod Far
+pub mod Integers
+pub mod Products
+pub mod Ordered
+pub mod Theorems
+pub mod Moved

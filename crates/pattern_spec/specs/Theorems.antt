@@ -1,0 +1,50 @@
+-- What is proved of classes, flipped signs and exact values. Each name is a statement; `proofs/Theorems.antt` has its proof.
+use mathlib.Core.Path.{_≡_}
+use mathlib.Core.Logic.{_⊎_}
+use mathlib.Core.Bool.{Bool, not, _&&_}
+use Prim.Native.Nat.{ℕ, _*_, _%_, _^_, _≤_, _<_}
+use lib.Dec.{leb}
+use lib.Ieee.{unlike}
+use lib.IntN.{_+ℤ_, _*ℤ_}
+use Rattle.rounding_spec.specs.Format.{Format, binary32, signBit}
+use Rattle.rounding_spec.specs.Value.{finite, decode}
+use Rattle.pattern_spec.specs.Exact.{negate, plusFinite, int}
+use Rattle.pattern_spec.specs.Classes.{classOf, valueOf, flip, Operand}
+use Rattle.pattern_spec.specs.Unrounded.{larger, smaller, Bounded}
+
+-- the class of a pattern stands for the value that the pattern decodes to
+abbrev pub ClassDecodes : Type 0
+ClassDecodes = (x : ℕ) → valueOf (classOf x) ≡ decode binary32 x
+
+-- significand and exponent of a pattern's class are within an operand's bounds
+abbrev pub ClassBounded : Type 0
+ClassBounded = (x : ℕ) → Bounded Operand (classOf x)
+
+-- both operands, the larger of the bits below the sign first, a NaN's among them; where both are equal, x
+abbrev pub LargerFirst : Type 0
+LargerFirst =
+    (x y : ℕ) → (((larger x y ≡ x) × (smaller x y ≡ y)) ⊎ ((larger x y ≡ y) × (smaller x y ≡ x))) × (smaller x y % 2 ^ 31 ≤ larger x y % 2 ^ 31)
+    × (x % 2 ^ 31 ≡ y % 2 ^ 31 → (larger x y ≡ x) × (smaller x y ≡ y))
+
+-- "y's sign bit flipped, NaN included": the other bits stay
+abbrev pub FlipBits : Type 0
+FlipBits =
+    (F : Format) (x : ℕ) → x < 2 * signBit F
+    → (flip F x % signBit F ≡ x % signBit F) × (leb (signBit F) (flip F x) ≡ not (leb (signBit F) x)) × (flip F x < 2 * signBit F)
+
+-- a flipped sign bit negates the value
+abbrev pub FlipNegates : Type 0
+FlipNegates = (F : Format) (x : ℕ) → x < 2 * signBit F → decode F (flip F x) ≡ negate (decode F x)
+
+-- ---- exact sums and products are those of whole numbers
+-- "An exact zero .. takes the common sign of the two addends .. else +0": minus only where both are
+abbrev pub PlusExact : Type 0
+PlusExact =
+    (s : Bool) (a : ℕ) (t : Bool) (b : ℕ) → (r : Bool) × (c : ℕ) × (plusFinite s a t b ≡ finite r c) × (int r c ≡ int s a +ℤ int t b) × (c ≡ 0 → r ≡ s && t)
+
+abbrev pub TimesExact : Type 0
+TimesExact = (s : Bool) (a : ℕ) (t : Bool) (b : ℕ) → int (unlike s t) (a * b) ≡ int s a *ℤ int t b
+
+-- ---- all of them: `proofs/Theorems.antt` proves this
+abbrev pub All : Type 0
+All = ClassDecodes × ClassBounded × LargerFirst × FlipBits × FlipNegates × PlusExact × TimesExact

@@ -1,0 +1,46 @@
+-- Proofs of the statements about question lines (specs/Theorems.antt).
+use Prim.Native.Nat.{ℕ}
+use mathlib.Core.Path.{_≡_, refl, sym}
+use mathlib.Core.Logic.{_≢_, _⊎_, ⊎-elim}
+use mathlib.Core.Bool.{Bool, true, false}
+use mathlib.Core.List.{List}
+use native.Mathlib.Omega.{arith}
+use borrow.Author.Tests.{eqb-true, eqb-false}
+use lib.Dec.{eqb}
+use lib.ListN.{length, getD}
+use Rattle.pattern_spec.specs.Answer.{refused}
+use Rattle.question_spec.specs.Questions.{lettersOperation, reading}
+use Rattle.question_spec.specs.Theorems.{RefusedInOrder, Letters, ReadBack, OnlyText, All}
+use Rattle.question_spec.proofs.Refusals.{length-refused, letters-refused, first-tab-refused, second-tab-refused, digits-refused}
+use Rattle.question_spec.proofs.ThreeLetters.{of-sum, of-dif, of-mul, unknown}
+use Rattle.question_spec.proofs.Whole.{is-text, text-read}
+
+module _ (line : List ℕ) (full : length line ≡ 21) (known : lettersOperation line ≢ 0) where
+  second-tab : (b : Bool) → (b ≡ true → getD line 3 0 ≡ 9) → (b ≡ false → getD line 3 0 ≡ 9 → ⊥) → getD line 12 0 ≢ 9 → refused 3 ≡ reading line
+  second-tab true p q n = second-tab-refused line (lettersOperation line) full refl known (p refl) n
+  second-tab false p q n = first-tab-refused line (lettersOperation line) full refl known (q refl)
+
+  tab-refused : (getD line 3 0 ≢ 9) ⊎ (getD line 12 0 ≢ 9) → refused 3 ≡ reading line
+  tab-refused =
+      ⊎-elim (first-tab-refused line (lettersOperation line) full refl known)
+      (second-tab (eqb (getD line 3 0) 9) (eqb-true (getD line 3 0) 9) (eqb-false (getD line 3 0) 9))
+
+pub refused-in-order : RefusedInOrder
+refused-in-order line = (
+  λ n. sym (length-refused line n),
+  λ full p q r. sym (letters-refused line (lettersOperation line) full refl (unknown line (omega arith) p q r)),
+  λ full known n. sym (tab-refused line full known n),
+  λ full known tab tab2 b. sym (digits-refused line (lettersOperation line) full refl known tab tab2 b),
+)
+
+pub letters-are : Letters
+letters-are line = (of-sum line, of-dif line, of-mul line)
+
+pub read-back : ReadBack
+read-back o x y h k low low2 = text-read x y low low2 o h k
+
+pub only-text : OnlyText
+only-text line o x y = is-text line o x y
+
+pub all : All
+all = (refused-in-order, letters-are, read-back, only-text)

@@ -1,0 +1,1 @@
+// Question lines as definitions and theorems. No function is here.

@@ -1,6 +1,0 @@
-pub mod Format
-pub mod Round
-pub mod Nearest
-pub mod Value
-pub mod Theorems
-pub mod Inner

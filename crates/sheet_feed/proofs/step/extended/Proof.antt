@@ -1,0 +1,14 @@
+use mathlib.Core.Path.{refl}
+use Rattle.sheet_feed.proofs.Stepped.{extended}
+use borrow.Author.Needs.{needs}
+use Rattle.sheet_feed.proofs.step.extended.Statement.{statement}
+use Rattle.sheet_feed.proofs.step.extended.Tie as tie
+
+kept-requires : tie.Need-kept-requires
+kept-requires c κs = search needs
+
+returns : tie.Need-returns
+returns c = (refl, λ total. extended _ (c .before .before .pre .0) (c .before .before .pre .1) _ _ _ _ (c .kept .ensures) total)
+
+pub extended-spec : {M : Type 1} → statement M
+extended-spec = tie.close (tie.spec kept-requires returns)

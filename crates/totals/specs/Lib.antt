@@ -1,4 +1,0 @@
-pub mod Totals
-pub mod Columns
-pub mod Theorems
-pub mod Inner

@@ -1,0 +1,58 @@
+use Rattle.transcript_spec.proofs.Written.{dash-put}
+use Rattle.transcript_spec.proofs.Stored.{stored}
+use Rattle.transcript_spec.proofs.FieldLaws.{marks-length, flags-room, some-flags}
+use lib.ListN.{length-set}
+use mathlib.Core.Path.{refl, _∙_}
+use Prim.Native.Nat.{_+_}
+use Rattle.transcript_spec.proofs.Pasted.{then}
+use native.Mathlib.Omega.{arith}
+use borrow.Author.Needs.{needs}
+use Rattle.transcript_fields.proofs.flags.put_flags.Statement.{statement}
+use Rattle.transcript_fields.proofs.flags.put_flags.Tie as tie
+
+put-mark-requires : tie.Need-put-mark-requires
+put-mark-requires c κs = let f = c .before .before .args .flags in omega (arith, marks-length f, flags-room f)
+
+put-mark-requires-2 : tie.Need-put-mark-requires-2
+put-mark-requires-2 c κs = let f = c .before .before .before .before .before .before .args .flags in omega (arith, marks-length f, flags-room f)
+
+put-mark-requires-3 : tie.Need-put-mark-requires-3
+put-mark-requires-3 c κs = let f = c .before .before .before .before .before .before .before .before .before .before .args .flags in omega (arith, marks-length f, flags-room f)
+
+put-mark-requires-4 : tie.Need-put-mark-requires-4
+put-mark-requires-4 c κs = let f = c .before .before .before .before .before .before .before .before .before .before .before .before .before .before .args .flags in omega (arith, marks-length f, flags-room f)
+
+slice-write-out : tie.Need-slice-write-out
+slice-write-out c = omega (arith, flags-room (c .before .before .before .before .before .before .before .before .before .before .before .before .before .before .before .before .before .before .args .flags))
+
+add-result : tie.Need-add-result
+add-result c = search needs
+
+same-length : tie.Need-same-length
+same-length c = length-set (c .before .before .before .put-mark4 .last .0) (c .before .before .before .before .before .before .before .before .before .before .before .before .before .before .before .before .before .before .args .at) 45 ∙ (c .before .before .before .put-mark4 .kept .0 ∙ (c .before .before .before .before .before .before .before .put-mark3 .kept .0 ∙ (c .before .before .before .before .before .before .before .before .before .before .before .put-mark2 .kept .0 ∙ c .before .before .before .before .before .before .before .before .before .before .before .before .before .before .before .put-mark .kept .0)))
+
+returns : tie.Need-returns
+returns c = dash-put (c .before .before .before .before .before .before .before .before .before .before .before .before .before .before .before .before .before .before .args .flags) (then (c .before .before .before .before .before .before .before .before .before .before .before .before .before .before .before .put-mark .ensures) (then (c .before .before .before .before .before .before .before .before .before .before .before .put-mark2 .ensures) (then (c .before .before .before .before .before .before .before .put-mark3 .ensures) (c .before .before .before .put-mark4 .ensures)))) (c .if1 .taken) (stored (c .before .before .before .put-mark4 .last .0) (c .before .before .before .before .before .before .before .before .before .before .before .before .before .before .before .before .before .before .args .at) 45 (c .before .before .before .before .before .before .before .before .before .before .before .before .before .before .before .before .before .before .args .at + 1) (omega (arith, flags-room (c .before .before .before .before .before .before .before .before .before .before .before .before .before .before .before .before .before .before .args .flags))) refl)
+
+same-length-2 : tie.Need-same-length-2
+same-length-2 c = search needs
+
+returns-2 : tie.Need-returns-2
+returns-2 c =
+    let put = then (c .before .before .before .before .before .before .before .before .before .before .before .before .before .before .before .put-mark .ensures) (then (c .before .before .before .before .before .before .before .before .before .before .before .put-mark2 .ensures) (then (c .before .before .before .before .before .before .before .put-mark3 .ensures) (c .before .before .before .put-mark4 .ensures))) in
+    rw (some-flags (c .before .before .before .before .before .before .before .before .before .before .before .before .before .before .before .before .before .before .args .flags) (λ z. c .if1 .left (omega (arith, put .place, z)))) put
+
+pub put-flags-spec : {M : Type 1} → statement M
+put-flags-spec =
+    tie.close
+    (tie.spec
+    put-mark-requires
+    put-mark-requires-2
+    put-mark-requires-3
+    put-mark-requires-4
+    slice-write-out
+    add-result
+    same-length
+    returns
+    same-length-2
+    returns-2)

@@ -1,0 +1,39 @@
+use Rattle.transcript_spec.proofs.Written.{letters-put}
+use Rattle.transcript_spec.proofs.FieldLaws.{letters-length}
+use Rattle.question_spec.specs.Questions.{letters}
+use borrow.Author.Needs.{needs}
+use Rattle.transcript_fields.proofs.letters.put_letters.Statement.{statement}
+use Rattle.transcript_fields.proofs.letters.put_letters.Tie as tie
+
+question-requires : tie.Need-question-requires
+question-requires c κs = search needs
+
+array-read-put-four : tie.Need-array-read-put-four
+array-read-put-four c = search needs
+
+array-read-put-four-2 : tie.Need-array-read-put-four-2
+array-read-put-four-2 c = search needs
+
+array-read-put-four-3 : tie.Need-array-read-put-four-3
+array-read-put-four-3 c = search needs
+
+put-four-requires : tie.Need-put-four-requires
+put-four-requires c κs = search needs
+
+same-length : tie.Need-same-length
+same-length c = search needs
+
+returns : tie.Need-returns
+returns c = letters-put (c .before .before .before .before .question .result) (letters (c .before .before .before .before .before .before .args .operation)) (c .before .before .before .before .question .ensures) (letters-length (c .before .before .before .before .before .before .args .operation)) (c .before .before .put-four .ensures)
+
+pub put-letters-spec : {M : Type 1} → statement M
+put-letters-spec =
+    tie.close
+    (tie.spec
+    question-requires
+    array-read-put-four
+    array-read-put-four-2
+    array-read-put-four-3
+    put-four-requires
+    same-length
+    returns)

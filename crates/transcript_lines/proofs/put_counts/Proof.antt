@@ -1,0 +1,46 @@
+use Rattle.transcript_spec.proofs.Stored.{stored}
+use lib.ListN.{length-set}
+use mathlib.Core.Path.{refl, _∙_}
+use Prim.Native.Nat.{_+_}
+use Rattle.transcript_spec.proofs.Pasted.{then}
+use native.Mathlib.Omega.{arith}
+use borrow.Author.Needs.{needs}
+use Rattle.transcript_lines.proofs.put_counts.Statement.{statement}
+use Rattle.transcript_lines.proofs.put_counts.Tie as tie
+
+put-four-requires : tie.Need-put-four-requires
+put-four-requires c κs = search needs
+
+put-decimal-requires : tie.Need-put-decimal-requires
+put-decimal-requires c κs = search needs
+
+put-byte-requires : tie.Need-put-byte-requires
+put-byte-requires c κs = search needs
+
+put-decimal-requires-2 : tie.Need-put-decimal-requires-2
+put-decimal-requires-2 c κs = search needs
+
+slice-write-out : tie.Need-slice-write-out
+slice-write-out c = omega arith
+
+add-result : tie.Need-add-result
+add-result c = search needs
+
+same-length : tie.Need-same-length
+same-length c = length-set (c .before .before .put-decimal2 .last .0) (c .before .before .put-decimal2 .result) 10 ∙ (c .before .before .put-decimal2 .kept .0 ∙ (c .before .before .before .before .before .before .put-byte .kept .0 ∙ (c .before .before .before .before .before .before .before .before .before .before .put-decimal .kept .0 ∙ (c .before .before .before .before .before .before .before .before .before .before .before .before .before .before .put-four .kept .0))))
+
+returns : tie.Need-returns
+returns c = then (c .before .before .before .before .before .before .before .before .before .before .before .before .before .before .put-four .ensures) (then (c .before .before .before .before .before .before .before .before .before .before .put-decimal .ensures) (then (c .before .before .before .before .before .before .put-byte .ensures) (then (c .before .before .put-decimal2 .ensures) (stored (c .before .before .put-decimal2 .last .0) (c .before .before .put-decimal2 .result) 10 (c .before .before .put-decimal2 .result + 1) (omega arith) refl))))
+
+pub put-counts-spec : {M : Type 1} → statement M
+put-counts-spec =
+    tie.close
+    (tie.spec
+    put-four-requires
+    put-decimal-requires
+    put-byte-requires
+    put-decimal-requires-2
+    slice-write-out
+    add-result
+    same-length
+    returns)

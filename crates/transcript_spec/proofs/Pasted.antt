@@ -1,0 +1,40 @@
+-- Texts put into a buffer: one after another, and byte by byte.
+use Prim.Native.Nat.{ℕ, _+_, _≤_}
+use mathlib.Core.Path.{_≡_, _∙_, ap}
+use mathlib.Core.List.{List, _++_, append-assoc}
+use native.Mathlib.Omega.{arith}
+use lib.ListN.{length, take, drop, length-append, length-take, length-drop}
+use lib.Seq.{take-at, drop-at, drop-drop}
+use Rattle.transcript_spec.specs.Inner.{pasted, Put}
+
+pub pasted-length : (s : List ℕ) (at : ℕ) (t : List ℕ) → at + length t ≤ length s → length (pasted s at t) ≡ length s
+unfolding pasted
+pasted-length s at t h =
+    rw (length-append (take at s) (t ++ drop (length t) (drop at s)), length-append t (drop (length t) (drop at s)), length-drop (length t) (drop at s), length-drop at s, length-take at s)
+    (omega arith)
+
+-- two texts, one after the other
+pasted-twice : (s : List ℕ) (at : ℕ) (t u : List ℕ) → at + length t ≤ length s → pasted (pasted s at t) (at + length t) u ≡ pasted s at (t ++ u)
+unfolding pasted
+pasted-twice s at t u h =
+    let front : length (take at s ++ t) ≡ at + length t = rw (length-append (take at s) t, length-take at s) (omega arith) in
+    rw (
+      ← append-assoc (take at s) t (drop (length t) (drop at s)),
+      take-at (take at s ++ t) (drop (length t) (drop at s)) (at + length t) front,
+      drop-at (take at s ++ t) (drop (length t) (drop at s)) (at + length t) front,
+      append-assoc,
+      drop-drop (length u) (length t) (drop at s),
+      length-append t u,
+      append-assoc t u,
+    )
+
+pub then : {s r v : List ℕ} {at p q : ℕ} {t u : List ℕ} → Put s at t p r → Put r p u q v → Put s at (t ++ u) q v
+then {s} {r} {v} {at} {p} {q} {t} {u} a b =
+    let l = length-append t u in
+    let same : length r ≡ length s = ap length (a .bytes) ∙ pasted-length s at t (a .room) in
+    let more = b .room in
+    record {
+      room = rw l (omega arith);
+      place = b .place ∙ rw (a .place, l) (omega arith);
+      bytes = b .bytes ∙ rw (a .bytes, a .place) (pasted-twice s at t u (a .room));
+    }

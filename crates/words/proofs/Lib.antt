@@ -1,9 +1,0 @@
-pub mod Append
-pub mod Complements
-pub mod Carry
-pub mod Signed
-pub mod TwosComplement
-pub mod Parts
-pub mod Places
-pub mod Significand
-pub mod Theorems

@@ -1,0 +1,82 @@
+// What the lines of sums and products share.
+use crate::Foot;
+use crate::Places;
+use crate::constants::KAPPA;
+use crate::constants::MINUS_TWO;
+use crate::constants::PLUS_ZERO;
+use crate::constants::PSI;
+use crate::constants::TWO;
+use pattern::flipped;
+ghost use Prim.Native.Nat.{_<_, _≤_};
+ghost use Rattle.worksheet_spec.specs.Sheets.{recomposition, zeroFinish, recomposedFinished, edgeFinish};
+ghost use Rattle.worksheet_lines.specs.Inner.{Follows};
+
+pub fn recomposition(lines: &mut Places, n: usize, a: u32, b: u32) -> Foot
+    requires { ⌜ n ≤ 10 ⌝ }
+    ensures { λ r. ⌜ Follows (now (lines .entry)) (now (lines .exit)) n (recomposition a b) r ⌝ }
+{
+    let z = crate::mul(lines, n, PSI, a);
+    let d = crate::sub(lines, n + 1, z, a);
+    let e = crate::mul(lines, n + 2, TWO, b);
+    if worksheet_choices::equal(e, d) {
+        return Foot {
+            first: z,
+            second: flipped(b),
+            next: n + 3,
+        };
+    }
+    Foot {
+        first: a,
+        second: b,
+        next: n + 3,
+    }
+}
+
+// A zero second takes first's sign.
+pub fn zero_finish(lines: &mut Places, n: usize, first: u32, second: u32) -> Foot
+    requires { ⌜ n < 13 ⌝ }
+    ensures { λ r. ⌜ Follows (now (lines .entry)) (now (lines .exit)) n (zeroFinish first second) r ⌝ }
+{
+    if worksheet_choices::is_zero(second) {
+        let nought = crate::mul(lines, n, PLUS_ZERO, first);
+        return Foot {
+            first,
+            second: nought,
+            next: n + 1,
+        };
+    }
+    Foot {
+        first,
+        second,
+        next: n,
+    }
+}
+
+pub fn recomposed_finished(lines: &mut Places, n: usize, a: u32, b: u32) -> Foot
+    requires { ⌜ n < 10 ⌝ }
+    ensures { λ r. ⌜ Follows (now (lines .entry)) (now (lines .exit)) n (recomposedFinished a b) r ⌝ }
+{
+    let pair = recomposition(lines, n, a, b);
+    zero_finish(lines, pair.next, pair.first, pair.second)
+}
+
+// An infinite a stands for a pair at the edge, or for itself twice.
+pub fn edge_finish(lines: &mut Places, n: usize, a: u32, half: u32, rest: u32) -> Foot
+    requires { ⌜ n < 12 ⌝ }
+    ensures { λ r. ⌜ Follows (now (lines .entry)) (now (lines .exit)) n (edgeFinish a half rest) r ⌝ }
+{
+    if worksheet_choices::at_edge(half, rest) {
+        let first = crate::mul(lines, n, KAPPA, half);
+        let second = crate::mul(lines, n + 1, MINUS_TWO, rest);
+        return Foot {
+            first,
+            second,
+            next: n + 2,
+        };
+    }
+    Foot {
+        first: a,
+        second: a,
+        next: n,
+    }
+}

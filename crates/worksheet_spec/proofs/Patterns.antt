@@ -1,0 +1,89 @@
+-- Patterns of a sheet and their values: steps, flips, constants with a sign; and from a value back to its pattern.
+use mathlib.Core.Path.{_≡_, refl, sym, ap, _∙_}
+use mathlib.Core.Logic.{_≢_, inl, inr}
+use mathlib.Core.Bool.{Bool, true, false, not, cond}
+use Prim.Native.Nat.{ℕ, _*_, _%_, _<_}
+use native.Mathlib.Nat.{lt-of-le-of-lt, le-of-eq}
+use native.Mathlib.Decide.{decLe}
+use native.Mathlib.Omega.{arith}
+use borrow.Author.Tests.{le-leb, lt-leb}
+use lib.Dec.{leb}
+use Rattle.rounding_spec.specs.declared.Ties.the-variants.{ToEven}
+use Rattle.rounding_spec.specs.Format.{binary32, infinity, signBit}
+use Rattle.rounding_spec.specs.Value.{Value, nan, finite, unsigned, decode, encode, round}
+use Rattle.rounding_spec.proofs.Codec.{unsigned-finite, unsigned-infinite, unsigned-nan, encode-decode}
+use Rattle.rounding_spec.proofs.Compare.{tri}
+use Rattle.rounding_spec.proofs.RoundValue.{round-fits}
+use Rattle.pattern_spec.specs.Exact.{negate, plus, times, finer}
+use Rattle.binary32_spec.specs.Steps.{addValue, subValue, mulValue, fmaValue, addStep, subStep, mulStep, fmaStep}
+use Rattle.pattern_spec.proofs.Classified.{decode-flip}
+use Rattle.binary32_spec.proofs.Result.{add-step, sub-step, mul-step, fma-step}
+use Rattle.augmented_spec.proofs.Width.{encode-width}
+use Rattle.worksheet_spec.specs.Lines.{value, minus, copySign}
+
+-- ---- a pattern of 32 bits
+abbrev pub Pattern : ℕ → Type 0
+Pattern x = x < 2 * signBit binary32
+
+rounded-width : (x : ℕ) (v : Value) → x ≡ encode binary32 (round ToEven binary32 v) → Pattern x
+rounded-width x v e = lt-of-le-of-lt (le-of-eq e) (encode-width binary32 (omega arith) (round ToEven binary32 v) (round-fits ToEven binary32 v))
+
+pub add-width : (x y : ℕ) → Pattern (addStep x y)
+unfolding addValue
+add-width x y = rounded-width (addStep x y) (finer binary32 (plus (value x) (value y))) (add-step x y)
+
+pub sub-width : (x y : ℕ) → Pattern (subStep x y)
+unfolding subValue addValue
+sub-width x y = rounded-width (subStep x y) (finer binary32 (plus (value x) (negate (value y)))) (sub-step x y)
+
+pub mul-width : (x y : ℕ) → Pattern (mulStep x y)
+unfolding mulValue
+mul-width x y = rounded-width (mulStep x y) (times (value x) (value y)) (mul-step x y)
+
+pub fma-width : (x y z : ℕ) → Pattern (fmaStep x y z)
+unfolding fmaValue
+fma-width x y z = rounded-width (fmaStep x y z) (plus (times (value x) (value y)) (finer binary32 (value z))) (fma-step x y z)
+
+-- ---- its value with the other sign
+pub minus-value : (x : ℕ) → Pattern x → value (minus x) ≡ negate (value x)
+minus-value x h = decode-flip binary32 x h
+
+pub negate-finite : (s : Bool) (a : ℕ) → negate (finite s a) ≡ finite (not s) a
+unfolding negate
+negate-finite s a = refl
+
+pub minus-nan : (x : ℕ) → Pattern x → value x ≡ nan → value (minus x) ≡ nan
+unfolding negate
+minus-nan x w e = minus-value x w ∙ ap negate e
+
+pub minus-width : (x : ℕ) → Pattern x → Pattern (minus x)
+minus-width x h = elim (decLe (signBit binary32) x) [ yes g ↦ rw (le-leb (signBit binary32) x g) (omega arith) | no g ↦ let k : x < signBit binary32 = omega arith in rw (lt-leb (signBit binary32) x k) (omega arith) ]
+
+-- ---- a pattern that is no NaN is read back from its value
+pub pattern-of : (x : ℕ) (v : Value) → Pattern x → value x ≡ v → v ≢ nan → x ≡ encode binary32 v
+pattern-of x v w e n = sym (encode-decode binary32 x w (λ z. n (sym e ∙ z))) ∙ ap (encode binary32) e
+
+-- ---- a constant with a's sign
+unsigned-sign : (b s : Bool) (c A : ℕ) → unsigned binary32 b c ≡ finite s A → b ≡ s
+unsigned-sign b s c A e =
+    elim (tri c (infinity binary32)) [
+      | inl h ↦ let z = unsigned-finite binary32 b c h in cc
+      | inr o ↦ elim o [ inl h ↦ let z = unsigned-infinite binary32 b c h in cc | inr h ↦ let z = unsigned-nan binary32 b c h in cc ]
+    ]
+
+pub sign-value : (a : ℕ) (s : Bool) (A : ℕ) → value a ≡ finite s A → (c m : ℕ) → Pattern c → value c ≡ finite false m → value (copySign c a) ≡ finite s m
+sign-value a s A e c m w d = rw (sign e) (by s)
+  where
+    sign : value a ≡ finite s A → leb (signBit binary32) a ≡ s
+    sign e = unsigned-sign (leb (signBit binary32) a) s (a % signBit binary32) A (unfold decode in e)
+
+    by : (s : Bool) → value (cond s (minus c) c) ≡ finite s m
+    by true = minus-value c w ∙ ap negate d ∙ negate-finite false m
+    by false = d
+
+pub sign-width : (a c : ℕ) → Pattern c → Pattern (copySign c a)
+sign-width a c w = by (leb (signBit binary32) a)
+  where
+    by : (b : Bool) → Pattern (cond b (minus c) c)
+    by true = minus-width c w
+    by false = w

@@ -1,0 +1,112 @@
+-- The product's sheet, all branches together: its foot is the pair of the exact product, for all patterns.
+use mathlib.Core.Path.{_≡_, refl, sym, ap, ap₂, _∙_, subst}
+use mathlib.Core.Logic.{inl, inr}
+use mathlib.Core.Bool.{Bool, true, false, cond, _&&_}
+use Prim.Native.Nat.{ℕ, _*_, _^_, _<_}
+use native.Mathlib.Nat.{eq-zero-or-pos}
+use native.Mathlib.Decide.{decLe}
+use native.Mathlib.Omega.{arith}
+use borrow.Author.Tests.{ltb-true, ltb-false, leb-true, leb-false, eqb-true, eqb-false}
+use lib.Dec.{ltb, leb, eqb}
+use lib.Ieee.{unlike}
+use Rattle.rounding_spec.specs.declared.Ties.the-variants.{ToEven}
+use Rattle.rounding_spec.specs.Format.{binary32, limit}
+use Rattle.rounding_spec.specs.Nearest.{Rep}
+use Rattle.rounding_spec.specs.Value.{Value, nan, infinite, finite, Fits, encode, isFinite, isZero}
+use Rattle.rounding_spec.proofs.RoundValue.{round-above}
+use Rattle.rounding_spec.proofs.Codec.{decode-fits}
+use Rattle.pattern_spec.specs.Exact.{times}
+use Rattle.binary32_spec.specs.Steps.{fmaValue, mulStep, fmaStep}
+use Rattle.binary32_spec.proofs.Theorems.{mul-decodes, fma-decodes}
+use Rattle.binary32_spec.proofs.Result.{mul-step, fma-step}
+use Rattle.errorfree_spec.proofs.Steps.{toEven}
+use Rattle.worksheet_spec.specs.Constants.{half}
+use Rattle.worksheet_spec.specs.Lines.{value, minus}
+use Rattle.worksheet_spec.specs.Sheets.{whenZero, Branch, whenTiny, whenMiddle, otherwise, infiniteProduct, otherProduct, branchOf, productBy, productSheet}
+use Rattle.worksheet_spec.proofs.Patterns.{mul-width, minus-nan}
+use Rattle.worksheet_spec.proofs.Foots.{Foots, foots-infinite, foots-nan}
+use Rattle.worksheet_spec.proofs.Blocks.{recomposed-none, edge-none}
+use Rattle.errorfree_spec.proofs.NoNumber.{not-both, number-of, one-of, both-of, product-none, mul-left, mul-right, fma-nan, mul-kept}
+use Rattle.worksheet_spec.proofs.Products.{p-value, pi, infinite-foot, zero-foot, tiny-foot, middle-foot, other-foot}
+
+-- ---- finite operands: by the magnitude of a
+module _ (x y : ℕ) (s t : Bool) (a b : ℕ) (xi : value x ≡ finite s a) (yi : value y ≡ finite t b) (xr : Rep 24 0 a) (yr : Rep 24 0 b) (xb : a < limit binary32) (yb : b < limit binary32) where
+  abbrev r : Bool
+  r = unlike s t
+
+  abbrev p : ℕ
+  p = mulStep x y
+
+  abbrev A : ℕ
+  A = toEven binary32 (a * b)
+
+  abbrev Ends : Branch → Type 0
+  Ends k = Foots (finite r (a * b)) (productBy k x y p)
+
+  fine-foot : A < limit binary32 → Ends (branchOf (finite r A))
+  unfolding branchOf productBy
+  fine-foot fine = by (eqb A 0) refl (ltb A (2 ^ 24)) refl (leb A (2 ^ 47)) refl
+    where
+      by : (i : Bool) → eqb A 0 ≡ i → (j : Bool) → ltb A (2 ^ 24) ≡ j → (k : Bool) → leb A (2 ^ 47) ≡ k → Foots (finite r (a * b)) (productBy (cond i whenZero (cond j whenTiny (cond k whenMiddle otherwise))) x y p)
+      by true e j f k g = zero-foot x y s t a b xi yi xr yr xb yb fine (eqb-true A 0 e)
+      by false e true f k g = tiny-foot x y s t a b xi yi xr yr xb yb fine (elim (eq-zero-or-pos A) [ inl z ↦ absurd (eqb-false A 0 e z) | inr h ↦ h ]) (ltb-true A (2 ^ 24) f)
+      by false e false f true g = middle-foot x y s t a b xi yi xr yr xb yb fine (ltb-false A (2 ^ 24) f) (leb-true A (2 ^ 47) g)
+      by false e false f false g = other-foot x y s t a b xi yi xr yr xb yb fine (leb-false A (2 ^ 47) g)
+
+  finite-foot : Ends (branchOf (value p))
+  unfolding branchOf productBy
+  finite-foot = elim (decLe (limit binary32) A) [
+    | yes over ↦ rw (p-value x y s t a b xi yi xr yr xb yb ∙ round-above ToEven binary32 r (a * b) over) (infinite-foot x y s t a b xi yi xr yr xb yb over)
+    | no fine ↦ let f : A < limit binary32 = omega arith in rw (pi x y s t a b xi yi xr yr xb yb f) (fine-foot f)
+  ]
+
+-- ---- infinities and NaN
+module _ (x y : ℕ) where
+  nan-foot : times (value x) (value y) ≡ nan → Foots nan (otherProduct x y (mulStep x y))
+  unfolding otherProduct
+  nan-foot e =
+      let p = mulStep x y in
+      let k = mul-kept binary32 (value x) (value y) nan e refl in
+      let c = fmaStep x y (minus p) in
+      let f = ap (fmaValue binary32 (value x) (value y)) (minus-nan p (mul-width x y) (mul-decodes x y ∙ k)) ∙ fma-nan binary32 (value x) (value y) in
+      let ci : value c ≡ nan = fma-decodes x y (minus p) ∙ f in
+      let n = recomposed-none p c (ap isFinite (mul-decodes x y ∙ k)) (ap isZero ci) in
+      foots-nan (otherProduct x y p) (n .0 ∙ mul-step x y ∙ ap (encode binary32) k) (n .1 ∙ fma-step x y (minus p) ∙ ap (encode binary32) f)
+
+  infinity-foot : (s : Bool) → times (value x) (value y) ≡ infinite s → isFinite (value x) && isFinite (value y) ≡ false → Foots (infinite s) (infiniteProduct x y (mulStep x y))
+  unfolding infiniteProduct
+  infinity-foot s e n =
+      let p = mulStep x y in
+      let h = mulStep half x in
+      let a' = mulStep h y in
+      let none : isFinite (value a') ≡ false =
+      ap isFinite (mul-decodes h y)
+      ∙ elim (one-of (isFinite (value x)) (isFinite (value y)) n) [ inl m ↦ mul-left binary32 (value h) (value y) (ap isFinite (mul-decodes half x) ∙ mul-right binary32 (value half) (value x) m) | inr m ↦ mul-right binary32 (value h) (value y) m ]
+      in
+      let q = edge-none p a' (fmaStep h y (minus a')) none in
+      let pe : p ≡ encode binary32 (infinite s) = mul-step x y ∙ ap (encode binary32) (mul-kept binary32 (value x) (value y) (infinite s) e refl) in
+      foots-infinite s (infiniteProduct x y p) (q .0 ∙ pe) (q .1 ∙ pe)
+
+  -- ---- all patterns
+  none-foot : isFinite (value x) && isFinite (value y) ≡ false → Foots (times (value x) (value y)) (productBy (branchOf (value (mulStep x y))) x y (mulStep x y))
+  unfolding branchOf productBy
+  none-foot n = by (times (value x) (value y)) refl (product-none (value x) (value y) n)
+    where
+      by : (v : Value) → times (value x) (value y) ≡ v → isFinite v ≡ false → Foots v (productBy (branchOf (value (mulStep x y))) x y (mulStep x y))
+      by nan e f = rw (mul-decodes x y ∙ mul-kept binary32 (value x) (value y) nan e refl) (nan-foot e)
+      by (infinite s) e f = rw (mul-decodes x y ∙ mul-kept binary32 (value x) (value y) (infinite s) e refl) (infinity-foot s e n)
+      by (finite s m) e f = not-both f
+
+pub product-foot : (x y : ℕ) → Foots (times (value x) (value y)) (productSheet x y)
+unfolding productSheet Fits times
+product-foot x y = by (isFinite (value x) && isFinite (value y)) refl
+  where
+    by : (c : Bool) → isFinite (value x) && isFinite (value y) ≡ c → Foots (times (value x) (value y)) (productSheet x y)
+    by false n = none-foot x y n
+    by true n =
+        let h = both-of (isFinite (value x)) (isFinite (value y)) n in
+        let u = number-of (value x) (h .0) in
+        let w = number-of (value y) (h .1) in
+        let f = subst (Fits binary32) (u .2) (decode-fits binary32 (omega arith) x) in
+        let g = subst (Fits binary32) (w .2) (decode-fits binary32 (omega arith) y) in
+        subst (λ (v : Value). Foots v (productSheet x y)) (sym (ap₂ times (u .2) (w .2))) (finite-foot x y (u .0) (w .0) (u .1) (w .1) (u .2) (w .2) (f .0) (g .0) (f .1) (g .1))

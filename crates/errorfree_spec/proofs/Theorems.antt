@@ -101,7 +101,8 @@ product-errors t F a b ar br big =
     let n = whole F a b ar br big in
     let U = 2 ^ low F in
     let A = rounded t (F .fraction) (low F) (a * b) in
-    let near : Near (suc (F .fraction)) 0 (n .0) A = subst (λ (z : ℕ). Near (suc (F .fraction)) 0 (n .0) (rounded t (F .fraction) (low F) z)) (sym (n .1)) (whole-near t (F .fraction) (low F) (n .0)) in
+    let near : Near (suc (F .fraction)) 0 (n .0) A = subst (λ (z : ℕ). Near (suc (F .fraction)) 0 (n .0) (rounded t (F .fraction) (low F) z)) (sym (n .1))
+    (whole-near t (F .fraction) (low F) (n .0)) in
     let e : dist (n .0) A * U ≡ dist (A * U) (a * b) = ap (λ (z : ℕ). z * U) (let z : dist (n .0) A ≡ dist A (n .0) = omega arith in z) ∙ sym (dist-mul A (n .0) U) ∙ ap (dist (A * U)) (sym (n .1)) in
     rw (← e) (rw zero-add at (rep-up (low F) (whole-error F a b ar br big A near)))
 
@@ -138,9 +139,11 @@ fast2sum F x y a v b xf yf l ai vi bi f = by (isFinite x && isFinite y) refl
         let p = number-of x (h .0) in
         let q = number-of y (h .1) in
         let le = ltb-false (p .1) (q .1) (sym (ap₂ lessMagnitude (p .2) (q .2)) ∙ l) in
-        let k = fast-finite F (p .0) (p .1) (q .0) (q .1) (subst (Fits F) (p .2) xf) (subst (Fits F) (q .2) yf) le (sym (ap₂ (λ (u w : Value). isFinite (addValue F u w)) (p .2) (q .2)) ∙ sym (ap isFinite ai) ∙ f) in
+        let k = fast-finite F (p .0) (p .1) (q .0) (q .1) (subst (Fits F) (p .2) xf) (subst (Fits F) (q .2) yf) le
+        (sym (ap₂ (λ (u w : Value). isFinite (addValue F u w)) (p .2) (q .2)) ∙ sym (ap isFinite ai) ∙ f) in
         rw (bi, vi, ai) (subst (λ (w : Value). addsUp F (finer F (plus x w)) (record { first = addValue F x w; second = subValue F w (subValue F (addValue F x w) x) }) ≡ true) (sym (q .2))
-        (subst (λ (u : Value). addsUp F (finer F (plus u (finite (q .0) (q .1)))) (record { first = addValue F u (finite (q .0) (q .1)); second = subValue F (finite (q .0) (q .1)) (subValue F (addValue F u (finite (q .0) (q .1))) u) }) ≡ true) (sym (p .2)) k))
+        (subst (λ (u : Value). addsUp F (finer F (plus u (finite (q .0) (q .1))))
+        (record { first = addValue F u (finite (q .0) (q .1)); second = subValue F (finite (q .0) (q .1)) (subValue F (addValue F u (finite (q .0) (q .1))) u) }) ≡ true) (sym (p .2)) k))
 
 pub fused-leaves : specs.FusedRest
 unfolding Fits times
@@ -152,7 +155,11 @@ fused-leaves F s c t d a b xf yf big ai bi f =
     let a-is : a ≡ finite r (toEven F (c * d)) = step ∙ round-below ToEven F r (c * d) fine in
     let b-is : b ≡ fmaValue F (finite s c) (finite t d) (negate (finite r (toEven F (c * d)))) = bi ∙ ap (λ (v : Value). fmaValue F (finite s c) (finite t d) (negate v)) a-is in
     let split = product-split F c d (xf .0) (yf .0) big s t fine in
-    rw (a-is, b-is) (subst (λ (N : ℕ). addsUp F (finite r N) (record { first = finite r (toEven F (c * d)); second = fmaValue F (finite s c) (finite t d) (negate (finite r (toEven F (c * d)))) }) ≡ true) (sym (n .1)) (adds-up F r (n .0) (toEven F (c * d)) (fmaValue F (finite s c) (finite t d) (negate (finite r (toEven F (c * d))))) (split .rest)))
+    rw (a-is, b-is) (subst (λ (N : ℕ). addsUp F (finite r N) (record {
+      first = finite r (toEven F (c * d));
+      second = fmaValue F (finite s c) (finite t d) (negate (finite r (toEven F (c * d))));
+    }) ≡ true) (sym (n .1))
+    (adds-up F r (n .0) (toEven F (c * d)) (fmaValue F (finite s c) (finite t d) (negate (finite r (toEven F (c * d))))) (split .rest)))
 
 -- ---- the predecessor
 pub psi-predecessor : specs.PsiPredecessor

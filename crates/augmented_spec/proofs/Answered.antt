@@ -18,7 +18,7 @@ use Rattle.augmented_spec.specs.declared.Flags.{Flags}
 use Rattle.augmented_spec.specs.declared.Pair.{Pair}
 use Rattle.augmented_spec.specs.Pairs.{Halves, secondOf, pairOf, invalid, overflowed, underflowed, flagsOf, answer, exactSum, sumPair, exactProduct, productPair}
 use Rattle.augmented_spec.specs.Direct.{none}
-use Rattle.augmented_spec.specs.Inner.{join, finiteAnswer}
+use Rattle.augmented_spec.specs.Inner.{join, finiteAnswer, productAnswer}
 use Rattle.augmented_spec.proofs.Second.{head, first-finite, first-infinite}
 use Rattle.augmented_spec.proofs.Width.{encode-width}
 use Rattle.augmented_spec.proofs.FlagSets.{finite-number, finite-flags, underflow-none}
@@ -105,7 +105,7 @@ module _ (x y : ℕ) where
   abbrev exact : Value
   exact = exactProduct binary32 x y
 
-  pub product-finite : (s : Bool) (N : ℕ) → exact ≡ finite s N → productPair binary32 x y ≡ finiteAnswer (pairOf binary32 (finite s N)) (underflowed binary32 (finite s N) (pairOf binary32 (finite s N)))
+  pub product-finite : (s : Bool) (N : ℕ) → exact ≡ finite s N → productPair binary32 x y ≡ productAnswer s N
   unfolding productPair
   product-finite s N e =
       finite-answer x y exact s N (underflowed binary32 exact (pairOf binary32 exact)) e (product-operands (decode binary32 x) (decode binary32 y))

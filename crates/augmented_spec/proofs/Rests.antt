@@ -24,7 +24,7 @@ use Rattle.pattern_spec.specs.Classes.{zeroPattern}
 use Rattle.pattern_spec.proofs.Products.{none, some-left}
 use Rattle.augmented_spec.specs.declared.Pair.{Pair}
 use Rattle.augmented_spec.specs.Pairs.{zeroTakes, pairOf, underflowed, flagsOf}
-use Rattle.augmented_spec.specs.Inner.{join, finiteAnswer, ShortRest}
+use Rattle.augmented_spec.specs.Inner.{join, finiteAnswer, productAnswer, ShortRest}
 use Rattle.augmented_spec.proofs.Second.{head, left, up, tail, tail-le, first-finite, pair-second, first-infinite, second-infinite, underflowed-is}
 use Rattle.augmented_spec.proofs.Patterns.{finite-shows, infinite-shows, zero-pattern}
 use Rattle.augmented_spec.proofs.Answered.{same-pair}
@@ -182,7 +182,7 @@ module _ (s : Bool) (N : ℕ) (c : ℕ) (is : c ≡ encode binary32 (roundFinite
       ]
 
   pub twice-infinite : (r : Pair) → r ≡ record { first = c; second = c; flags = flagsOf false true false } → limit binary32 ≤ head binary32 s N
-      → r ≡ finiteAnswer (pairOf binary32 (finite s N)) (underflowed binary32 (finite s N) (pairOf binary32 (finite s N)))
+      → r ≡ productAnswer s N
   twice-infinite r e h = e ∙ halved-pair s N false (halved-infinite s N h c is) ∙ ap (finiteAnswer (pairOf binary32 (finite s N))) (sym (infinite-loses-nothing s N h))
 
   module _ (e rest : ℕ) (v : Bool) (rest-is : rest * 2 ^ e ≡ leftOver ToZero 23 149 N) (up-is : v ≡ roundedUp ToZero 23 149 N) (h : head binary32 s N < limit binary32) where
@@ -210,6 +210,6 @@ module _ (s : Bool) (N : ℕ) (c : ℕ) (is : c ≡ encode binary32 (roundFinite
 
     pub twice-is : (d half k : ℕ) (r : Pair) → d ≡ encode binary32 (roundFinite ToZero binary32 (unlike s v) (rest * 2 ^ e)) → half ≡ zeroPattern s d
         → k * 2 ^ e ≡ leftOver ToZero 23 149 (rest * 2 ^ e) → r ≡ record { first = c; second = half; flags = flagsOf false false (not (eqb k 0)) }
-        → r ≡ finiteAnswer (pairOf binary32 (finite s N)) (underflowed binary32 (finite s N) (pairOf binary32 (finite s N)))
+        → r ≡ productAnswer s N
     twice-is d half k r d-is half-is k-is r-is =
         r-is ∙ halved-pair s N (not (eqb k 0)) (halved-finite s N h c half is (second-pattern d half d-is half-is)) ∙ ap (finiteAnswer (pairOf binary32 (finite s N))) (lost-is k k-is)

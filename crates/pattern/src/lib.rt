@@ -112,5 +112,5 @@ pub fn zero_takes(sign: bool, x: u32) -> u32
     ensures { λ r. ⌜ r ≡ zeroPattern sign x ⌝ }
 {
     let zero = choose_pattern(sign, 0x8000_0000, 0);
-    choose_pattern(x % 0x8000_0000 == 0, zero, x)
+    choose_pattern(is_zero(x), zero, x)
 }

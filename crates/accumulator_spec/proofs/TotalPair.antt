@@ -14,10 +14,9 @@ use Rattle.rounding_spec.proofs.Codec.{decode-encode}
 use Rattle.rounding_spec.proofs.RoundValue.{round-fits}
 use Rattle.pattern_spec.specs.declared.Class.{Class}
 use Rattle.pattern_spec.specs.declared.Class.the-variants.{Finite}
-use Rattle.pattern_spec.specs.Classes.{classOf, valueOf}
+use Rattle.pattern_spec.specs.Classes.{classOf, valueOf, zeroPattern}
 use Rattle.pattern_spec.specs.Exact.{int}
 use Rattle.pattern_spec.proofs.Classified.{class-value}
-use Rattle.augmented_spec.specs.Half.{zeroPattern}
 use Rattle.augmented_spec.specs.Pairs.{rest, zeroTakes, secondOf, pairOf}
 use Rattle.augmented_spec.proofs.Patterns.{zero-pattern}
 use Rattle.accumulator_spec.specs.Words.{integer, wordsOfInteger}
@@ -27,7 +26,7 @@ use Rattle.accumulator_spec.proofs.Rest.{rest-whole, rest-le}
 
 -- a zero's pattern with the sign s, at every value of the format
 pub zero-taken : (s : Bool) (v : Value) → Fits binary32 v → zeroPattern s (encode binary32 v) ≡ encode binary32 (zeroTakes s v)
-unfolding zeroTakes Fits encode
+unfolding zeroTakes Fits encode decode
 zero-taken s nan h = refl
 zero-taken s (infinite true) h = refl
 zero-taken s (infinite false) h = refl

@@ -11,7 +11,7 @@ use Rattle.pattern_spec.specs.Answer.{refused, done}
 use Rattle.rounding_spec.specs.Format.{binary32, edge}
 use Rattle.rounding_spec.specs.Value.{infinite, finite, decode, encode, RN0}
 use Rattle.pattern_spec.specs.Exact.{int}
-use Rattle.augmented_spec.specs.Half.{zeroPattern}
+use Rattle.pattern_spec.specs.Classes.{zeroPattern}
 use Rattle.augmented_spec.specs.Pairs.{pairOf, sumPair, productPair}
 use Rattle.accumulator_spec.specs.Words.{Words, integer}
 use Rattle.accumulator_spec.specs.Totals.{number, count, totalOf, fit, Term, ofPattern, ofProduct, finiteOperands, exactTerm, whole, pair, adding, afterAdding, clearing, afterClearing, exact, pairAnswer, reading}

@@ -7,9 +7,10 @@ use lib.Dec.{eqb, leb}
 use lib.ListN.{length, take, getD, replicate}
 use lib.IntN.{ℤ, pos, negsuc, natAbs, _+ℤ_}
 use Rattle.rounding_spec.specs.Format.{binary32}
-use Rattle.rounding_spec.specs.Value.{Value, nan, infinite, finite, decode, encode, isFinite}
+use Rattle.rounding_spec.specs.Value.{Value, finite, decode, encode, isFinite}
 use Rattle.pattern_spec.specs.Answer.{Answer, refused, done, isDone}
-use Rattle.pattern_spec.specs.Exact.{int, times, finer}
+use Rattle.pattern_spec.specs.Exact.{times, finer}
+pub use Rattle.pattern_spec.specs.Exact.{whole}
 use Rattle.augmented_spec.specs.Pairs.{Halves, pairOf}
 use Rattle.accumulator_spec.specs.Words.{integer, wordsOfInteger}
 
@@ -42,12 +43,6 @@ finiteOperands (ofProduct x y) = isFinite (decode binary32 x) && isFinite (decod
 abbrev pub exactTerm : Term → Value
 exactTerm (ofPattern x) = finer binary32 (decode binary32 x)
 exactTerm (ofProduct x y) = times (decode binary32 x) (decode binary32 y)
-
--- a finite value as a whole number; of the others, which are refused, no use is made
-abbrev pub whole : Value → ℤ
-whole nan = pos 0
-whole (infinite s) = pos 0
-whole (finite s a) = int s a
 
 -- ---- what reading answers where it is not refused: two patterns
 pub record TwoPatterns : Type 0 where

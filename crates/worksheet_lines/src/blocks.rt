@@ -37,7 +37,7 @@ pub fn zero_finish(lines: &mut Places, n: usize, first: u32, second: u32) -> Foo
     requires { ⌜ n < 13 ⌝ }
     ensures { λ r. ⌜ Follows (now (lines .entry)) (now (lines .exit)) n (zeroFinish first second) r ⌝ }
 {
-    if worksheet_choices::is_zero(second) {
+    if pattern::is_zero(second) {
         let nought = crate::mul(lines, n, PLUS_ZERO, first);
         return Foot {
             first,

@@ -54,7 +54,7 @@ fn tiny(lines: &mut Places, x: u32, y: u32, a: u32) -> Foot
     let z = worksheet_lines::add(lines, 7, t2, t3);
     let w = worksheet_lines::sub(lines, 8, z, t3);
     if worksheet_choices::tiny_tie(a, z, w, t2) {
-        let first = worksheet_lines::sub(lines, 9, a, worksheet_choices::copy_sign(SMALLEST, a));
+        let first = worksheet_lines::sub(lines, 9, a, pattern::copy_sign(SMALLEST, a));
         let second = worksheet_lines::mul(lines, 10, PLUS_ZERO, first);
         return Foot {
             first,
@@ -90,12 +90,7 @@ fn scaled_down(lines: &mut Places, a: u32, b: u32) -> Foot
     let g = worksheet_lines::mul(lines, 9, TWO_TO_24, beta);
     let r = worksheet_lines::sub(lines, 10, g, b);
     if worksheet_choices::rest_tie(beta, r) {
-        let second = worksheet_lines::sub(
-            lines,
-            11,
-            beta,
-            worksheet_choices::copy_sign(SMALLEST, beta),
-        );
+        let second = worksheet_lines::sub(lines, 11, beta, pattern::copy_sign(SMALLEST, beta));
         return blocks::zero_finish(lines, 12, first, second);
     }
     blocks::zero_finish(lines, 11, first, beta)

@@ -1,11 +1,11 @@
 -- The lines of a sheet, the sheet, and what makes no line (document 01, "The step sheet").
 use Prim.Native.Nat.{ℕ}
-use mathlib.Core.Bool.{Bool, cond}
+use mathlib.Core.Bool.{Bool}
 use mathlib.Core.List.{List, [], _++_}
-use lib.Dec.{leb}
-use Rattle.rounding_spec.specs.Format.{binary32, signBit}
+use Rattle.rounding_spec.specs.Format.{binary32}
 use Rattle.rounding_spec.specs.Value.{Value, decode, isZero}
 use Rattle.pattern_spec.specs.Classes.{flip}
+pub use Rattle.pattern_spec.specs.Classes.{copySign}
 use Rattle.errorfree_spec.specs.Comparisons.{same}
 
 -- ---- a line
@@ -62,10 +62,6 @@ minus x = flip binary32 x
 -- x = y
 abbrev pub equal : ℕ → ℕ → Bool
 equal x y = same (value x) (value y)
-
--- the positive constant c with the sign of a: IEEE 754's copySign
-abbrev pub copySign : ℕ → ℕ → ℕ
-copySign c a = cond (leb (signBit binary32) a) (minus c) c
 
 -- +0 or -0
 abbrev pub zero : ℕ → Bool

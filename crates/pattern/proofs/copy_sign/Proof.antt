@@ -3,8 +3,8 @@ use mathlib.Core.Path.{ap, _∙_}
 use mathlib.Core.Bool.{cond}
 use Prim.Native.Nat.{ℕ, _^_}
 use lib.Dec.{leb}
-use Rattle.worksheet_choices.proofs.copy_sign.Statement.{statement}
-use Rattle.worksheet_choices.proofs.copy_sign.Tie as tie
+use Rattle.pattern.proofs.copy_sign.Statement.{statement}
+use Rattle.pattern.proofs.copy_sign.Tie as tie
 
 flipped-requires : tie.Need-flipped-requires
 flipped-requires c κs = search needs

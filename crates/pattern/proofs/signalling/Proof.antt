@@ -4,9 +4,9 @@ use mathlib.Core.Bool.{Bool, _&&_}
 use Prim.Native.Nat.{_/_, _%_}
 use lib.Dec.{eqb}
 use Rattle.rounding_spec.specs.Value.{signalling}
-use Rattle.augmented_spec.proofs.Patterns.{chosen-and}
-use Rattle.augmented_pack.proofs.raised.signalling.Statement.{statement}
-use Rattle.augmented_pack.proofs.raised.signalling.Tie as tie
+use Rattle.pattern_spec.proofs.Shown.{chosen-and}
+use Rattle.pattern.proofs.signalling.Statement.{statement}
+use Rattle.pattern.proofs.signalling.Tie as tie
 
 is-nan-requires : tie.Need-is-nan-requires
 is-nan-requires c κs = search needs

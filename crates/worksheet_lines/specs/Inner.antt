@@ -11,7 +11,7 @@ use Rattle.worksheet_lines.specs.declared.Foot.{Foot}
 -- ---- places of five words
 -- A line went into the nth place. Its result is what Steps gives for its operation and operands.
 pub record Written (before after : List (List ℕ)) (n : ℕ) (l : Line) : Type 0 where
-  pub gives : Gives (l .operation) (l .x) (l .y) (l .z) (l .result)
+  pub gives : Gives (l .step) (l .x) (l .y) (l .z) (l .result)
   pub places : after ≡ set before n (lineWords l)
 
 -- lines in the places from the nth on

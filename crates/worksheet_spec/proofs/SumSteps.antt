@@ -1,4 +1,4 @@
--- The operations of a sum's lines, in order.
+-- The steps of a sum's lines, in order.
 use mathlib.Core.Path.{_≡_, refl, sym, ap, ap₂, _∙_, subst}
 use mathlib.Core.Bool.{Bool, true, false, cond}
 use mathlib.Core.List.{List, [], _∷_, _++_}
@@ -19,35 +19,35 @@ use Rattle.errorfree_spec.proofs.Steps.{zero-times}
 use Rattle.errorfree_spec.proofs.Recomposed.{psi-finite}
 use Rattle.errorfree_spec.proofs.Edge.{halfLimit, kappa-is}
 use Rattle.worksheet_spec.specs.Constants.{psi, two, half, kappa, plusZero, twoTo127, twoTo102}
-use Rattle.worksheet_spec.specs.Lines.{stepNumber, Line, Sheet, ends, value, minus, equal, copySign, zero}
+use Rattle.worksheet_spec.specs.Lines.{Step, add, subtract, multiply, Line, Sheet, ends, value, minus, equal, copySign, zero}
 use Rattle.worksheet_spec.specs.Sheets.{recomposition, zeroFinish, recomposedFinished, atEdge, edgeFinish, halvedSum, overflows, sumInOrder, swaps, sumSheet}
-use Rattle.worksheet_spec.specs.Theorems.{operations, sumOperations}
+use Rattle.worksheet_spec.specs.Theorems.{stepsOf, recompositionSteps, finishStep, edgeSteps, openingSteps, halvedSteps, sumSteps}
 use Rattle.worksheet_spec.proofs.Patterns.{minus-value, negate-finite}
 use Rattle.worksheet_spec.proofs.Constants.{psi-value, kappa-value, zero-value, half-limit-value}
 use Rattle.worksheet_spec.proofs.Blocks.{value-cond, finish-pattern, recomposition-none, edge-first}
 use Rattle.worksheet_spec.proofs.Sums.{first-is, second-is, b-none, no-edge, asks-edge}
 
 -- ---- lists and choices
-operations-append : (ls ms : List Line) → operations (ls ++ ms) ≡ operations ls ++ operations ms
-operations-append [] ms = refl
-operations-append (l ∷ ls) ms = ap (λ (os : List ℕ). stepNumber (l .operation) ∷ os) (operations-append ls ms)
+steps-append : (ls ms : List Line) → stepsOf (ls ++ ms) ≡ stepsOf ls ++ stepsOf ms
+steps-append [] ms = refl
+steps-append (l ∷ ls) ms = ap (λ (steps : List Step). l .step ∷ steps) (steps-append ls ms)
 
-pub operations-cond : (c : Bool) (s t : Sheet) → operations (cond c s t .lines) ≡ cond c (operations (s .lines)) (operations (t .lines))
-operations-cond true s t = refl
-operations-cond false s t = refl
+pub steps-cond : (c : Bool) (s t : Sheet) → stepsOf (cond c s t .lines) ≡ cond c (stepsOf (s .lines)) (stepsOf (t .lines))
+steps-cond true s t = refl
+steps-cond false s t = refl
 
 -- ---- the parts
-pub finish-operations : (x y : ℕ) → operations (zeroFinish x y .lines) ≡ cond (zero y) (3 ∷ []) []
+pub finish-steps : (x y : ℕ) → stepsOf (zeroFinish x y .lines) ≡ cond (zero y) finishStep []
 unfolding zeroFinish
-finish-operations x y = operations-cond (zero y) _ _
+finish-steps x y = steps-cond (zero y) _ _
 
-pub recomposed-operations : (a b : ℕ) → operations (recomposedFinished a b .lines) ≡ 3 ∷ 2 ∷ 3 ∷ cond (zero (recomposition a b .second)) (3 ∷ []) []
+pub recomposed-steps : (a b : ℕ) → stepsOf (recomposedFinished a b .lines) ≡ recompositionSteps ++ cond (zero (recomposition a b .second)) finishStep []
 unfolding recomposedFinished recomposition
-recomposed-operations a b = ap {B = List ℕ} (λ (os : List ℕ). 3 ∷ 2 ∷ 3 ∷ os) (finish-operations (recomposition a b .first) (recomposition a b .second))
+recomposed-steps a b = ap {B = List Step} (λ (steps : List Step). recompositionSteps ++ steps) (finish-steps (recomposition a b .first) (recomposition a b .second))
 
-pub edge-operations : (a a' b' : ℕ) → operations (edgeFinish a a' b' .lines) ≡ cond (atEdge a' b') (3 ∷ 3 ∷ []) []
+pub edge-steps : (a a' b' : ℕ) → stepsOf (edgeFinish a a' b' .lines) ≡ cond (atEdge a' b') edgeSteps []
 unfolding edgeFinish
-edge-operations a a' b' = operations-cond (atEdge a' b') _ _
+edge-steps a a' b' = steps-cond (atEdge a' b') _ _
 
 -- ---- a second is finished where it is zero, and is zero then
 pub finish-zero : (x y : ℕ) → isFinite (value x) ≡ true → zero (zeroFinish x y .second) ≡ zero y
@@ -80,8 +80,8 @@ unfolding recomposedFinished
 recomposed-zero a b h = finish-zero (recomposition a b .first) (recomposition a b .second) (first-finite a b h)
 
 -- what is no number is not finished
-pub recomposed-none-operations : (a b : ℕ) → isFinite (value a) ≡ false → zero b ≡ false → operations (recomposedFinished a b .lines) ≡ 3 ∷ 2 ∷ 3 ∷ []
-recomposed-none-operations a b h k = recomposed-operations a b ∙ ap {B = List ℕ} (λ (c : Bool). 3 ∷ 2 ∷ 3 ∷ cond c (3 ∷ []) []) (ap zero (recomposition-none a b h .1) ∙ k)
+pub recomposed-none-steps : (a b : ℕ) → isFinite (value a) ≡ false → zero b ≡ false → stepsOf (recomposedFinished a b .lines) ≡ recompositionSteps
+recomposed-none-steps a b h k = recomposed-steps a b ∙ ap {B = List Step} (λ (c : Bool). recompositionSteps ++ cond c finishStep []) (ap zero (recomposition-none a b h .1) ∙ k)
 
 -- ---- at the edge first is finite
 copied : (b : Bool) → value (cond b (minus twoTo127) twoTo127) ≡ finite b (halfLimit binary32)
@@ -121,52 +121,52 @@ module _ (x y : ℕ) where
   abbrev edge : Bool
   edge = overflows (recomposedFinished a b .second) a
 
-  abbrev rest : List ℕ
-  rest = cond edge (operations (halvedSum x y a .lines)) []
+  abbrev rest : List Step
+  rest = cond edge (stepsOf (halvedSum x y a .lines)) []
 
-  order-is : operations (sumInOrder x y .lines) ≡ 1 ∷ 2 ∷ 2 ∷ operations (recomposedFinished a b .lines) ++ rest
+  order-is : stepsOf (sumInOrder x y .lines) ≡ add ∷ subtract ∷ subtract ∷ stepsOf (recomposedFinished a b .lines) ++ rest
   unfolding sumInOrder
   order-is =
-      ap {B = List ℕ} (λ (os : List ℕ). 1 ∷ 2 ∷ 2 ∷ os)
-      (operations-append (recomposedFinished a b .lines) (cond edge (halvedSum x y a) (ends (recomposedFinished a b .first) (recomposedFinished a b .second)) .lines)
-      ∙ ap (λ (os : List ℕ). operations (recomposedFinished a b .lines) ++ os) (operations-cond edge (halvedSum x y a) (ends (recomposedFinished a b .first) (recomposedFinished a b .second))))
+      ap {B = List Step} (λ (steps : List Step). add ∷ subtract ∷ subtract ∷ steps)
+      (steps-append (recomposedFinished a b .lines) (cond edge (halvedSum x y a) (ends (recomposedFinished a b .first) (recomposedFinished a b .second)) .lines)
+      ∙ ap (λ (steps : List Step). stepsOf (recomposedFinished a b .lines) ++ steps) (steps-cond edge (halvedSum x y a) (ends (recomposedFinished a b .first) (recomposedFinished a b .second))))
 
   abbrev Ordered : Value → Type 0
-  Ordered v = operations (sumInOrder x y .lines) ≡ sumOperations v (sumInOrder x y .first) (sumInOrder x y .second)
+  Ordered v = stepsOf (sumInOrder x y .lines) ≡ sumSteps v (sumInOrder x y .first) (sumInOrder x y .second)
 
   -- a is not infinite
-  plain : isInfinite (value a) ≡ false → operations (sumInOrder x y .lines) ≡ 1 ∷ 2 ∷ 2 ∷ operations (recomposedFinished a b .lines) ++ []
-  plain h = order-is ∙ ap {B = List ℕ} (λ (c : Bool). 1 ∷ 2 ∷ 2 ∷ operations (recomposedFinished a b .lines) ++ cond c (operations (halvedSum x y a .lines)) []) (no-edge x y h)
+  plain : isInfinite (value a) ≡ false → stepsOf (sumInOrder x y .lines) ≡ add ∷ subtract ∷ subtract ∷ stepsOf (recomposedFinished a b .lines) ++ []
+  plain h = order-is ∙ ap {B = List Step} (λ (c : Bool). add ∷ subtract ∷ subtract ∷ stepsOf (recomposedFinished a b .lines) ++ cond c (stepsOf (halvedSum x y a .lines)) []) (no-edge x y h)
 
-  finite-operations : (s : Bool) (m : ℕ) → value a ≡ finite s m → Ordered (finite s m)
-  finite-operations s m h =
+  finite-steps : (s : Bool) (m : ℕ) → value a ≡ finite s m → Ordered (finite s m)
+  finite-steps s m h =
       let z : zero (sumInOrder x y .second) ≡ zero (recomposition a b .second) =
       ap zero (second-is x y ∙ ap (λ (c : Bool). cond c (halvedSum x y a .second) (recomposedFinished a b .second)) (no-edge x y (ap isInfinite h))) ∙ recomposed-zero a b (ap isFinite h)
       in
-      plain (ap isInfinite h) ∙ ap {B = List ℕ} (λ (os : List ℕ). 1 ∷ 2 ∷ 2 ∷ os ++ []) (recomposed-operations a b)
+      plain (ap isInfinite h) ∙ ap {B = List Step} (λ (steps : List Step). add ∷ subtract ∷ subtract ∷ steps ++ []) (recomposed-steps a b)
       ∙ by (zero (recomposition a b .second)) (zero (sumInOrder x y .second)) (sym z)
     where
-      by : (c d : Bool) → c ≡ d → _≡_ {A = List ℕ} (1 ∷ 2 ∷ 2 ∷ 3 ∷ 2 ∷ 3 ∷ cond c (3 ∷ []) [] ++ []) (1 ∷ 2 ∷ 2 ∷ 3 ∷ 2 ∷ 3 ∷ cond d (3 ∷ []) [])
+      by : (c d : Bool) → c ≡ d → _≡_ {A = List Step} (openingSteps ++ cond c finishStep [] ++ []) (openingSteps ++ cond d finishStep [])
       by true true e = refl
       by false false e = refl
       by true false e = not-both e
       by false true e = not-both (sym e)
 
-  nan-operations : value a ≡ nan → Ordered nan
-  nan-operations h =
+  nan-steps : value a ≡ nan → Ordered nan
+  nan-steps h =
       let n : isFinite (value a) ≡ false = ap isFinite h in
-      plain (ap isInfinite h) ∙ ap {B = List ℕ} (λ (os : List ℕ). 1 ∷ 2 ∷ 2 ∷ os ++ []) (recomposed-none-operations a b n (none-zero (value b) (b-none x y n)))
+      plain (ap isInfinite h) ∙ ap {B = List Step} (λ (steps : List Step). add ∷ subtract ∷ subtract ∷ steps ++ []) (recomposed-none-steps a b n (none-zero (value b) (b-none x y n)))
 
   -- a is infinite
-  halved-operations : operations (halvedSum x y a .lines) ≡ 3 ∷ 3 ∷ 1 ∷ 2 ∷ 2 ∷ cond (atEdge (addStep (mulStep half x) (mulStep half y)) (subStep (mulStep half y) (subStep (addStep (mulStep half x) (mulStep half y)) (mulStep half x)))) (3 ∷ 3 ∷ []) []
+  halved-steps : stepsOf (halvedSum x y a .lines) ≡ halvedSteps ++ cond (atEdge (addStep (mulStep half x) (mulStep half y)) (subStep (mulStep half y) (subStep (addStep (mulStep half x) (mulStep half y)) (mulStep half x)))) edgeSteps []
   unfolding halvedSum
-  halved-operations =
+  halved-steps =
       let a' = addStep (mulStep half x) (mulStep half y) in
-      ap {B = List ℕ} (λ (os : List ℕ). 3 ∷ 3 ∷ 1 ∷ 2 ∷ 2 ∷ os) (edge-operations a a' (subStep (mulStep half y) (subStep a' (mulStep half x))))
+      ap {B = List Step} (λ (steps : List Step). halvedSteps ++ steps) (edge-steps a a' (subStep (mulStep half y) (subStep a' (mulStep half x))))
 
-  infinite-operations : (s : Bool) → value a ≡ infinite s → Ordered (infinite s)
+  infinite-steps : (s : Bool) → value a ≡ infinite s → Ordered (infinite s)
   unfolding halvedSum
-  infinite-operations s h =
+  infinite-steps s h =
       let n : isFinite (value a) ≡ false = ap isFinite h in
       let c = asks-edge x y s h in
       let a' = addStep (mulStep half x) (mulStep half y) in
@@ -175,26 +175,26 @@ module _ (x y : ℕ) where
       edge-told a a' b' n ∙ sym (ap (λ (p : ℕ). isFinite (value p)) (first-is x y ∙ ap (λ (i : Bool). cond i (halvedSum x y a .first) (recomposedFinished a b .first)) c))
       in
       order-is
-      ∙ ap₂ {C = List ℕ} (λ (os : List ℕ) (i : Bool). 1 ∷ 2 ∷ 2 ∷ os ++ cond i (operations (halvedSum x y a .lines)) []) (recomposed-none-operations a b n (none-zero (value b) (b-none x y n))) c
-      ∙ ap {B = List ℕ} (λ (os : List ℕ). 1 ∷ 2 ∷ 2 ∷ 3 ∷ 2 ∷ 3 ∷ os) halved-operations
-      ∙ ap {B = List ℕ} (λ (i : Bool). 1 ∷ 2 ∷ 2 ∷ 3 ∷ 2 ∷ 3 ∷ 3 ∷ 3 ∷ 1 ∷ 2 ∷ 2 ∷ cond i (3 ∷ 3 ∷ []) []) told
+      ∙ ap₂ {C = List Step} (λ (steps : List Step) (i : Bool). add ∷ subtract ∷ subtract ∷ steps ++ cond i (stepsOf (halvedSum x y a .lines)) []) (recomposed-none-steps a b n (none-zero (value b) (b-none x y n))) c
+      ∙ ap {B = List Step} (λ (steps : List Step). openingSteps ++ steps) halved-steps
+      ∙ ap {B = List Step} (λ (i : Bool). openingSteps ++ halvedSteps ++ cond i edgeSteps []) told
 
-  order-operations : Ordered (value a)
-  order-operations = by (value a) refl
+  order-steps : Ordered (value a)
+  order-steps = by (value a) refl
     where
       by : (v : Value) → value a ≡ v → Ordered v
-      by nan h = nan-operations h
-      by (infinite s) h = infinite-operations s h
-      by (finite s m) h = finite-operations s m h
+      by nan h = nan-steps h
+      by (infinite s) h = infinite-steps s h
+      by (finite s m) h = finite-steps s m h
 
 swapped : (x y : ℕ) → value (addStep y x) ≡ value (addStep x y)
 unfolding addValue
 swapped x y = add-decodes y x ∙ ap (λ (v : Value). RNe binary32 (finer binary32 v)) (plus-comm (value x) (value y)) ∙ sym (add-decodes x y)
 
-pub sum-operations : (x y : ℕ) → operations (sumSheet x y .lines) ≡ sumOperations (value (addStep x y)) (sumSheet x y .first) (sumSheet x y .second)
+pub sum-steps : (x y : ℕ) → stepsOf (sumSheet x y .lines) ≡ sumSteps (value (addStep x y)) (sumSheet x y .first) (sumSheet x y .second)
 unfolding sumSheet
-sum-operations x y = by (swaps x y)
+sum-steps x y = by (swaps x y)
   where
-    by : (c : Bool) → let s = cond c (sumInOrder y x) (sumInOrder x y) in operations (s .lines) ≡ sumOperations (value (addStep x y)) (s .first) (s .second)
-    by true = subst (λ (v : Value). operations (sumInOrder y x .lines) ≡ sumOperations v (sumInOrder y x .first) (sumInOrder y x .second)) (swapped x y) (order-operations y x)
-    by false = order-operations x y
+    by : (c : Bool) → let s = cond c (sumInOrder y x) (sumInOrder x y) in stepsOf (s .lines) ≡ sumSteps (value (addStep x y)) (s .first) (s .second)
+    by true = subst (λ (v : Value). stepsOf (sumInOrder y x .lines) ≡ sumSteps v (sumInOrder y x .first) (sumInOrder y x .second)) (swapped x y) (order-steps y x)
+    by false = order-steps x y

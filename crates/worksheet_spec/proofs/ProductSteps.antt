@@ -1,4 +1,4 @@
--- The operations of a product's lines, in order, branch by branch.
+-- The steps of a product's lines, in order, branch by branch.
 use mathlib.Core.Path.{_≡_, refl, sym, ap, ap₂, _∙_, subst}
 use mathlib.Core.Logic.{_⊎_, inl, inr}
 use mathlib.Core.Bool.{Bool, true, false, not, cond, _&&_}
@@ -24,23 +24,23 @@ use Rattle.errorfree_spec.proofs.Signed.{Is, rel-own, same-eq}
 use Rattle.errorfree_spec.proofs.Steps.{toEven, is-sub}
 use Rattle.errorfree_spec.proofs.Theorems.{same-means}
 use Rattle.worksheet_spec.specs.Constants.{half, plusZero, smallest}
-use Rattle.worksheet_spec.specs.Lines.{Line, line, multiply, Sheet, before, value, minus, equal, copySign, zero}
+use Rattle.worksheet_spec.specs.Lines.{Step, add, subtract, multiply, fused, Line, line, Sheet, before, value, minus, equal, copySign, zero}
 use Rattle.worksheet_spec.specs.Sheets.{Branch, whenInfinite, whenZero, whenTiny, whenMiddle, otherwise, recomposition, zeroFinish, infiniteProduct, lowered, lowering, tinyProduct, scaledDown, middleProduct, otherProduct, branchOf, productBy, productSheet}
-use Rattle.worksheet_spec.specs.Theorems.{operations, ProductOperations}
+use Rattle.worksheet_spec.specs.Theorems.{stepsOf, recompositionSteps, finishStep, edgeSteps, tinySteps, middleSteps, ProductSteps}
 use Rattle.worksheet_spec.proofs.Patterns.{mul-width, minus-nan, sign-value}
 use Rattle.worksheet_spec.proofs.Constants.{smallest-value}
 use Rattle.worksheet_spec.proofs.TinyResults as tiny
 use Rattle.worksheet_spec.proofs.Products.{first, β, tie, corrected, p-value, corrected-nonzero, first-number}
-use Rattle.worksheet_spec.proofs.Operations.{finish-operations, recomposed-operations, edge-operations, finish-zero, recomposed-zero, recomposed-none-operations, edge-told}
+use Rattle.worksheet_spec.proofs.SumSteps.{finish-steps, recomposed-steps, edge-steps, finish-zero, recomposed-zero, recomposed-none-steps, edge-told}
 
 one-less : (m W : ℕ) → m < W → m - 1 < W
 one-less m W h = omega arith
 
 -- a correction or none, before other lines
-corrected-operations : (c : Bool) (a : ℕ) (ls : List Line) → operations (cond c (lowering a ∷ []) [] ++ ls) ≡ cond c (2 ∷ []) [] ++ operations ls
+corrected-steps : (c : Bool) (a : ℕ) (ls : List Line) → stepsOf (cond c (lowering a ∷ []) [] ++ ls) ≡ cond c (subtract ∷ []) [] ++ stepsOf ls
 unfolding lowering
-corrected-operations true a ls = refl
-corrected-operations false a ls = refl
+corrected-steps true a ls = refl
+corrected-steps false a ls = refl
 
 -- ---- which branch
 module _ (s : Bool) (m : ℕ) where
@@ -69,24 +69,24 @@ module _ (x y : ℕ) where
   sheet-by k e = ap (λ (i : Branch). before (line multiply x y p ∷ []) (productBy i x y p)) e
 
   abbrev Ordered : Value → Sheet → Type 0
-  Ordered v s = ProductOperations p v (s .first) (s .second) (operations (s .lines))
+  Ordered v s = ProductSteps p v (s .first) (s .second) (stepsOf (s .lines))
 
   -- ---- NaN and infinities
-  nan-operations : value p ≡ nan → operations (otherProduct x y p .lines) ≡ 4 ∷ 3 ∷ 2 ∷ 3 ∷ []
+  nan-steps : value p ≡ nan → stepsOf (otherProduct x y p .lines) ≡ fused ∷ recompositionSteps
   unfolding otherProduct
-  nan-operations e =
+  nan-steps e =
       let c = fmaStep x y (minus p) in
       let ci : value c ≡ nan = fma-decodes x y (minus p) ∙ ap (fmaValue binary32 (value x) (value y)) (minus-nan p (mul-width x y) e) ∙ fma-nan binary32 (value x) (value y) in
-      ap {B = List ℕ} (λ (os : List ℕ). 4 ∷ os) (recomposed-none-operations p c (ap isFinite e) (ap isZero ci))
+      ap {B = List Step} (λ (steps : List Step). fused ∷ steps) (recomposed-none-steps p c (ap isFinite e) (ap isZero ci))
 
-  infinite-operations : (s : Bool) → value p ≡ infinite s → operations (infiniteProduct x y p .lines) ≡ 3 ∷ 3 ∷ 4 ∷ cond (isFinite (value (infiniteProduct x y p .first))) (3 ∷ 3 ∷ []) []
+  infinite-steps : (s : Bool) → value p ≡ infinite s → stepsOf (infiniteProduct x y p .lines) ≡ multiply ∷ multiply ∷ fused ∷ cond (isFinite (value (infiniteProduct x y p .first))) edgeSteps []
   unfolding infiniteProduct
-  infinite-operations s e =
+  infinite-steps s e =
       let h = mulStep half x in
       let a' = mulStep h y in
       let b' = fmaStep h y (minus a') in
-      ap {B = List ℕ} (λ (os : List ℕ). 3 ∷ 3 ∷ 4 ∷ os) (edge-operations p a' b')
-      ∙ ap {B = List ℕ} (λ (c : Bool). 3 ∷ 3 ∷ 4 ∷ cond c (3 ∷ 3 ∷ []) []) (edge-told p a' b' (ap isFinite e))
+      ap {B = List Step} (λ (steps : List Step). multiply ∷ multiply ∷ fused ∷ steps) (edge-steps p a' b')
+      ∙ ap {B = List Step} (λ (c : Bool). multiply ∷ multiply ∷ fused ∷ cond c edgeSteps []) (edge-told p a' b' (ap isFinite e))
 
   -- ---- tiny: a correction makes another number of a
   module _ (s : Bool) (m : ℕ) (e : value p ≡ finite s m) where
@@ -117,13 +117,13 @@ module _ (x y : ℕ) where
     told pos lo true = lowered-other pos lo
     told pos lo false = ap₂ same e e ∙ same-means .0 s m s m .1 refl
 
-    tiny-operations : 0 < m → m < 2 ^ 24 → operations (tinyProduct x y p .lines) ≡ 3 ∷ 3 ∷ 3 ∷ 4 ∷ 3 ∷ 2 ∷ 1 ∷ 2 ∷ cond (equal (tinyProduct x y p .first) p) (3 ∷ []) (2 ∷ 3 ∷ [])
+    tiny-steps : 0 < m → m < 2 ^ 24 → stepsOf (tinyProduct x y p .lines) ≡ tinySteps ++ cond (equal (tinyProduct x y p .first) p) finishStep (subtract ∷ finishStep)
     unfolding tinyProduct
-    tiny-operations pos lo =
-        ap {B = List ℕ} (λ (os : List ℕ). 3 ∷ 3 ∷ 3 ∷ 4 ∷ 3 ∷ 2 ∷ 1 ∷ 2 ∷ os) (corrected-operations (tiny.tie x y p) p (line multiply plusZero (tiny.first x y p) (mulStep plusZero (tiny.first x y p)) ∷ []) ∙ by (tiny.tie x y p))
-        ∙ ap {B = List ℕ} (λ (c : Bool). 3 ∷ 3 ∷ 3 ∷ 4 ∷ 3 ∷ 2 ∷ 1 ∷ 2 ∷ cond c (3 ∷ []) (2 ∷ 3 ∷ [])) (sym (told pos lo (tiny.tie x y p)))
+    tiny-steps pos lo =
+        ap {B = List Step} (λ (steps : List Step). tinySteps ++ steps) (corrected-steps (tiny.tie x y p) p (line multiply plusZero (tiny.first x y p) (mulStep plusZero (tiny.first x y p)) ∷ []) ∙ by (tiny.tie x y p))
+        ∙ ap {B = List Step} (λ (c : Bool). tinySteps ++ cond c finishStep (subtract ∷ finishStep)) (sym (told pos lo (tiny.tie x y p)))
       where
-        by : (c : Bool) → _≡_ {A = List ℕ} (cond c (2 ∷ []) [] ++ 3 ∷ []) (cond (not c) (3 ∷ []) (2 ∷ 3 ∷ []))
+        by : (c : Bool) → _≡_ {A = List Step} (cond c (subtract ∷ []) [] ++ multiply ∷ []) (cond (not c) finishStep (subtract ∷ finishStep))
         by true = refl
         by false = refl
 
@@ -147,53 +147,53 @@ module _ (x y : ℕ) where
               first-number x y (u .0) (w .0) (u .1) (w .1) (u .2) (w .2) (f .0) (g .0) (f .1) (g .1) (rw (← a-is) (q .1)) (rw (← a-is) lo) (rw (← a-is) hi),
             )
 
-    middle-operations : operations (middleProduct x y .lines) ≡ 3 ∷ 3 ∷ 4 ∷ 3 ∷ 2 ∷ 3 ∷ 3 ∷ 3 ∷ 3 ∷ 2 ∷ cond (tie x y) (2 ∷ []) [] ++ cond (zero (corrected x y)) (3 ∷ []) []
+    middle-steps : stepsOf (middleProduct x y .lines) ≡ middleSteps ++ cond (tie x y) (subtract ∷ []) [] ++ cond (zero (corrected x y)) finishStep []
     unfolding middleProduct recomposition scaledDown
-    middle-operations =
-        ap {B = List ℕ} (λ (os : List ℕ). 3 ∷ 3 ∷ 4 ∷ 3 ∷ 2 ∷ 3 ∷ 3 ∷ 3 ∷ 3 ∷ 2 ∷ os)
-        (corrected-operations (tie x y) (β x y) (zeroFinish (first x y) (corrected x y) .lines) ∙ ap (λ (os : List ℕ). cond (tie x y) (2 ∷ []) [] ++ os) (finish-operations (first x y) (corrected x y)))
+    middle-steps =
+        ap {B = List Step} (λ (steps : List Step). middleSteps ++ steps)
+        (corrected-steps (tie x y) (β x y) (zeroFinish (first x y) (corrected x y) .lines) ∙ ap (λ (steps : List Step). cond (tie x y) (subtract ∷ []) [] ++ steps) (finish-steps (first x y) (corrected x y)))
 
-    middle-ordered : 2 ^ 24 ≤ m → m ≤ 2 ^ 47 → let lines : List ℕ = 3 ∷ 3 ∷ 4 ∷ 3 ∷ 2 ∷ 3 ∷ 3 ∷ 3 ∷ 3 ∷ 2 ∷ [] in let ops = operations (middleProduct x y .lines) in
-        (zero (middleProduct x y .second) ≡ true → ops ≡ lines ++ 3 ∷ []) × (zero (middleProduct x y .second) ≡ false → (ops ≡ lines) ⊎ (ops ≡ lines ++ 2 ∷ []))
+    middle-ordered : 2 ^ 24 ≤ m → m ≤ 2 ^ 47 → let steps = stepsOf (middleProduct x y .lines) in
+        (zero (middleProduct x y .second) ≡ true → steps ≡ middleSteps ++ finishStep) × (zero (middleProduct x y .second) ≡ false → (steps ≡ middleSteps) ⊎ (steps ≡ middleSteps ++ (subtract ∷ [])))
     unfolding middleProduct scaledDown
     middle-ordered lo hi =
         let f = middle-facts lo hi in
-        by (tie x y) (zero (corrected x y)) (zero (zeroFinish (first x y) (corrected x y) .second)) (finish-zero (first x y) (corrected x y) (f .1)) (f .0) middle-operations
+        by (tie x y) (zero (corrected x y)) (zero (zeroFinish (first x y) (corrected x y) .second)) (finish-zero (first x y) (corrected x y) (f .1)) (f .0) middle-steps
       where
-        by : {os : List ℕ} (c z w : Bool) → w ≡ z → (c ≡ true → z ≡ false) → os ≡ 3 ∷ 3 ∷ 4 ∷ 3 ∷ 2 ∷ 3 ∷ 3 ∷ 3 ∷ 3 ∷ 2 ∷ cond c (2 ∷ []) [] ++ cond z (3 ∷ []) []
-            → (w ≡ true → os ≡ 3 ∷ 3 ∷ 4 ∷ 3 ∷ 2 ∷ 3 ∷ 3 ∷ 3 ∷ 3 ∷ 2 ∷ 3 ∷ []) × (w ≡ false → (os ≡ 3 ∷ 3 ∷ 4 ∷ 3 ∷ 2 ∷ 3 ∷ 3 ∷ 3 ∷ 3 ∷ 2 ∷ []) ⊎ (os ≡ 3 ∷ 3 ∷ 4 ∷ 3 ∷ 2 ∷ 3 ∷ 3 ∷ 3 ∷ 3 ∷ 2 ∷ 2 ∷ []))
+        by : {steps : List Step} (c z w : Bool) → w ≡ z → (c ≡ true → z ≡ false) → steps ≡ middleSteps ++ cond c (subtract ∷ []) [] ++ cond z finishStep []
+            → (w ≡ true → steps ≡ middleSteps ++ finishStep) × (w ≡ false → (steps ≡ middleSteps) ⊎ (steps ≡ middleSteps ++ (subtract ∷ [])))
         by true true w q n o = not-both (n refl)
         by true false w q n o = (λ h. not-both (sym h ∙ q), λ h. inr o)
         by false true w q n o = (λ h. o, λ h. not-both (sym q ∙ h))
         by false false w q n o = (λ h. not-both (sym h ∙ q), λ h. inl o)
 
     -- ---- otherwise
-    other-operations : operations (otherProduct x y p .lines) ≡ 4 ∷ 3 ∷ 2 ∷ 3 ∷ cond (zero (otherProduct x y p .second)) (3 ∷ []) []
+    other-steps : stepsOf (otherProduct x y p .lines) ≡ fused ∷ recompositionSteps ++ cond (zero (otherProduct x y p .second)) finishStep []
     unfolding otherProduct
-    other-operations =
+    other-steps =
         let c = fmaStep x y (minus p) in
-        ap {B = List ℕ} (λ (os : List ℕ). 4 ∷ os) (recomposed-operations p c) ∙ ap {B = List ℕ} (λ (z : Bool). 4 ∷ 3 ∷ 2 ∷ 3 ∷ cond z (3 ∷ []) []) (sym (recomposed-zero p c (ap isFinite e)))
+        ap {B = List Step} (λ (steps : List Step). fused ∷ steps) (recomposed-steps p c) ∙ ap {B = List Step} (λ (z : Bool). fused ∷ recompositionSteps ++ cond z finishStep []) (sym (recomposed-zero p c (ap isFinite e)))
 
   -- ---- all branches
-  finite-operations : (s : Bool) (m : ℕ) → value p ≡ finite s m → Ordered (finite s m) (productSheet x y)
+  finite-steps : (s : Bool) (m : ℕ) → value p ≡ finite s m → Ordered (finite s m) (productSheet x y)
   unfolding productBy
-  finite-operations s m e = (
+  finite-steps s m e = (
     λ z. rw (sheet-by whenZero (ap branchOf e ∙ branch-zero s m z)) refl,
-    λ h k. rw (sheet-by whenTiny (ap branchOf e ∙ branch-tiny s m h k)) (ap {B = List ℕ} (λ (os : List ℕ). 3 ∷ os) (tiny-operations s m e h k)),
+    λ h k. rw (sheet-by whenTiny (ap branchOf e ∙ branch-tiny s m h k)) (ap {B = List Step} (λ (steps : List Step). multiply ∷ steps) (tiny-steps s m e h k)),
     λ h k. rw (sheet-by whenMiddle (ap branchOf e ∙ branch-middle s m h k)) (middle (middle-ordered s m e h k)),
-    λ h. rw (sheet-by otherwise (ap branchOf e ∙ branch-other s m h)) (ap {B = List ℕ} (λ (os : List ℕ). 3 ∷ os) (other-operations s m e)),
+    λ h. rw (sheet-by otherwise (ap branchOf e ∙ branch-other s m h)) (ap {B = List Step} (λ (steps : List Step). multiply ∷ steps) (other-steps s m e)),
   )
     where
-      middle : {os : List ℕ} {z : Bool} → (z ≡ true → os ≡ 3 ∷ 3 ∷ 4 ∷ 3 ∷ 2 ∷ 3 ∷ 3 ∷ 3 ∷ 3 ∷ 2 ∷ 3 ∷ []) × (z ≡ false → (os ≡ 3 ∷ 3 ∷ 4 ∷ 3 ∷ 2 ∷ 3 ∷ 3 ∷ 3 ∷ 3 ∷ 2 ∷ []) ⊎ (os ≡ 3 ∷ 3 ∷ 4 ∷ 3 ∷ 2 ∷ 3 ∷ 3 ∷ 3 ∷ 3 ∷ 2 ∷ 2 ∷ []))
-          → (z ≡ true → 3 ∷ os ≡ 3 ∷ 3 ∷ 3 ∷ 4 ∷ 3 ∷ 2 ∷ 3 ∷ 3 ∷ 3 ∷ 3 ∷ 2 ∷ 3 ∷ []) × (z ≡ false → (3 ∷ os ≡ 3 ∷ 3 ∷ 3 ∷ 4 ∷ 3 ∷ 2 ∷ 3 ∷ 3 ∷ 3 ∷ 3 ∷ 2 ∷ []) ⊎ (3 ∷ os ≡ 3 ∷ 3 ∷ 3 ∷ 4 ∷ 3 ∷ 2 ∷ 3 ∷ 3 ∷ 3 ∷ 3 ∷ 2 ∷ 2 ∷ []))
+      middle : {steps : List Step} {z : Bool} → (z ≡ true → steps ≡ middleSteps ++ finishStep) × (z ≡ false → (steps ≡ middleSteps) ⊎ (steps ≡ middleSteps ++ (subtract ∷ [])))
+          → (z ≡ true → multiply ∷ steps ≡ multiply ∷ middleSteps ++ finishStep) × (z ≡ false → (multiply ∷ steps ≡ multiply ∷ middleSteps) ⊎ (multiply ∷ steps ≡ multiply ∷ middleSteps ++ (subtract ∷ [])))
       middle h =
-          (λ z. ap {B = List ℕ} (λ (os : List ℕ). 3 ∷ os) (h .0 z), λ z. elim (h .1 z) [ inl o ↦ inl (ap {B = List ℕ} (λ (os : List ℕ). 3 ∷ os) o) | inr o ↦ inr (ap {B = List ℕ} (λ (os : List ℕ). 3 ∷ os) o) ])
+          (λ z. ap {B = List Step} (λ (steps : List Step). multiply ∷ steps) (h .0 z), λ z. elim (h .1 z) [ inl o ↦ inl (ap {B = List Step} (λ (steps : List Step). multiply ∷ steps) o) | inr o ↦ inr (ap {B = List Step} (λ (steps : List Step). multiply ∷ steps) o) ])
 
-  pub product-operations : Ordered (value p) (productSheet x y)
+  pub product-steps : Ordered (value p) (productSheet x y)
   unfolding productBy branchOf
-  product-operations = by (value p) refl
+  product-steps = by (value p) refl
     where
       by : (v : Value) → value p ≡ v → Ordered v (productSheet x y)
-      by nan e = rw (sheet-by otherwise (ap branchOf e)) (ap {B = List ℕ} (λ (os : List ℕ). 3 ∷ os) (nan-operations e))
-      by (infinite s) e = rw (sheet-by whenInfinite (ap branchOf e)) (ap {B = List ℕ} (λ (os : List ℕ). 3 ∷ os) (infinite-operations s e))
-      by (finite s m) e = finite-operations s m e
+      by nan e = rw (sheet-by otherwise (ap branchOf e)) (ap {B = List Step} (λ (steps : List Step). multiply ∷ steps) (nan-steps e))
+      by (infinite s) e = rw (sheet-by whenInfinite (ap branchOf e)) (ap {B = List Step} (λ (steps : List Step). multiply ∷ steps) (infinite-steps s e))
+      by (finite s m) e = finite-steps s m e

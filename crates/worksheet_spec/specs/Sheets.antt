@@ -1,6 +1,6 @@
 -- The step sheet of a question (R5), in the order of its rules.
--- Each `let` is the result of a line, by the name that the rules give it. The lines repeat its step and operands; `EachLine` of Theorems says
--- that they agree.
+-- Each `let` is the result of a line, by the name that the rules give it. The lines repeat its step and operands; `EachLine` of Theorems
+-- says that they agree.
 use Prim.Native.Nat.{ℕ, _^_}
 use mathlib.Core.Bool.{Bool, not, cond, _&&_}
 use mathlib.Core.List.{[], _∷_}

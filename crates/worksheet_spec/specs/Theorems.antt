@@ -13,8 +13,8 @@ use Rattle.augmented_spec.specs.Direct.{Operation, sum, difference, product, di
 use Rattle.errorfree_spec.specs.Comparisons.{lessMagnitude}
 use Rattle.worksheet_spec.specs.Constants.{psi, two, minusTwo, half, kappa, twoTo24, twoTo48, twoToMinus24, plusZero, smallest}
 use Rattle.worksheet_spec.specs.Constants.{twoTo127, twoTo102, twoToMinus102, twoToMinus126}
-use Rattle.worksheet_spec.specs.Lines.{lineSize, mostLines, sheetSize, Step, add, subtract, multiply, fused, stepNumber, Line, line, Gives}
-use Rattle.worksheet_spec.specs.Lines.{value, minus, equal, zero}
+use Rattle.worksheet_spec.specs.Lines.{lineSize, mostLines, sheetSize, Step, add, subtract, multiply, fused, stepNumber}
+use Rattle.worksheet_spec.specs.Lines.{Line, line, Gives, value, minus, equal, zero}
 use Rattle.worksheet_spec.specs.Sheets.{sheetOf}
 use Rattle.worksheet_spec.specs.Filling.{filled, filling, afterFilling, HasDirectPair}
 
@@ -150,10 +150,11 @@ InOrder =
 abbrev pub LineCount : Type 0
 LineCount = (o : Operation) (x y : ℕ) → (1 ≤ length (sheetOf o x y .lines)) × (length (sheetOf o x y .lines) ≤ mostLines)
 
--- ---- the foot is the direct pair, bit for bit (R7.4). (The flags that come back with a sheet are the direct pair's: said where it is filled.)
+-- ---- the foot is the direct pair, bit for bit (R7.4). (The flags that come back are the direct pair's: said where a sheet is filled.)
 abbrev pub FootIsPair : Type 0
 FootIsPair =
-    (o : Operation) (x y : ℕ) → let s = sheetOf o x y in let p = directPair o binary32 x y in (s .first ≡ p .first) × (s .second ≡ p .second)
+    (o : Operation) (x y : ℕ) → let s = sheetOf o x y in let p = directPair o binary32 x y in
+    (s .first ≡ p .first) × (s .second ≡ p .second)
 
 -- ---- filling
 -- the numbers of operations (R8.5)

@@ -7,11 +7,11 @@ use borrow.Author.Tests.{ltb-true, ltb-false}
 use lib.Dec.{leb, ltb}
 use lib.ListN.{length, take, getD}
 use Rattle.accumulator_spec.specs.Words.{Words, complement}
-use Rattle.accumulator_spec.specs.Totals.{fit, count}
+use Rattle.accumulator_spec.specs.Totals.{totalSize, mostTerms, fit, count}
 use Rattle.accumulator_spec.proofs.Fitness.{inside, below, above, at-limit}
 use Rattle.accumulator_fit.specs.Inner.{belowLimit}
 
-module _ (t : List ℕ) (full : length t ≡ 21) (words : Words t) (room : count t ≤ 65536) where
+module _ (t : List ℕ) (full : length t ≡ totalSize) (words : Words t) (room : count t ≤ mostTerms) where
   abbrev limit : ℕ
   limit = count t * 1024
 

@@ -1,14 +1,14 @@
 -- A shifted significand goes into the words of a number from word exp / 32 on; in a total the count is raised then.
 use mathlib.Core.Path.{_≡_, sym, ap, ap₂, _∙_}
 use mathlib.Core.Bool.{Bool}
-use mathlib.Core.List.{List, [], _∷_, _++_}
+use mathlib.Core.List.{List, [], _∷_, _++_, append-nil}
 use Prim.Native.Nat.{ℕ, suc, _+_, _-_, _*_, _/_, _%_, _^_, _≤_}
 use native.Mathlib.Nat.{le-of-eq, mul-assoc, mul-comm}
 use native.Mathlib.Omega.{arith}
 use lib.IntN.{pos, _+ℤ_}
-use lib.ListN.{length, take, drop, getD, set, drop-of-length-le, length-append}
+use lib.ListN.{length, take, drop, getD, set, drop-of-length-le, length-append, length-drop}
 use lib.Pow.{pow-add}
-use lib.Seq.{take-at, drop-cons, set-split, length-take-le}
+use lib.Seq.{take-all, take-at, drop-cons, set-split, length-take-le}
 use Rattle.pattern_spec.specs.Exact.{int}
 use Rattle.accumulator_spec.specs.Words.{Words, natural, integer, wordsOfInteger}
 use Rattle.accumulator_spec.specs.Totals.{numberSize, totalSize, number, count, totalOf}
@@ -24,14 +24,29 @@ weighed sig exp =
     sym (mul-assoc W sig (2 ^ (exp % 32))) ∙ ap (λ (x : ℕ). x * 2 ^ (exp % 32)) (mul-comm W sig) ∙ mul-assoc sig W (2 ^ (exp % 32))
     ∙ ap (λ (x : ℕ). sig * x) (sym (pow-add 2 (32 * (exp / 32)) (exp % 32)) ∙ ap (λ (x : ℕ). 2 ^ x) e)
 
--- What the carrying add leaves in the words from there on moves the number of all of them.
-pub part-term : (ws : List ℕ) (s : Bool) (sig exp : ℕ) (new : List ℕ) → Words ws → exp ≤ 32 * length ws
-    → (let part = drop (exp / 32) ws in new ≡ wordsOfInteger (length part) (pos (natural part) +ℤ int s (sig * 2 ^ (exp % 32))))
-    → take (exp / 32) ws ++ new ≡ afterTerm ws s sig exp
-part-term ws s sig exp new words fits added =
-    ap (λ (xs : List ℕ). take (exp / 32) ws ++ xs) added
-    ∙ part-added ws (exp / 32) words (omega arith) s (sig * 2 ^ (exp % 32))
-    ∙ ap (λ (x : ℕ). wordsOfInteger (length ws) (integer ws +ℤ int s x)) (weighed sig exp)
+-- What the carrying add leaves in the words from there on, as they are lent to it, moves the number of all of them.
+module _ (ws : List ℕ) (words : Words ws) (s : Bool) (sig exp : ℕ) (fits : exp ≤ 32 * length ws) where
+  abbrev w : ℕ
+  w = exp / 32
+
+  abbrev k : ℕ
+  k = length ws - w
+
+  abbrev lent : List ℕ
+  lent = take k (drop w ws)
+
+  size : length (drop w ws) ≤ k
+  size = le-of-eq (length-drop w ws)
+
+  pub part-term : (new : List ℕ) → new ≡ wordsOfInteger (length lent) (pos (natural lent) +ℤ int s (sig * 2 ^ (exp % 32)))
+      → take w ws ++ (new ++ drop k (drop w ws)) ≡ afterTerm ws s sig exp
+  part-term new added =
+      ap₂ (λ (xs ys : List ℕ). take w ws ++ (xs ++ ys))
+      (added ∙ ap (λ (xs : List ℕ). wordsOfInteger (length xs) (pos (natural xs) +ℤ int s (sig * 2 ^ (exp % 32)))) (take-all k (drop w ws) size))
+      (drop-of-length-le (drop w ws) size)
+      ∙ ap (λ (xs : List ℕ). take w ws ++ xs) (append-nil _)
+      ∙ part-added ws w words (omega arith) s (sig * 2 ^ (exp % 32))
+      ∙ ap (λ (x : ℕ). wordsOfInteger (length ws) (integer ws +ℤ int s x)) (weighed sig exp)
 
 -- The words of the number moved by a term, and the count behind them raised.
 pub total-term : (t : List ℕ) (s : Bool) (sig exp n : ℕ) (new : List ℕ) → length t ≡ totalSize → new ≡ afterTerm (take numberSize t) s sig exp

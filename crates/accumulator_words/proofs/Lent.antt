@@ -8,7 +8,7 @@ use borrow.Author.Tests.{eqb-true, eqb-false}
 use lib.Dec.{eqb}
 use lib.ListN.{length}
 use Rattle.accumulator_spec.specs.Totals.{totalSize, fit}
-use Rattle.accumulator_fit.specs.Inner.{lent}
+use Rattle.accumulator_words.specs.Inner.{lent}
 
 module _ (t : List ℕ) where
   abbrev pub Length : Type 0

@@ -3,8 +3,8 @@ use mathlib.Core.Path.{sym, _∙_}
 use borrow.Author.Tests.{eq-eqb, ne-eqb, not-true, not-false}
 use lib.ListN.{length}
 use Rattle.accumulator_spec.specs.Totals.{totalSize}
-use Rattle.accumulator_fit.proofs.refusal.Statement.{statement}
-use Rattle.accumulator_fit.proofs.refusal.Tie as tie
+use Rattle.accumulator_words.proofs.fit.refusal.Statement.{statement}
+use Rattle.accumulator_words.proofs.fit.refusal.Tie as tie
 
 returns : tie.Need-returns
 returns c = rw (ne-eqb (length (c .before .before .args .total .now)) totalSize (c .if1 .taken))

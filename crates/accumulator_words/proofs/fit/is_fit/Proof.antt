@@ -6,10 +6,10 @@ use lib.ListN.{take, getD}
 use Rattle.accumulator_spec.specs.Words.{Words}
 use Rattle.accumulator_spec.specs.Totals.{count}
 use Rattle.accumulator_spec.proofs.Fitness.{unfit-count, over-top, over-next}
-use Rattle.accumulator_fit.specs.Inner.{belowLimit}
-use Rattle.accumulator_fit.proofs.Limit.{within-fit}
-use Rattle.accumulator_fit.proofs.is_fit.Statement.{statement}
-use Rattle.accumulator_fit.proofs.is_fit.Tie as tie
+use Rattle.accumulator_words.specs.Inner.{belowLimit}
+use Rattle.accumulator_words.proofs.Limit.{within-fit}
+use Rattle.accumulator_words.proofs.fit.is_fit.Statement.{statement}
+use Rattle.accumulator_words.proofs.fit.is_fit.Tie as tie
 
 shared-slice-read-n : tie.Need-shared-slice-read-n
 shared-slice-read-n c = search needs

@@ -1,8 +1,8 @@
 use borrow.Author.Needs.{needs}
 use mathlib.Core.Path.{_∙_}
 use borrow.Author.Tests.{lt-ltb, le-ltb}
-use Rattle.accumulator_fit.proofs.within.Statement.{statement}
-use Rattle.accumulator_fit.proofs.within.Tie as tie
+use Rattle.accumulator_words.proofs.fit.within.Statement.{statement}
+use Rattle.accumulator_words.proofs.fit.within.Tie as tie
 
 returns : tie.Need-returns
 returns c = rw (lt-ltb (c .before .before .args .top) (c .before .before .args .limit) (c .if1 .taken))

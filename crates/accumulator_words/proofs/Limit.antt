@@ -1,5 +1,5 @@
 -- With nothing in the two top words, what is left of a total's fitness.
-use mathlib.Core.Path.{_≡_, refl}
+use mathlib.Core.Path.{_≡_, refl, _∙_}
 use mathlib.Core.Bool.{Bool, true, false, cond}
 use mathlib.Core.List.{List}
 use Prim.Native.Nat.{ℕ, _*_, _≤_}
@@ -7,11 +7,12 @@ use borrow.Author.Tests.{ltb-true, ltb-false}
 use lib.Dec.{leb, ltb}
 use lib.ListN.{length, take, getD}
 use Rattle.accumulator_spec.specs.Words.{Words, complement}
-use Rattle.accumulator_spec.specs.Totals.{fit, count}
+use Rattle.accumulator_spec.specs.Totals.{totalSize, mostTerms, fit, count}
 use Rattle.accumulator_spec.proofs.Fitness.{inside, below, above, at-limit}
-use Rattle.accumulator_fit.specs.Inner.{belowLimit}
+use Rattle.accumulator_spec.proofs.Zeros.{zero-natural}
+use Rattle.accumulator_words.specs.Inner.{belowLimit}
 
-module _ (t : List ℕ) (full : length t ≡ 21) (words : Words t) (room : count t ≤ 65536) where
+module _ (t : List ℕ) (full : length t ≡ totalSize) (words : Words t) (room : count t ≤ mostTerms) where
   abbrev limit : ℕ
   limit = count t * 1024
 
@@ -28,7 +29,8 @@ module _ (t : List ℕ) (full : length t ≡ 21) (words : Words t) (room : count
       go : (b : Bool) → ltb (getD t 17 0) limit ≡ b → (c : Bool) → ltb limit (getD t 17 0) ≡ c → belowLimit (take 17 t) false (getD t 17 0) limit ≡ fit t
       go true p c q = rw p (inside t full words room false e z y (ltb-true (getD t 17 0) limit p))
       go false p true q = rw (p, q) (above t full words room e z y (ltb-true limit (getD t 17 0) q))
-      go false p false q = rw (p, q) (at-limit t full words room e z y (ltb-false (getD t 17 0) limit p) (ltb-false limit (getD t 17 0) q))
+      go false p false q = rw (p, q)
+          (zero-natural (take 17 t) ∙ at-limit t full words room e z y (ltb-false (getD t 17 0) limit p) (ltb-false limit (getD t 17 0) q))
 
   -- by the sign that word 19 shows
   pub within-fit : (s : Bool) → s ≡ leb 2147483648 (getD t 19 0) → cond s (complement (getD t 19 0)) (getD t 19 0) ≡ 0 → cond s (complement (getD t 18 0)) (getD t 18 0) ≡ 0

@@ -1,18 +1,21 @@
-// Whether a total is fit: its top words tell, but at the limit itself.
+// Whether lent words are a fit total (R6.3): its top words tell, but at the limit itself.
+use crate::is_zero;
+use accumulator_spec::MOST_TERMS;
+use accumulator_spec::NUMBER_SIZE;
+use accumulator_spec::TOTAL_SIZE;
 use choose::choose_pattern;
 ghost use mathlib.Core.Path.{_≡_};
 ghost use mathlib.Core.Bool.{cond};
-ghost use lib.Dec.{eqb};
 ghost use lib.ListN.{length};
-ghost use Rattle.accumulator_spec.specs.Words.{natural, complement};
-ghost use Rattle.accumulator_spec.specs.Totals.{fit};
-ghost use Rattle.accumulator_fit.specs.Inner.{lent, belowLimit};
+ghost use Rattle.accumulator_spec.specs.Words.{complement};
+ghost use Rattle.accumulator_spec.specs.Totals.{totalSize, fit};
+ghost use Rattle.accumulator_words.specs.Inner.{lent, belowLimit};
 
-// What document 01 tries first of lent words, by its numbers: 5, 6, or 0 for a fit total.
+// What is tried first of lent words, by its refusal: 5, 6, or 0 for a fit total (R8.7, R8.8).
 pub fn refusal(total: &[u32]) -> u32
     ensures { λ r. ⌜ r ≡ lent (now (total .entry)) ⌝ }
 {
-    if total.len() != 21 {
+    if total.len() != TOTAL_SIZE {
         return 5;
     }
     if !is_fit(total) {
@@ -24,11 +27,11 @@ pub fn refusal(total: &[u32]) -> u32
 // The limit is count * 1024 times the weight of word 17. A negative number is below it where its complement, which is smaller
 // by one, is: no negation, so that -2^639 needs no care.
 fn is_fit(total: &[u32]) -> bool
-    requires { ⌜ length (now total) ≡ 21 ⌝ }
+    requires { ⌜ length (now total) ≡ totalSize ⌝ }
     ensures { λ r. ⌜ r ≡ fit (now (total .entry)) ⌝ }
 {
-    let n = total[20];
-    if n > 65536 {
+    let n = total[NUMBER_SIZE];
+    if n > MOST_TERMS {
         return false;
     }
     let minus = total[19] >= 0x8000_0000;
@@ -63,17 +66,4 @@ fn turned(minus: bool, w: u32) -> u32
     ensures { λ r. ⌜ r ≡ cond minus (complement w) w ⌝ }
 {
     choose_pattern(minus, 0xffff_ffff - w, w)
-}
-
-fn is_zero(words: &[u32]) -> bool
-    ensures { λ r. ⌜ r ≡ eqb (natural (now (words .entry))) 0 ⌝ }
-{
-    let mut i: usize = 0;
-    while i < words.len() {
-        if words[i] != 0 {
-            return false;
-        }
-        i += 1;
-    }
-    true
 }

@@ -1,15 +1,14 @@
 use Prim.Native.Nat.{_-_, _≤_}
 use mathlib.Core.Path.{_≡_, refl, _∙_}
 use native.Mathlib.Omega.{arith}
-use lib.Dec.{eqb}
 use lib.ListN.{length, drop}
-use Rattle.accumulator_spec.specs.Words.{natural}
+use Rattle.accumulator_spec.specs.Words.{allZero}
 use Rattle.accumulator_spec.proofs.Zeros.{zero-more, zero-not, zero-done}
-use Rattle.accumulator_fit.proofs.is_zero.Statement.{statement}
-use Rattle.accumulator_fit.proofs.is_zero.Tie as tie
+use Rattle.accumulator_words.proofs.is_zero.Statement.{statement}
+use Rattle.accumulator_words.proofs.is_zero.Tie as tie
 
 abbrev Inv-loop : tie.InvT-loop
-Inv-loop words i₀ i = (i ≤ length words) × (eqb (natural (drop i words)) 0 ≡ eqb (natural words) 0)
+Inv-loop words i₀ i = (i ≤ length words) × (allZero (drop i words) ≡ allZero words)
 
 abbrev μ-loop : tie.MeasureT-loop
 μ-loop words i₀ i = length words - i

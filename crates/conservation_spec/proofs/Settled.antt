@@ -13,36 +13,36 @@ use Rattle.worksheet_spec.specs.Filling.{filled, HasDirectPair}
 use Rattle.worksheet_spec.proofs.Theorems.{filled-pair}
 use Rattle.accumulator_spec.specs.Totals.{Term, ofPattern, ofProduct, afterAdding}
 use Rattle.accumulator_spec.specs.Columns.{column}
-use Rattle.conservation_spec.specs.Lists.{Question, answer, operation, direct, finitePair, enters, setTerms, Totals, asked}
+use Rattle.conservation_spec.specs.Lists.{Posed, sheetFor, operationFor, directFor, pairEnters, enters, setTerms, Totals, afterQuestion}
 
-module _ (q : Question) where
+module _ (q : Posed) where
   -- the pair that came back is the direct pair
-  enters-is : (n : ℕ) (p : Pair) → filled n p ≡ answer q → enters q ≡ finitePair p && not (p .flags .inexact)
+  enters-is : (n : ℕ) (p : Pair) → filled n p ≡ sheetFor q → enters q ≡ pairEnters p
   unfolding enters
   enters-is n p e =
-      let d : p ≡ direct q = subst (HasDirectPair (q .operation) (q .x) (q .y)) (sym e) (filled-pair (q .operation) (q .x) (q .y) (q .words)) in
+      let d : p ≡ directFor q = subst (HasDirectPair (q .operation) (q .x) (q .y)) (sym e) (filled-pair (q .operation) (q .x) (q .y) (q .words)) in
       rw (← e, d)
 
-  refused-out : (n : ℕ) → refused n ≡ answer q → enters q ≡ false
+  refused-out : (n : ℕ) → refused n ≡ sheetFor q → enters q ≡ false
   unfolding enters
   refused-out n e = rw (← e)
 
   module _ (t : Totals) where
-    out : enters q ≡ false → (t .first ≡ asked q t .first) × (t .other ≡ asked q t .other)
+    out : enters q ≡ false → (t .first ≡ afterQuestion q t .first) × (t .other ≡ afterQuestion q t .other)
     out e = rw e (refl, refl)
 
-    pub refused-adds-nothing : (n : ℕ) → refused n ≡ answer q → (t .first ≡ asked q t .first) × (t .other ≡ asked q t .other)
+    pub refused-adds-nothing : (n : ℕ) → refused n ≡ sheetFor q → (t .first ≡ afterQuestion q t .first) × (t .other ≡ afterQuestion q t .other)
     refused-adds-nothing n e = out (refused-out n e)
 
-    pub outside-adds-nothing : (n : ℕ) (p : Pair) → filled n p ≡ answer q → finitePair p && not (p .flags .inexact) ≡ false → (t .first ≡ asked q t .first) × (t .other ≡ asked q t .other)
+    pub outside-adds-nothing : (n : ℕ) (p : Pair) → filled n p ≡ sheetFor q → pairEnters p ≡ false → (t .first ≡ afterQuestion q t .first) × (t .other ≡ afterQuestion q t .other)
     outside-adds-nothing n p e b = out (enters-is n p e ∙ b)
 
-    pub entering-adds : (n : ℕ) (p : Pair) → filled n p ≡ answer q → finitePair p && not (p .flags .inexact) ≡ true → (first other : List ℕ)
-        → first ≡ column (t .first) (ofPattern (p .first) ∷ ofPattern (p .second) ∷ []) → other ≡ column (t .other) (setTerms (operation q) (q .x) (q .y))
-        → (first ≡ asked q t .first) × (other ≡ asked q t .other)
+    pub entering-adds : (n : ℕ) (p : Pair) → filled n p ≡ sheetFor q → pairEnters p ≡ true → (first other : List ℕ)
+        → first ≡ column (t .first) (ofPattern (p .first) ∷ ofPattern (p .second) ∷ []) → other ≡ column (t .other) (setTerms (operationFor q) (q .x) (q .y))
+        → (first ≡ afterQuestion q t .first) × (other ≡ afterQuestion q t .other)
     entering-adds n p e b first other f o = rw (enters-is n p e ∙ b, ← e) (f, o)
 
--- ---- terms one after the other
+-- ---- terms one afterEvent the other
 pub one-term : (t a : List ℕ) (x : Term) → a ≡ afterAdding t x → a ≡ column t (x ∷ [])
 unfolding column
 one-term t a x e = e

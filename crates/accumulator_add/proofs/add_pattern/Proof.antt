@@ -10,7 +10,7 @@ use Rattle.pattern_spec.proofs.Classified.{class-operand}
 use Rattle.accumulator_spec.specs.Totals.{ofPattern}
 use Rattle.accumulator_spec.proofs.Adding.{fit-bounds}
 use Rattle.accumulator_spec.proofs.Terms.{tried, special}
-use Rattle.accumulator_fit.proofs.Lent.{sound}
+use Rattle.accumulator_words.proofs.Lent.{sound}
 use Rattle.accumulator_add.specs.Inner.{numbered, hasRoom}
 use Rattle.accumulator_add.proofs.Numbers.{lent-adds, room-numbered}
 use Rattle.accumulator_add.proofs.Scaled.{pattern-value, finer-digits}

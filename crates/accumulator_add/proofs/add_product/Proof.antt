@@ -6,7 +6,7 @@ use Rattle.pattern_spec.specs.Classes.{valueOf}
 use Rattle.accumulator_spec.specs.Totals.{ofProduct}
 use Rattle.accumulator_spec.proofs.Adding.{fit-bounds}
 use Rattle.accumulator_spec.proofs.Terms.{tried, special}
-use Rattle.accumulator_fit.proofs.Lent.{sound}
+use Rattle.accumulator_words.proofs.Lent.{sound}
 use Rattle.accumulator_add.specs.Inner.{numbered, hasRoom}
 use Rattle.accumulator_add.proofs.Numbers.{lent-adds, room-numbered}
 use Rattle.accumulator_add.proofs.add_product.Statement.{statement}

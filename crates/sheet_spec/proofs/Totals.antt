@@ -13,7 +13,7 @@ use Rattle.rounding_spec.specs.Format.{binary32}
 use Rattle.rounding_spec.specs.Value.{decode, isFinite}
 use Rattle.augmented_spec.specs.declared.Pair.{Pair}
 use Rattle.augmented_spec.specs.Direct.{directPair, isOperation, operationOf}
-use Rattle.worksheet_spec.specs.Filling.{FilledSheet, filled, answerOf, filling}
+use Rattle.worksheet_spec.specs.Filling.{FilledSheet, filled, sheetAnswer, filling}
 use Rattle.worksheet_spec.proofs.Filling.{fills, answer-is}
 use Rattle.question_spec.specs.Questions.{Asked, asked, reading}
 use Rattle.question_spec.proofs.Theorems.{only-text}
@@ -74,7 +74,7 @@ total-takes-all lines h =
 
 -- ---- a question that is read has its sheet
 pub never-refused : NeverRefused
-unfolding answerOf
+unfolding sheetAnswer
 never-refused line o x y e =
     let t = only-text line o x y e in
     ap isDone (fills o x y blank (rw (le-leb 1 o (t .1), le-leb o 3 (t .2))) (le-refl 65))

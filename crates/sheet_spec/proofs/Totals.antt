@@ -17,9 +17,8 @@ use Rattle.worksheet_spec.specs.Filling.{FilledSheet, filled, sheetAnswer, fill
 use Rattle.worksheet_spec.proofs.Filling.{fills, answer-is}
 use Rattle.question_spec.specs.Questions.{Asked, asked, reading}
 use Rattle.question_spec.proofs.Theorems.{only-text}
-use Rattle.accumulator_spec.specs.Totals.{number, Term, ofPattern, afterAdding}
+use Rattle.accumulator_spec.specs.Totals.{number, Term, ofPattern, FitTotal, afterAdding}
 use Rattle.accumulator_spec.specs.Columns.{column, AllFinite}
-use Rattle.accumulator_spec.specs.Theorems.{FitTotal}
 use Rattle.accumulator_spec.proofs.Columns.{exact-column}
 use Rattle.sheet_spec.specs.Printed.{blank, pairTerms, lineTerms, Progress, start, afterLine, afterLines}
 use Rattle.sheet_spec.specs.Theorems.{NeverRefused, LineTerms, termsOf, TotalTakesAll}

@@ -12,9 +12,8 @@ use Rattle.augmented_spec.specs.Direct.{directPair, operationOf}
 use Rattle.worksheet_spec.specs.Filling.{filling}
 use Rattle.question_spec.specs.Questions.{asked, reading}
 use Rattle.transcript_spec.specs.Texts.{badText, totalText, endText}
-use Rattle.accumulator_spec.specs.Totals.{number, Term, ofPattern}
+use Rattle.accumulator_spec.specs.Totals.{number, Term, ofPattern, FitTotal}
 use Rattle.accumulator_spec.specs.Columns.{zeros, column, Accepted, columnSum}
-use Rattle.accumulator_spec.specs.Theorems.{FitTotal}
 use Rattle.sheet_spec.specs.Printed.{blank, lineTerms, start, afterLines, output}
 use Rattle.sheet_spec.specs.States.{State, begin, takeBytes, bytesText, closeText}
 

@@ -1,7 +1,7 @@
 use borrow.Author.Needs.{needs}
 use Rattle.pattern_spec.proofs.Shown.{never}
-use Rattle.augmented_pack.proofs.raised.of_special.Statement.{statement}
-use Rattle.augmented_pack.proofs.raised.of_special.Tie as tie
+use Rattle.augmented.proofs.raised.of_special.Statement.{statement}
+use Rattle.augmented.proofs.raised.of_special.Tie as tie
 
 overflowed-requires : tie.Need-overflowed-requires
 overflowed-requires c κs = search needs

@@ -5,8 +5,8 @@ use Rattle.rounding_spec.specs.Format.{binary32}
 use Rattle.rounding_spec.specs.Value.{decode, isInfinite, isFinite}
 use Rattle.augmented_spec.specs.Pairs.{overflowed}
 use Rattle.pattern_spec.proofs.Shown.{chosen-and}
-use Rattle.augmented_pack.proofs.raised.overflowed.Statement.{statement}
-use Rattle.augmented_pack.proofs.raised.overflowed.Tie as tie
+use Rattle.augmented.proofs.raised.overflowed.Statement.{statement}
+use Rattle.augmented.proofs.raised.overflowed.Tie as tie
 
 is-infinite-requires : tie.Need-is-infinite-requires
 is-infinite-requires c κs = search needs

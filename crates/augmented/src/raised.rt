@@ -1,5 +1,6 @@
 // Flags of two operands whose first is infinite or NaN.
 use augmented_spec::Flags;
+use augmented_spec::Pair;
 use choose::choose_sign;
 use pattern::both_finite;
 use pattern::is_infinite;
@@ -9,7 +10,18 @@ ghost use mathlib.Core.Path.{_≡_};
 ghost use Rattle.rounding_spec.specs.Format.{binary32};
 ghost use Rattle.rounding_spec.specs.Value.{decode};
 ghost use Rattle.augmented_spec.specs.Pairs.{invalid, overflowed};
-ghost use Rattle.augmented_spec.specs.Inner.{flagsWithoutU};
+ghost use Rattle.augmented_spec.specs.Inner.{flagsWithoutU, pairWithoutU};
+
+pub fn twice(x: u32, y: u32, half: u32) -> Pair
+    ensures { λ r. ⌜ r ≡ pairWithoutU x y half half ⌝ }
+{
+    let flags = of_special(x, y, half);
+    Pair {
+        first: half,
+        second: half,
+        flags,
+    }
+}
 
 pub fn of_special(x: u32, y: u32, first: u32) -> Flags
     ensures { λ r. ⌜ r ≡ flagsWithoutU x y first ⌝ }

@@ -5,9 +5,9 @@ use Prim.Native.Nat.{_*_, _^_}
 use native.Mathlib.Omega.{arith}
 use Rattle.rounding_spec.specs.Format.{binary32}
 use Rattle.rounding_spec.specs.Value.{finite, encode}
-use Rattle.augmented_spec.proofs.Packed.{zeros-ge, shift-le, packed-bounds, packed-is}
-use Rattle.augmented_pack.proofs.rest_pattern.Statement.{statement}
-use Rattle.augmented_pack.proofs.rest_pattern.Tie as tie
+use Rattle.rounding_spec.proofs.Packed.{zeros-ge, shift-le, packed-bounds, packed-is}
+use Rattle.rounding.proofs.rest_pattern.Statement.{statement}
+use Rattle.rounding.proofs.rest_pattern.Tie as tie
 
 mul-room : tie.Need-mul-room
 mul-room c = search needs

@@ -1,6 +1,6 @@
 use borrow.Author.Needs.{needs}
-use Rattle.augmented_product.proofs.twice.Statement.{statement}
-use Rattle.augmented_product.proofs.twice.Tie as tie
+use Rattle.augmented.proofs.raised.twice.Statement.{statement}
+use Rattle.augmented.proofs.raised.twice.Tie as tie
 
 of-special-requires : tie.Need-of-special-requires
 of-special-requires c κs = search needs

@@ -3,8 +3,8 @@ use mathlib.Core.Path.{ap, ap₂, _∙_}
 use mathlib.Core.Bool.{not, _&&_, _||_}
 use Rattle.augmented_spec.specs.Pairs.{invalid}
 use Rattle.pattern_spec.proofs.Shown.{chosen-or, chosen-and}
-use Rattle.augmented_pack.proofs.raised.invalid.Statement.{statement}
-use Rattle.augmented_pack.proofs.raised.invalid.Tie as tie
+use Rattle.augmented.proofs.raised.invalid.Statement.{statement}
+use Rattle.augmented.proofs.raised.invalid.Tie as tie
 
 signalling-requires : tie.Need-signalling-requires
 signalling-requires c κs = search needs

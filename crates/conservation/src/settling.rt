@@ -11,7 +11,7 @@ ghost use Rattle.augmented_spec.specs.Direct.{operationOf};
 ghost use Rattle.accumulator_spec.specs.Totals.{ofPattern};
 ghost use Rattle.accumulator_spec.specs.Columns.{column};
 ghost use Rattle.conservation_spec.specs.Lists.{pairEnters, setTerms};
-ghost use Rattle.conservation_spec.specs.Replay.{Settles};
+ghost use Rattle.conservation_spec.specs.Inner.{Settles};
 
 // The terms of the foot are the filled pair's, never the operands'.
 pub fn settle(

@@ -15,3 +15,10 @@ pub struct Pair {
     pub second: u32,
     pub flags: Flags,
 }
+
+// Operation numbers (R8.5).
+pub const SUM: u32 = 1;
+
+pub const DIFFERENCE: u32 = 2;
+
+pub const PRODUCT: u32 = 3;

@@ -102,7 +102,11 @@ book (asks q ∷ es) = cond (enters q) (exactResult (operation q) (q .x) (q .y))
 book (reads side ∷ es) = book es
 book (adds side x ∷ es) = book es
 
--- ---- how many: "up to 32,768 questions", "s entering sums and differences and p entering products"
+-- ---- how many: a list has at most this many questions (R7.6)
+abbrev pub mostQuestions : ℕ
+mostQuestions = 32768
+
+-- "up to 32,768 questions", "s entering sums and differences and p entering products"
 unfoldable pub questions : List Event → ℕ
 questions [] = 0
 questions (asks q ∷ es) = suc (questions es)

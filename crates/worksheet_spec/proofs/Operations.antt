@@ -19,7 +19,7 @@ use Rattle.errorfree_spec.proofs.Steps.{zero-times}
 use Rattle.errorfree_spec.proofs.Recomposed.{psi-finite}
 use Rattle.errorfree_spec.proofs.Edge.{halfLimit, kappa-is}
 use Rattle.worksheet_spec.specs.Constants.{psi, two, half, kappa, plusZero, twoTo127, twoTo102}
-use Rattle.worksheet_spec.specs.Lines.{number, Line, Sheet, ends, value, minus, equal, copySign, zero}
+use Rattle.worksheet_spec.specs.Lines.{stepNumber, Line, Sheet, ends, value, minus, equal, copySign, zero}
 use Rattle.worksheet_spec.specs.Sheets.{recomposition, zeroFinish, recomposedFinished, atEdge, edgeFinish, halvedSum, overflows, sumInOrder, swaps, sumSheet}
 use Rattle.worksheet_spec.specs.Theorems.{operations, sumOperations}
 use Rattle.worksheet_spec.proofs.Patterns.{minus-value, negate-finite}
@@ -30,7 +30,7 @@ use Rattle.worksheet_spec.proofs.Sums.{first-is, second-is, b-none, no-
 -- ---- lists and choices
 operations-append : (ls ms : List Line) → operations (ls ++ ms) ≡ operations ls ++ operations ms
 operations-append [] ms = refl
-operations-append (l ∷ ls) ms = ap (λ (os : List ℕ). number (l .operation) ∷ os) (operations-append ls ms)
+operations-append (l ∷ ls) ms = ap (λ (os : List ℕ). stepNumber (l .operation) ∷ os) (operations-append ls ms)
 
 pub operations-cond : (c : Bool) (s t : Sheet) → operations (cond c s t .lines) ≡ cond c (operations (s .lines)) (operations (t .lines))
 operations-cond true s t = refl

@@ -9,13 +9,13 @@ use Rattle.rounding_spec.specs.Format.{binary32}
 use Rattle.pattern_spec.specs.Answer.{Answer, refused, done, isDone}
 use Rattle.augmented_spec.specs.declared.Pair.{Pair}
 use Rattle.augmented_spec.specs.Direct.{Operation, sum, difference, product, directPair, isOperation, operationOf}
-use Rattle.worksheet_spec.specs.Lines.{number, Line}
+use Rattle.worksheet_spec.specs.Lines.{stepNumber, Line}
 use Rattle.worksheet_spec.specs.Sheets.{sheetOf}
 
 -- ---- words: "A sheet has at most 13 lines of five words each: operation (1 add, 2 subtract, 3 multiply, 4 fused), three operands
 -- (third 0 if unused), result."
 abbrev pub lineWords : Line → List ℕ
-lineWords l = number (l .operation) ∷ l .x ∷ l .y ∷ l .z ∷ l .result ∷ []
+lineWords l = stepNumber (l .operation) ∷ l .x ∷ l .y ∷ l .z ∷ l .result ∷ []
 
 unfoldable pub wordsOf : List Line → List ℕ
 wordsOf [] = []

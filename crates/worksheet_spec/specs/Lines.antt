@@ -1,5 +1,5 @@
 -- The lines of a sheet, the sheet, and what makes no line (document 01, "The step sheet").
-use Prim.Native.Nat.{ℕ}
+use Prim.Native.Nat.{ℕ, _*_}
 use mathlib.Core.Bool.{Bool, cond}
 use mathlib.Core.List.{List, [], _++_}
 use lib.Dec.{leb}
@@ -7,6 +7,16 @@ use Rattle.rounding_spec.specs.Format.{binary32, signBit}
 use Rattle.rounding_spec.specs.Value.{Value, decode, isZero}
 use Rattle.pattern_spec.specs.Classes.{flip}
 use Rattle.errorfree_spec.specs.Comparisons.{same}
+
+-- ---- sizes (R5.21, R5.22): words of a line, most lines, and words of a sheet
+abbrev pub lineSize : ℕ
+lineSize = 5
+
+abbrev pub mostLines : ℕ
+mostLines = 13
+
+abbrev pub sheetSize : ℕ
+sheetSize = mostLines * lineSize
 
 -- ---- a line
 -- "operation (1 add, 2 subtract, 3 multiply, 4 fused)"
@@ -16,11 +26,11 @@ pub data Step : Type 0 where
   multiply : Step
   fused : Step
 
-abbrev pub number : Step → ℕ
-number add = 1
-number subtract = 2
-number multiply = 3
-number fused = 4
+abbrev pub stepNumber : Step → ℕ
+stepNumber add = 1
+stepNumber subtract = 2
+stepNumber multiply = 3
+stepNumber fused = 4
 
 -- "five words each: operation .., three operands (third 0 if unused), result"
 pub record Line : Type 0 where

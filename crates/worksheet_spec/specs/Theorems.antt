@@ -12,7 +12,7 @@ use Rattle.binary32_spec.specs.Steps.{addStep, subStep, mulStep, fmaStep}
 use Rattle.augmented_spec.specs.Direct.{Operation, sum, difference, product, directPair, operationNumber, operationOf}
 use Rattle.errorfree_spec.specs.Comparisons.{lessMagnitude}
 use Rattle.worksheet_spec.specs.Constants.{psi, two, minusTwo, half, kappa, twoTo24, twoTo48, twoToMinus24, plusZero, smallest, twoTo127, twoTo102, twoToMinus102, twoToMinus126}
-use Rattle.worksheet_spec.specs.Lines.{Step, add, subtract, multiply, fused, number, Line, line, value, minus, equal, zero}
+use Rattle.worksheet_spec.specs.Lines.{Step, add, subtract, multiply, fused, stepNumber, Line, line, value, minus, equal, zero}
 use Rattle.worksheet_spec.specs.Sheets.{sheetOf}
 use Rattle.worksheet_spec.specs.Filling.{filled, filling, afterFilling, HasDirectPair}
 
@@ -87,7 +87,7 @@ FirstLine =
 -- ---- the operations of all lines, in order, by their numbers: which lines there are, and how many
 abbrev pub operations : List Line → List ℕ
 operations [] = []
-operations (l ∷ ls) = number (l .operation) ∷ operations ls
+operations (l ∷ ls) = stepNumber (l .operation) ∷ operations ls
 
 -- of a sum, by the value of a and the foot's halves: 6 or 7 lines, 6 where a is NaN, 11 or 13 where it is infinite
 abbrev pub sumOperations : Value → ℕ → ℕ → List ℕ
@@ -139,7 +139,7 @@ SheetFilled =
     (o : Operation) (x y : ℕ) (words : List ℕ) → 65 ≤ length words → let n = operationNumber o in let ls = sheetOf o x y .lines in
     (filling n x y words ≡ filled (length ls) (directPair o binary32 x y))
     × (length (afterFilling n x y words) ≡ length words)
-    × ((k : ℕ) (before after : List Line) (l : Line) → ls ≡ before ++ (l ∷ after) → k ≡ length before → take 5 (drop (5 * k) (afterFilling n x y words)) ≡ number (l .operation) ∷ l .x ∷ l .y ∷ l .z ∷ l .result ∷ [])
+    × ((k : ℕ) (before after : List Line) (l : Line) → ls ≡ before ++ (l ∷ after) → k ≡ length before → take 5 (drop (5 * k) (afterFilling n x y words)) ≡ stepNumber (l .operation) ∷ l .x ∷ l .y ∷ l .z ∷ l .result ∷ [])
     × (take (65 - 5 * length ls) (drop (5 * length ls) (afterFilling n x y words)) ≡ replicate (65 - 5 * length ls) 0)
     × (drop 65 (afterFilling n x y words) ≡ drop 65 words)
 

@@ -13,12 +13,26 @@ use Rattle.pattern_spec.specs.Exact.{int, times, finer}
 use Rattle.augmented_spec.specs.Pairs.{Halves, pairOf}
 use Rattle.accumulator_spec.specs.Words.{integer, wordsOfInteger}
 
--- ---- "A total is 21 words of 32 bits: 20 hold a two's-complement whole number of 2^-298, lowest word first; the last holds the count of terms."
-abbrev pub number : List ℕ → ℤ
-number t = integer (take 20 t)
+-- ---- what a total is
+-- R6.1: the words of its number
+abbrev pub numberSize : ℕ
+numberSize = 20
 
+-- R6.1: all its words, those of the number and the count
+abbrev pub totalSize : ℕ
+totalSize = 21
+
+-- R6.3: the most terms that it takes
+abbrev pub mostTerms : ℕ
+mostTerms = 65536
+
+-- R6.1: its number, in two's complement, lowest word first
+abbrev pub number : List ℕ → ℤ
+number t = integer (take numberSize t)
+
+-- R6.1: its terms so far, counted in the word after the number
 abbrev pub count : List ℕ → ℕ
-count t = getD t 20 0
+count t = getD t numberSize 0
 
 -- the words of a total with this number and this count
 abbrev pub totalOf : ℤ → ℕ → List ℕ

@@ -1,7 +1,7 @@
 // The letters of operations, each after a tab.
+use crate::bytes::put_four;
 use augmented_spec::DIFFERENCE;
 use augmented_spec::SUM;
-use crate::bytes::put_four;
 use worksheet_spec::ADD;
 use worksheet_spec::MULTIPLY;
 use worksheet_spec::SUBTRACT;

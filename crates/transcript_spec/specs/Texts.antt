@@ -75,14 +75,14 @@ askText number operation x y = lineOf (ascii "ask" ∷ decimal number ∷ questi
 unfoldable pub stepText : ℕ → List ℕ → List ℕ
 stepText number words =
     lineOf (
-      ascii "step"
-      ∷ decimal number
-      ∷ stepLetters (getD words 0 0)
-      ∷ patternText (getD words 1 0)
-      ∷ patternText (getD words 2 0)
-      ∷ thirdText (getD words 0 0) (getD words 3 0)
-      ∷ patternText (getD words 4 0)
-      ∷ []
+    ascii "step"
+    ∷ decimal number
+    ∷ stepLetters (getD words 0 0)
+    ∷ patternText (getD words 1 0)
+    ∷ patternText (getD words 2 0)
+    ∷ thirdText (getD words 0 0) (getD words 3 0)
+    ∷ patternText (getD words 4 0)
+    ∷ []
     )
 
 -- R9.6: first, second, flags
@@ -111,10 +111,12 @@ unfoldable pub stepsText : ℕ → ℕ → List ℕ → List ℕ
 stepsText zero number words = []
 stepsText (suc lines) number words = stepText number words ++ stepsText lines (suc number) (drop lineSize words)
 
+abbrev pub shownText : ℕ → ℕ → ℕ → ℕ → List ℕ → ℕ → Pair → List ℕ
+shownText number operation x y words lines pair = askText number operation x y ++ (stepsText lines 1 words ++ pairText pair)
+
 -- no more lines are printed than a sheet has (R5.21)
 unfoldable pub answeredText : ℕ → ℕ → ℕ → ℕ → List ℕ → ℕ → Pair → List ℕ
-answeredText number operation x y words lines pair =
-    askText number operation x y ++ (stepsText (min lines mostLines) 1 words ++ pairText pair)
+answeredText number operation x y words lines pair = shownText number operation x y words (min lines mostLines) pair
 
 -- bytes that are room for the text of any question (`AtMost` of Theorems)
 abbrev pub lineRoom : ℕ

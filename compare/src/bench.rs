@@ -177,8 +177,8 @@ fn print_table(cells: &[Cell]) {
         }
     }
     println!();
-    println!("Nanoseconds a step: the median of {REPETITIONS} interleaved repetitions, each of {SWEEPS} sweeps over {QUESTIONS} questions.");
-    println!("A ratio is the median of the repetitions' ratios.");
+    println!("Nanoseconds a step: the median of {REPETITIONS} interleaved repetitions, each of {SWEEPS} sweeps over");
+    println!("{QUESTIONS} questions. A ratio is the median of the repetitions' ratios.");
     println!("Inputs are precomputed and caches warm; no call is inlined; questions do not depend on each other, so calls overlap.");
     println!("uniform: any patterns; near: normal numbers whose exponents lie within 3 of 1's.");
 }

@@ -8,7 +8,7 @@ use crate::subject::Library;
 use crate::totals;
 use crate::totals::columns::SHAPES as COLUMN_SHAPES;
 use crate::workers::SHOWN;
-use crate::{edges, lists, planted, sheets, steps};
+use crate::{edges, header, lists, planted, sheets, steps};
 use std::process::ExitCode;
 use std::time::Instant;
 
@@ -40,6 +40,10 @@ pub fn run(processor: Processor, options: &Options) -> ExitCode {
     let start = Instant::now();
     let how = if processor.fused_instruction { "its instruction" } else { "the C library's fmaf" };
     println!("reference: the processor, fma by {how}; seed {}", options.seed);
+    if let Some(what) = header::difference() {
+        println!("the comparison does not declare the library as its header does: {what}");
+        return ExitCode::FAILURE;
+    }
     if let Some(what) = cases::distrusted(processor) {
         println!("a reference for the pairs is at fault: {what}");
         return ExitCode::FAILURE;
@@ -72,6 +76,7 @@ pub fn run(processor: Processor, options: &Options) -> ExitCode {
 
 fn finds_planted(processor: Processor, step_edges: &[u32], pair_edges: &Edges, seed: u64) -> bool {
     let tried = [
+        ("the header, against what is declared here", header::tried()),
         ("every step, by the edges and by a shape", planted::tried(processor, step_edges, seed)),
         (
             "every operation of the pairs that can have them, by the edges and by a shape",

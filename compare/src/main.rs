@@ -4,6 +4,8 @@ mod bench;
 mod check;
 mod edges;
 mod fused;
+mod header;
+mod library;
 mod lists;
 mod pairs;
 mod pattern;

@@ -1,32 +1,23 @@
 //! What is tested: the steps of the static library.
+use crate::library;
 use crate::step::{Question, Step};
-
-mod exported {
-    // The archive that `rt staticlib exports` makes defines these.
-    extern "C" {
-        pub fn jirmeklo_add(x: u32, y: u32) -> u32;
-        pub fn jirmeklo_sub(x: u32, y: u32) -> u32;
-        pub fn jirmeklo_mul(x: u32, y: u32) -> u32;
-        pub fn jirmeklo_fma(x: u32, y: u32, z: u32) -> u32;
-    }
-}
 
 // SAFETY, for the four: the functions take and return plain numbers, are proved for every pattern,
 // and touch no memory of the caller's.
 pub fn add(x: u32, y: u32) -> u32 {
-    unsafe { exported::jirmeklo_add(x, y) }
+    unsafe { library::jirmeklo_add(x, y) }
 }
 
 pub fn sub(x: u32, y: u32) -> u32 {
-    unsafe { exported::jirmeklo_sub(x, y) }
+    unsafe { library::jirmeklo_sub(x, y) }
 }
 
 pub fn mul(x: u32, y: u32) -> u32 {
-    unsafe { exported::jirmeklo_mul(x, y) }
+    unsafe { library::jirmeklo_mul(x, y) }
 }
 
 pub fn fma(x: u32, y: u32, z: u32) -> u32 {
-    unsafe { exported::jirmeklo_fma(x, y, z) }
+    unsafe { library::jirmeklo_fma(x, y, z) }
 }
 
 /// Whatever answers questions: the library, or the library with a planted fault.

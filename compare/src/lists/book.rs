@@ -1,5 +1,5 @@
-//! The plain book beside the totals, and what document 01 claims of a whole list.
-use super::model::{operation, Sheet, WORDS};
+//! The plain book beside the totals, and what R7 claims of a whole list.
+use super::model::{operation, Filled, WORDS};
 use super::subject::Question;
 use crate::pairs::model as pairs;
 use crate::pairs::pair::Operation;
@@ -16,7 +16,7 @@ pub struct Book {
 }
 
 /// What filling handed over says that the question enters: for whoever adds.
-pub fn enters(sheet: &Sheet) -> bool {
+pub fn enters(sheet: &Filled) -> bool {
     sheet.refusal == 0 && is_finite(sheet.first) && !sheet.flags.inexact
 }
 

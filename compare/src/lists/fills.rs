@@ -1,7 +1,7 @@
 //! Compares filling with the model: the answer, every lent word, and those around them.
 use super::events::{asked, question};
 use super::model;
-use super::model::Sheet;
+use super::model::Filled;
 use super::subject::{Question, Subject};
 use crate::pairs::pair::OPERATIONS;
 use crate::random::Random;
@@ -45,8 +45,8 @@ impl Shape {
 
 pub struct Difference {
     question: Question,
-    subject: Sheet,
-    model: Sheet,
+    subject: Filled,
+    model: Filled,
     what: String,
 }
 

@@ -1,4 +1,4 @@
-//! Filled sheets and lists of questions: what is asked, what answers, and what document 01 claims of a whole list.
+//! Filled sheets and lists of questions: what is asked, what answers, and what R7 claims of a whole list.
 pub mod check;
 
 mod book;

@@ -1,4 +1,5 @@
 //! The reference for filling a sheet: the model sheet's lines as words, and the refusals.
+pub use crate::library::Filled;
 use crate::pairs::pair::{Flags, Operation, OPERATIONS};
 use crate::sheets::sheet::{sheet, LINES};
 use crate::step::Step;
@@ -6,25 +7,13 @@ use crate::step::Step;
 /// The words that a sheet takes: 13 lines of five.
 pub const WORDS: usize = 5 * LINES;
 
-/// What filling hands over: a refusal's number or 0, the line count, the foot and its flags. All is 0 and false
-/// where it is refused.
-#[repr(C)]
-#[derive(Clone, Copy, PartialEq, Eq, Debug)]
-pub struct Sheet {
-    pub refusal: u32,
-    pub lines: u32,
-    pub first: u32,
-    pub second: u32,
-    pub flags: Flags,
-}
-
-impl Sheet {
-    pub const fn refused(refusal: u32) -> Sheet {
-        Sheet { refusal, lines: 0, first: 0, second: 0, flags: Flags::NONE }
+impl Filled {
+    pub const fn refused(refusal: u32) -> Filled {
+        Filled { refusal, lines: 0, first: 0, second: 0, flags: Flags::NONE }
     }
 
     pub fn shown(self) -> String {
-        let Sheet { refusal, lines, first, second, flags } = self;
+        let Filled { refusal, lines, first, second, flags } = self;
         format!("{refusal} {lines} {first:08X} {second:08X} {}", flags.shown())
     }
 }
@@ -35,10 +24,10 @@ pub fn operation(number: u32) -> Option<Operation> {
 }
 
 /// The answer; where it is not refused, the words are what it leaves in them.
-pub fn fill(number: u32, x: u32, y: u32, words: &mut [u32]) -> Sheet {
-    let Some(operation) = operation(number) else { return Sheet::refused(10) };
+pub fn fill(number: u32, x: u32, y: u32, words: &mut [u32]) -> Filled {
+    let Some(operation) = operation(number) else { return Filled::refused(10) };
     if words.len() < WORDS {
-        return Sheet::refused(9);
+        return Filled::refused(9);
     }
     let sheet = sheet(operation, x, y);
     words[..WORDS].fill(0);
@@ -47,7 +36,7 @@ pub fn fill(number: u32, x: u32, y: u32, words: &mut [u32]) -> Sheet {
         room.copy_from_slice(&[step_number(line.step), q.x, q.y, q.z, line.result]);
     }
     let lines = sheet.lines.len() as u32;
-    Sheet { refusal: 0, lines, first: sheet.first, second: sheet.second, flags: sheet.flags }
+    Filled { refusal: 0, lines, first: sheet.first, second: sheet.second, flags: sheet.flags }
 }
 
 pub fn step_number(step: Step) -> u32 {

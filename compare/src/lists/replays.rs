@@ -51,10 +51,10 @@ impl Replay {
         let cleared = self.first == CLEARED && self.second == CLEARED;
         let longest = self.arrays.counts.iter().max().copied().unwrap_or(0);
         let conditions = [
-            (21, !self.arrays.are_equal()),
-            (22, self.arrays.operations.len() > MOST),
-            (23, !cleared),
-            (24, longest as usize > self.words.len()),
+            (101, !self.arrays.are_equal()),
+            (102, self.arrays.operations.len() > MOST),
+            (103, !cleared),
+            (104, longest as usize > self.words.len()),
         ];
         conditions.into_iter().find(|condition| condition.1).map_or(0, |condition| condition.0)
     }

@@ -1,6 +1,7 @@
 //! What is tested: filling and replaying, by the static library.
 use super::book::enters;
-use super::model::{operation, Sheet};
+use super::model::{operation, Filled};
+use crate::library;
 use crate::pairs::pair::Operation;
 use crate::pattern::SIGN;
 use crate::totals::subject::{add_pattern, add_product, Lent};
@@ -63,12 +64,12 @@ pub struct Lents {
 
 /// Whatever fills sheets and replays lists: the library, or the library with a planted fault.
 pub trait Subject: Sync {
-    fn fill(&self, operation: u32, x: u32, y: u32, lent: &mut Lent) -> Sheet;
+    fn fill(&self, operation: u32, x: u32, y: u32, lent: &mut Lent) -> Filled;
     fn replay(&self, arrays: &Arrays, lents: &mut Lents) -> u32;
 
     /// What a caller does with a filled question in a list: if it enters, both totals are given their terms. The
     /// refusals of that are gathered.
-    fn give(&self, q: Question, sheet: &Sheet, totals: &mut [Lent; 2]) -> u32 {
+    fn give(&self, q: Question, sheet: &Filled, totals: &mut [Lent; 2]) -> u32 {
         let [first, second] = totals;
         if enters(sheet) {
             enter(q, sheet, first.words_mut(), second.words_mut())
@@ -79,7 +80,7 @@ pub trait Subject: Sync {
 }
 
 /// The foot goes to the first total, what was asked to the second.
-pub fn enter(q: Question, sheet: &Sheet, first: &mut [u32], second: &mut [u32]) -> u32 {
+pub fn enter(q: Question, sheet: &Filled, first: &mut [u32], second: &mut [u32]) -> u32 {
     let foot = add_pattern(first, sheet.first) | add_pattern(first, sheet.second);
     let asked = match operation(q.operation) {
         Some(Operation::Sum) => add_pattern(second, q.x) | add_pattern(second, q.y),
@@ -92,38 +93,12 @@ pub fn enter(q: Question, sheet: &Sheet, first: &mut [u32], second: &mut [u32]) 
 
 pub struct Library;
 
-mod exported {
-    use super::Sheet;
-
-    // The archive that `rt staticlib exports_sheets` makes defines these. A slice is its address
-    // and its length.
-    extern "C" {
-        pub fn jirmeklo_fill(operation: u32, x: u32, y: u32, words: *mut u32, length: usize) -> Sheet;
-        pub fn jirmeklo_replay(
-            operations: *const u32,
-            operations_length: usize,
-            xs: *const u32,
-            xs_length: usize,
-            ys: *const u32,
-            ys_length: usize,
-            counts: *const u32,
-            counts_length: usize,
-            words: *mut u32,
-            words_length: usize,
-            first: *mut u32,
-            first_length: usize,
-            second: *mut u32,
-            second_length: usize,
-        ) -> u32;
-    }
-}
-
 // SAFETY, for the two: the functions are proved for all slices, patterns and numbers, touch no memory but the
 // slices', which do not overlap, and keep none of it.
 impl Subject for Library {
-    fn fill(&self, operation: u32, x: u32, y: u32, lent: &mut Lent) -> Sheet {
+    fn fill(&self, operation: u32, x: u32, y: u32, lent: &mut Lent) -> Filled {
         let words = lent.words_mut();
-        unsafe { exported::jirmeklo_fill(operation, x, y, words.as_mut_ptr(), words.len()) }
+        unsafe { library::jirmeklo_fill(operation, x, y, words.as_mut_ptr(), words.len()) }
     }
 
     fn replay(&self, arrays: &Arrays, lents: &mut Lents) -> u32 {
@@ -131,7 +106,7 @@ impl Subject for Library {
         let (words, first, second) =
             (lents.words.words_mut(), lents.first.words_mut(), lents.second.words_mut());
         unsafe {
-            exported::jirmeklo_replay(
+            library::jirmeklo_replay(
                 operations.as_ptr(),
                 operations.len(),
                 xs.as_ptr(),

@@ -1,4 +1,4 @@
-//! Algorithms 7 and 9 of source document 002 on the processor's floats: another reference, timed as well.
+//! Algorithms 7 and 9 of the paper on augmented operations on the processor's floats: another reference, timed as well.
 //!
 //! They follow the paper's lines, without flags. Algorithm 9 leaves the sign of a zero second open: the lines
 //! that the paper adds to algorithm 8 for it are added here too. Its edge remainder is 2^102, not 2^104 as printed.

@@ -178,7 +178,8 @@ fn print_table(rows: &[Row]) {
     }
     println!();
     println!("Nanoseconds a pair, measured as the steps are. The library gives the flags too.");
-    println!("algorithm: 7 (sum, dif) and 9 (mul) of source document 002 on the processor's floats, patterns in and out, without flags.");
+    println!("algorithm: 7 (sum, dif) and 9 (mul) of the paper on augmented operations, on the processor's floats, patterns in");
+    println!("and out, without flags.");
     println!("uniform: any patterns; finite: finite patterns, any exponents, whose pair does not overflow; near: normal numbers");
     println!("whose exponents lie within 3 of 1's; halfway: exact results halfway between two numbers.");
 }

@@ -1,4 +1,5 @@
 //! The three operations, and a pair with its flags as the library hands it over.
+pub use crate::library::{Flags, Pair};
 
 #[derive(Clone, Copy, PartialEq, Eq, Debug)]
 pub enum Operation {
@@ -19,15 +20,6 @@ impl Operation {
     }
 }
 
-#[repr(C)]
-#[derive(Clone, Copy, PartialEq, Eq, Debug)]
-pub struct Flags {
-    pub invalid: bool,
-    pub overflow: bool,
-    pub underflow: bool,
-    pub inexact: bool,
-}
-
 impl Flags {
     pub const NONE: Flags = Flags { invalid: false, overflow: false, underflow: false, inexact: false };
     pub const I: Flags = Flags { invalid: true, ..Flags::NONE };
@@ -42,14 +34,6 @@ impl Flags {
         }
         letters.into_iter().filter(|l| l.0).map(|l| l.1).collect()
     }
-}
-
-#[repr(C)]
-#[derive(Clone, Copy, PartialEq, Eq, Debug)]
-pub struct Pair {
-    pub first: u32,
-    pub second: u32,
-    pub flags: Flags,
 }
 
 impl Pair {

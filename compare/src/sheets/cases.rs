@@ -1,4 +1,4 @@
-//! What the model has to give before it counts as a reference: document 01's example and cases, and the steps of
+//! What the model has to give before it counts as a reference: the example of R9, the cases of R10, and the steps of
 //! the processor; and the table of branches has to have every way that questions take.
 use super::files::branches;
 use super::{model, steps};
@@ -23,7 +23,7 @@ end\t1\t0
 
 const EMPTY: &str = "total\t00000000\t00000000\nend\t0\t0\n";
 
-/// Questions with the `pair` line that document 01 lists.
+/// Questions with the `pair` line that R10 lists.
 const CASES: [(&str, &str); 11] = [
     ("sum\t3F800000\t33800000", "3F800000\t33800000\t-"),
     ("sum\t7F7FFFFF\t73000000", "7F7FFFFF\t73000000\t-"),

@@ -22,7 +22,7 @@ impl Asked {
     }
 }
 
-/// The question, or the number of the first condition that the line meets, in document 01's order.
+/// The question, or the number of the first condition that the line meets, in R8.4's order.
 pub fn read(line: &[u8]) -> Result<Asked, u32> {
     if line.len() != LENGTH {
         return Err(1);

@@ -1,4 +1,4 @@
-//! The model sheet of a question, by the rules of "The step sheet", in document 01's order and words.
+//! The model sheet of a question, by the rules of R5 in their order.
 use super::path::{Branch, Path};
 use super::steps;
 use crate::pairs::model;

@@ -1,4 +1,5 @@
-//! The calls on a total, and what they answer.
+//! The calls on a total, and what they answer. Those that do not read answer a refusal alone, which stands here with two zeros.
+pub use crate::library::Reading;
 
 #[derive(Clone, Copy, PartialEq, Eq, Debug)]
 pub enum Call {
@@ -30,16 +31,6 @@ impl Call {
     pub fn is_adding(self) -> bool {
         matches!(self, Call::Pattern(_) | Call::Product(..))
     }
-}
-
-/// What a reading hands over: a refusal's number or 0, and the two patterns, which are 0 where it is refused.
-/// The other calls answer a refusal alone, which stands here with two zeros.
-#[repr(C)]
-#[derive(Clone, Copy, PartialEq, Eq, Debug)]
-pub struct Reading {
-    pub refusal: u32,
-    pub first: u32,
-    pub second: u32,
 }
 
 impl Reading {

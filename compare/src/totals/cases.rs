@@ -51,7 +51,7 @@ const fn product(x: u32, y: u32) -> [Call; 1] {
     [Call::Product(x, y)]
 }
 
-/// The cases that document 01 lists for pairs, as columns; but a total of -0 and -0 reads +0.
+/// The cases that R10 lists for pairs, as columns; but a total of -0 and -0 reads +0.
 const READINGS: [(&[Call], u32, u32); 14] = [
     (&[], 0, 0),
     (&sum(0x3F80_0000, 0x3380_0000), 0x3F80_0000, 0x3380_0000),

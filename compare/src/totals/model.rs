@@ -1,4 +1,4 @@
-//! The reference for totals: a whole number and a count, and document 01's rules on them.
+//! The reference for totals: a whole number and a count, and the rules of R6 and R8 on them.
 //!
 //! It is written from the specification's words, to be believed rather than to be fast. A call turns the
 //! words into a number, works on that, and turns it back. It shares no code with the model of the pairs.

@@ -1,35 +1,23 @@
 //! What is tested: the totals of the static library, on words that are lent to it.
 use super::call::{Call, Reading};
-
-mod exported {
-    use crate::totals::call::Reading;
-
-    // The archive that `rt staticlib exports_totals` makes defines these. A slice is its address
-    // and its length.
-    extern "C" {
-        pub fn jirmeklo_clear(total: *mut u32, length: usize) -> u32;
-        pub fn jirmeklo_add_pattern(total: *mut u32, length: usize, x: u32) -> u32;
-        pub fn jirmeklo_add_product(total: *mut u32, length: usize, x: u32, y: u32) -> u32;
-        pub fn jirmeklo_read(total: *const u32, length: usize) -> Reading;
-    }
-}
+use crate::library;
 
 // SAFETY, for the four: the functions are proved for every slice and every pattern, touch no memory but the
 // slice's, and keep none of it.
 pub fn clear(total: &mut [u32]) -> u32 {
-    unsafe { exported::jirmeklo_clear(total.as_mut_ptr(), total.len()) }
+    unsafe { library::jirmeklo_clear(total.as_mut_ptr(), total.len()) }
 }
 
 pub fn add_pattern(total: &mut [u32], x: u32) -> u32 {
-    unsafe { exported::jirmeklo_add_pattern(total.as_mut_ptr(), total.len(), x) }
+    unsafe { library::jirmeklo_add_pattern(total.as_mut_ptr(), total.len(), x) }
 }
 
 pub fn add_product(total: &mut [u32], x: u32, y: u32) -> u32 {
-    unsafe { exported::jirmeklo_add_product(total.as_mut_ptr(), total.len(), x, y) }
+    unsafe { library::jirmeklo_add_product(total.as_mut_ptr(), total.len(), x, y) }
 }
 
 pub fn read(total: &[u32]) -> Reading {
-    unsafe { exported::jirmeklo_read(total.as_ptr(), total.len()) }
+    unsafe { library::jirmeklo_read(total.as_ptr(), total.len()) }
 }
 
 /// What stands around lent words: neither 0 nor all ones, so that a write of either is seen.

@@ -1,10 +1,10 @@
 // What a total reads: RN0 of its number, and RN0 of the number less that.
 mod leading;
 
-use augmented_pack::zero_takes;
 use leading::first_digits;
 use leading::magnitude;
 use pattern::classify;
+use pattern::zero_takes;
 use pattern_spec::Class;
 use rounding_spec::Ties;
 ghost use mathlib.Core.Path.{_≡_};

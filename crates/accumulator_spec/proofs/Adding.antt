@@ -12,8 +12,8 @@ use lib.IntN.{ℤ, pos, negsuc, natAbs, subℕ, _+ℤ_}
 use lib.ListN.{length}
 use Rattle.pattern_spec.specs.Answer.{Answer, refused, done}
 use Rattle.accumulator_spec.specs.Words.{Words}
-use Rattle.accumulator_spec.specs.Totals.{number, count, totalOf, fit, Term, finiteOperands, exactTerm, whole, adding}
-use Rattle.accumulator_spec.specs.Theorems.{FitTotal, FitIs, LowestUnfit, AcceptedTerm, ExactAdding}
+use Rattle.accumulator_spec.specs.Totals.{totalSize, mostTerms, number, count, totalOf, fit, FitTotal, Term, finiteOperands, exactTerm, whole, adding}
+use Rattle.accumulator_spec.specs.Theorems.{FitIs, LowestUnfit, AcceptedTerm, ExactAdding}
 use Rattle.accumulator_spec.proofs.Answers.{adding-done, after-done}
 use Rattle.accumulator_spec.proofs.Held.{total-number, total-count, total-full, total-words}
 use Rattle.accumulator_spec.proofs.Rest.{abs-sub}
@@ -30,8 +30,8 @@ sum-magnitude (negsuc a) (pos b) = le-trans (sub-magnitude b (suc a)) (omega ari
 sum-magnitude (negsuc a) (negsuc b) = omega arith
 
 -- the sum of at most 65,536 terms has room
-pub sum-room : (m n : ℕ) → n ≤ 65536 → m ≤ n * 2 ^ 554 → m < 2 ^ 639
-sum-room m n h l = lt-of-le-of-lt (le-trans l (mul-le-mul-right (2 ^ 554) h)) (lit< {m = 65536 * 2 ^ 554} {n = 2 ^ 639} tt)
+pub sum-room : (m n : ℕ) → n ≤ mostTerms → m ≤ n * 2 ^ 554 → m < 2 ^ 639
+sum-room m n h l = lt-of-le-of-lt (le-trans l (mul-le-mul-right (2 ^ 554) h)) (lit< {m = mostTerms * 2 ^ 554} {n = 2 ^ 639} tt)
 
 -- and one more adds 2 ^ 554 at most
 pub one-more : (z : ℤ) (n : ℕ) (x : Term) → natAbs z ≤ n * 2 ^ 554 → finiteOperands x ≡ true → natAbs (z +ℤ whole (exactTerm x)) ≤ suc n * 2 ^ 554
@@ -42,15 +42,15 @@ both : (a b : Bool) → a && b ≡ true → (a ≡ true) × (b ≡ true)
 both true b e = (refl, e)
 both false b e = absurd (true≢false (sym e))
 
-pub fit-bounds : (t : List ℕ) → fit t ≡ true → (count t ≤ 65536) × (natAbs (number t) ≤ count t * 2 ^ 554)
+pub fit-bounds : (t : List ℕ) → fit t ≡ true → (count t ≤ mostTerms) × (natAbs (number t) ≤ count t * 2 ^ 554)
 unfolding fit
 fit-bounds t e =
-    let p = both (leb (count t) 65536) (leb (natAbs (number t)) (count t * 2 ^ 554)) e in
-    (leb-true (count t) 65536 (p .0), leb-true (natAbs (number t)) (count t * 2 ^ 554) (p .1))
+    let p = both (leb (count t) mostTerms) (leb (natAbs (number t)) (count t * 2 ^ 554)) e in
+    (leb-true (count t) mostTerms (p .0), leb-true (natAbs (number t)) (count t * 2 ^ 554) (p .1))
 
-bounds-fit : (t : List ℕ) → count t ≤ 65536 → natAbs (number t) ≤ count t * 2 ^ 554 → fit t ≡ true
+bounds-fit : (t : List ℕ) → count t ≤ mostTerms → natAbs (number t) ≤ count t * 2 ^ 554 → fit t ≡ true
 unfolding fit
-bounds-fit t h l = rw (le-leb (count t) 65536 h, le-leb (natAbs (number t)) (count t * 2 ^ 554) l)
+bounds-fit t h l = rw (le-leb (count t) mostTerms h, le-leb (natAbs (number t)) (count t * 2 ^ 554) l)
 
 pub fit-is : FitIs
 fit-is t = (fit-bounds t, λ b. bounds-fit t (b .0) (b .1))
@@ -62,7 +62,7 @@ lowest-unfit t e = refute (fit t) (λ f. let b = fit-bounds t f in lt-irrefl _ (
     refute true h = absurd (h refl)
     refute false h = refl
 
-pub total-fit : (z : ℤ) (n : ℕ) → n ≤ 65536 → natAbs z ≤ n * 2 ^ 554 → FitTotal (totalOf z n)
+pub total-fit : (z : ℤ) (n : ℕ) → n ≤ mostTerms → natAbs z ≤ n * 2 ^ 554 → FitTotal (totalOf z n)
 total-fit z n h l =
     let c = total-count z n in
     let e = total-number z n (sum-room (natAbs z) n h l) in
@@ -88,17 +88,17 @@ none-met true true true true e = never e
 none-met true true true false e = (refl, refl, refl, refl)
 
 module _ (t : List ℕ) (x : Term) where
-  accepted : Words t → adding t x ≡ done tt → FitTotal t × (finiteOperands x ≡ true) × (count t < 65536)
+  accepted : Words t → adding t x ≡ done tt → FitTotal t × (finiteOperands x ≡ true) × (count t < mostTerms)
   unfolding adding
   accepted k e =
-      let p = none-met (eqb (length t) 21) (fit t) (finiteOperands x) (eqb (count t) 65536) e in
+      let p = none-met (eqb (length t) totalSize) (fit t) (finiteOperands x) (eqb (count t) mostTerms) e in
       let b = fit-bounds t (p .1) in
-      let n = eqb-false (count t) 65536 (p .3) in
-      let less : count t < 65536 = elim (decLe 65536 (count t)) [ yes h ↦ absurd (n (omega arith)) | no h ↦ omega arith ] in
-      (record { full = eqb-true (length t) 21 (p .0); words = k; fits = p .1 }, p .2, less)
+      let n = eqb-false (count t) mostTerms (p .3) in
+      let less : count t < mostTerms = elim (decLe mostTerms (count t)) [ yes h ↦ absurd (n (omega arith)) | no h ↦ omega arith ] in
+      (record { full = eqb-true (length t) totalSize (p .0); words = k; fits = p .1 }, p .2, less)
 
-  pub accepts : FitTotal t → finiteOperands x ≡ true → count t < 65536 → adding t x ≡ done tt
-  accepts f e h = adding-done t x (f .full) (f .fits) e (λ (q : count t ≡ 65536). omega arith)
+  pub accepts : FitTotal t → finiteOperands x ≡ true → count t < mostTerms → adding t x ≡ done tt
+  accepts f e h = adding-done t x (f .full) (f .fits) e (λ (q : count t ≡ mostTerms). omega arith)
 
 pub accepted-term : AcceptedTerm
 accepted-term t x k = (accepted t x k, accepts t x)

@@ -9,42 +9,43 @@ use lib.IntN.{_+ℤ_}
 use Rattle.pattern_spec.specs.Answer.{refused, done}
 use Rattle.rounding_spec.specs.Format.{binary32}
 use Rattle.augmented_spec.specs.Pairs.{pairOf}
-use Rattle.accumulator_spec.specs.Theorems.{RefusedTerm, AddingRefused, ReadingRefused, Clears}
-use Rattle.accumulator_spec.specs.Totals.{number, count, totalOf, fit, Term, finiteOperands, exactTerm, whole, adding, afterAdding, clearing, afterClearing, exact, pairAnswer, reading}
+use Rattle.accumulator_spec.specs.Theorems.{RefusedTerm, AddingRefused, ReadingRefused, ClearingIs}
+use Rattle.accumulator_spec.specs.Totals.{totalSize, mostTerms, number, count, totalOf, fit, Term, finiteOperands, exactTerm, whole}
+use Rattle.accumulator_spec.specs.Totals.{adding, afterAdding, clearing, afterClearing, exactNumber, pairAnswer, reading}
 
 -- ---- clearing
 module _ (t : List ℕ) where
-  pub clearing-length : (length t ≡ 21 → ⊥) → (refused 5 ≡ clearing t) × (t ≡ afterClearing t)
+  pub clearing-length : (length t ≡ totalSize → ⊥) → (refused 5 ≡ clearing t) × (t ≡ afterClearing t)
   unfolding clearing afterClearing
-  clearing-length n = let e = ne-eqb (length t) 21 n in (rw e, rw e)
+  clearing-length n = let e = ne-eqb (length t) totalSize n in (rw e, rw e)
 
-  pub clearing-done : length t ≡ 21 → ((done tt) ≡ clearing t) × (replicate 21 0 ≡ afterClearing t)
+  pub clearing-done : length t ≡ totalSize → ((done tt) ≡ clearing t) × (replicate totalSize 0 ≡ afterClearing t)
   unfolding clearing afterClearing
-  clearing-done h = let e = eq-eqb (length t) 21 h in (rw e, rw e)
+  clearing-done h = let e = eq-eqb (length t) totalSize h in (rw e, rw e)
 
 -- ---- adding
 module _ (t : List ℕ) (x : Term) where
-  pub adding-length : (length t ≡ 21 → ⊥) → adding t x ≡ refused 5
+  pub adding-length : (length t ≡ totalSize → ⊥) → adding t x ≡ refused 5
   unfolding adding
-  adding-length n = rw (ne-eqb (length t) 21 n)
+  adding-length n = rw (ne-eqb (length t) totalSize n)
 
-  module _ (full : length t ≡ 21) where
+  module _ (full : length t ≡ totalSize) where
     pub adding-unfit : fit t ≡ false → adding t x ≡ refused 6
     unfolding adding
-    adding-unfit f = rw (eq-eqb (length t) 21 full, f)
+    adding-unfit f = rw (eq-eqb (length t) totalSize full, f)
 
     module _ (fits : fit t ≡ true) where
       pub adding-special : finiteOperands x ≡ false → adding t x ≡ refused 7
       unfolding adding
-      adding-special o = rw (eq-eqb (length t) 21 full, fits, o)
+      adding-special o = rw (eq-eqb (length t) totalSize full, fits, o)
 
-      pub adding-full : finiteOperands x ≡ true → count t ≡ 65536 → adding t x ≡ refused 8
+      pub adding-full : finiteOperands x ≡ true → count t ≡ mostTerms → adding t x ≡ refused 8
       unfolding adding
-      adding-full o n = rw (eq-eqb (length t) 21 full, fits, o, eq-eqb (count t) 65536 n)
+      adding-full o n = rw (eq-eqb (length t) totalSize full, fits, o, eq-eqb (count t) mostTerms n)
 
-      pub adding-done : finiteOperands x ≡ true → (count t ≡ 65536 → ⊥) → adding t x ≡ done tt
+      pub adding-done : finiteOperands x ≡ true → (count t ≡ mostTerms → ⊥) → adding t x ≡ done tt
       unfolding adding
-      adding-done o n = rw (eq-eqb (length t) 21 full, fits, o, ne-eqb (count t) 65536 n)
+      adding-done o n = rw (eq-eqb (length t) totalSize full, fits, o, ne-eqb (count t) mostTerms n)
 
   pub after-refused : (n : ℕ) → adding t x ≡ refused n → afterAdding t x ≡ t
   unfolding afterAdding
@@ -60,17 +61,17 @@ module _ (t : List ℕ) (x : Term) where
 
 -- ---- reading
 module _ (t : List ℕ) where
-  pub reading-length : (length t ≡ 21 → ⊥) → reading t ≡ refused 5
+  pub reading-length : (length t ≡ totalSize → ⊥) → reading t ≡ refused 5
   unfolding reading
-  reading-length n = rw (ne-eqb (length t) 21 n)
+  reading-length n = rw (ne-eqb (length t) totalSize n)
 
-  pub reading-unfit : length t ≡ 21 → fit t ≡ false → reading t ≡ refused 6
+  pub reading-unfit : length t ≡ totalSize → fit t ≡ false → reading t ≡ refused 6
   unfolding reading
-  reading-unfit full f = rw (eq-eqb (length t) 21 full, f)
+  reading-unfit full f = rw (eq-eqb (length t) totalSize full, f)
 
-  pub reading-pair : length t ≡ 21 → fit t ≡ true → reading t ≡ pairAnswer (pairOf binary32 (exact (number t)))
+  pub reading-pair : length t ≡ totalSize → fit t ≡ true → reading t ≡ pairAnswer (pairOf binary32 (exactNumber (number t)))
   unfolding reading
-  reading-pair full f = rw (eq-eqb (length t) 21 full, f)
+  reading-pair full f = rw (eq-eqb (length t) totalSize full, f)
 
 -- ---- as they are stated
 pub refused-term : RefusedTerm
@@ -82,5 +83,5 @@ adding-refused t x = (adding-length t x, adding-unfit t x, adding-special t x, a
 pub reading-refused : ReadingRefused
 reading-refused t = (reading-length t, reading-unfit t)
 
-pub clears : Clears
-clears t = (λ n. let c = clearing-length t n in (sym (c .0), sym (c .1)), λ h. let c = clearing-done t h in (sym (c .0), sym (c .1), sym (c .1)))
+pub clearing-is : ClearingIs
+clearing-is t = (λ n. let c = clearing-length t n in (sym (c .0), sym (c .1)), λ h. let c = clearing-done t h in (sym (c .0), sym (c .1)))

@@ -11,16 +11,16 @@ use native.Mathlib.Omega.{arith}
 use lib.IntN.{ℤ, pos, natAbs, _+ℤ_, +ℤ-idl, +ℤ-idr, +ℤ-assoc, +ℤ-comm}
 use lib.ListN.{length}
 use Rattle.pattern_spec.specs.Answer.{done}
-use Rattle.accumulator_spec.specs.Words.{wordsOf, wordsOfInteger}
-use Rattle.accumulator_spec.specs.Totals.{number, count, totalOf, Term, finiteOperands, exactTerm, whole, adding, afterAdding}
+use Rattle.accumulator_spec.specs.Words.{wordsOfNatural, wordsOfInteger}
+use Rattle.accumulator_spec.specs.Totals.{mostTerms, FitTotal, number, count, totalOf, Term, finiteOperands, exactTerm, whole, adding, afterAdding}
 use Rattle.accumulator_spec.specs.Columns.{zeros, column, Accepted, AllFinite, columnSum}
-use Rattle.accumulator_spec.specs.Theorems.{FitTotal, ColumnNext, AcceptedEach, AllFiniteIs, ExactColumn, AnyOrder}
+use Rattle.accumulator_spec.specs.Theorems.{ColumnNext, AcceptedEach, AllFiniteIs, ExactColumn, AnyOrder}
 use Rattle.accumulator_spec.proofs.Held.{total-number, total-count}
 use Rattle.accumulator_spec.proofs.Adding.{sum-room, one-more, total-fit, accepts}
 use Rattle.accumulator_spec.proofs.Answers.{after-done}
 
 -- ---- one term on a total whose number and count are known
-module _ (z : ℤ) (n : ℕ) (x : Term) (few : n < 65536) (small : natAbs z ≤ n * 2 ^ 554) (finite : finiteOperands x ≡ true) where
+module _ (z : ℤ) (n : ℕ) (x : Term) (few : n < mostTerms) (small : natAbs z ≤ n * 2 ^ 554) (finite : finiteOperands x ≡ true) where
   accepted-at : adding (totalOf z n) x ≡ done tt
   accepted-at = accepts (totalOf z n) x (total-fit z n (omega arith) small) finite (le-trans (le-of-eq (ap suc (total-count z n))) few)
 
@@ -35,12 +35,12 @@ pub record Exact (z : ℤ) (n : ℕ) (xs : List Term) : Type 0 where
   pub is : column (totalOf z n) xs ≡ totalOf (z +ℤ columnSum xs) (n + length xs)
   pub small : natAbs (z +ℤ columnSum xs) ≤ (n + length xs) * 2 ^ 554
 
-pub exact-from : (xs : List Term) (z : ℤ) (n : ℕ) → n + length xs ≤ 65536 → natAbs z ≤ n * 2 ^ 554 → AllFinite xs → Exact z n xs
+pub exact-from : (xs : List Term) (z : ℤ) (n : ℕ) → n + length xs ≤ mostTerms → natAbs z ≤ n * 2 ^ 554 → AllFinite xs → Exact z n xs
 unfolding column Accepted AllFinite columnSum
 exact-from [] z n h l f = record { accepted = tt; is = rw (+ℤ-idr z, add-zero n); small = rw (+ℤ-idr z, add-zero n) l }
 exact-from (x ∷ xs) z n h l f =
     let y = z +ℤ whole (exactTerm x) in
-    let few : n < 65536 = omega arith in
+    let few : n < mostTerms = omega arith in
     let a = after-at z n x few l (f .0) in
     let r = exact-from xs y (suc n) (omega arith) (one-more z n x l (f .0)) (f .1) in
     let s : y +ℤ columnSum xs ≡ z +ℤ (whole (exactTerm x) +ℤ columnSum xs) = +ℤ-assoc z (whole (exactTerm x)) (columnSum xs) in
@@ -77,7 +77,7 @@ all-finite-is xs x = (tt, finite-more xs x)
 
 -- ---- from a cleared total
 pub cleared-is : zeros ≡ totalOf (pos 0) 0
-unfolding wordsOf wordsOfInteger
+unfolding wordsOfNatural wordsOfInteger
 cleared-is = refl
 
 pub exact-column : ExactColumn

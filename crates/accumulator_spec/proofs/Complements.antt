@@ -5,15 +5,15 @@ use Prim.Native.Nat.{ℕ, zero, suc, _-_, _/_, _<_}
 use native.Mathlib.Omega.{arith}
 use lib.Dec.{lit<}
 use lib.ListN.{length}
-use Rattle.accumulator_spec.specs.Words.{Words, wordsOf, complement}
+use Rattle.accumulator_spec.specs.Words.{Words, wordsOfNatural, complement}
 
-pub words-length : (k n : ℕ) → length (wordsOf k n) ≡ k
-unfolding wordsOf
+pub words-length : (k n : ℕ) → length (wordsOfNatural k n) ≡ k
+unfolding wordsOfNatural
 words-length zero n = refl
 words-length (suc k) n = ap suc (words-length k _)
 
-pub words-words : (k n : ℕ) → Words (wordsOf k n)
-unfolding wordsOf
+pub words-words : (k n : ℕ) → Words (wordsOfNatural k n)
+unfolding wordsOfNatural
 words-words zero n i = lit< tt
 words-words (suc k) n zero = omega arith
 words-words (suc k) n (suc i) = words-words k (n / 4294967296) i

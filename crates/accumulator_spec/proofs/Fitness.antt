@@ -14,7 +14,7 @@ use Rattle.accumulator_spec.specs.Words.{Words, natural, complement}
 use Rattle.accumulator_spec.proofs.Append.{natural-append}
 use Rattle.accumulator_spec.proofs.Parts.{take-words}
 use Rattle.accumulator_spec.proofs.TwosComplement.{natural-complement}
-use Rattle.accumulator_spec.specs.Totals.{fit, count, number}
+use Rattle.accumulator_spec.specs.Totals.{numberSize, totalSize, mostTerms, fit, count, number}
 use Rattle.accumulator_spec.proofs.Top as by-top
 use Rattle.accumulator_spec.proofs.Limit.{strictly-under, strictly-over, under, over, level}
 
@@ -22,7 +22,7 @@ use Rattle.accumulator_spec.proofs.Limit.{strictly-under, strictly-over
 both-below : (x y m : ℕ) → x + y + 1 ≡ m → (y < m) × (x < m)
 both-below x y m e = (omega arith, omega arith)
 
-module _ (t : List ℕ) (full : length t ≡ 21) (words : Words t) where
+module _ (t : List ℕ) (full : length t ≡ totalSize) (words : Words t) where
   abbrev low : ℕ
   low = natural (take 17 t)
 
@@ -38,20 +38,20 @@ module _ (t : List ℕ) (full : length t ≡ 21) (words : Words t) where
   three-of : take 3 (drop 17 t) ≡ getD t 17 0 ∷ getD t 18 0 ∷ getD t 19 0 ∷ []
   three-of = rw (drop-cons t 17 0 (omega arith), drop-cons t 18 0 (omega arith), drop-cons t 19 0 (omega arith))
 
-  whole : take 20 t ≡ take 17 t ++ (getD t 17 0 ∷ getD t 18 0 ∷ getD t 19 0 ∷ [])
+  whole : take numberSize t ≡ take 17 t ++ (getD t 17 0 ∷ getD t 18 0 ∷ getD t 19 0 ∷ [])
   whole = take-add 17 3 t ∙ ap (λ (l : List ℕ). take 17 t ++ l) three-of
 
-  seventeen : length (take 17 t) ≡ 17
-  seventeen = length-take-le 17 t (omega arith)
+  low-length : length (take 17 t) ≡ 17
+  low-length = length-take-le 17 t (omega arith)
 
-  twenty : length (take 20 t) ≡ 20
-  twenty = length-take-le 20 t (omega arith)
+  number-full : length (take numberSize t) ≡ numberSize
+  number-full = length-take-le numberSize t (omega arith)
 
-  split : natural (take 20 t) ≡ low + 2 ^ 544 * top
+  split : natural (take numberSize t) ≡ low + 2 ^ 544 * top
   unfolding natural
-  split = rw (whole, natural-append (take 17 t) (getD t 17 0 ∷ getD t 18 0 ∷ getD t 19 0 ∷ []), seventeen)
+  split = rw (whole, natural-append (take 17 t) (getD t 17 0 ∷ getD t 18 0 ∷ getD t 19 0 ∷ []), low-length)
 
-  split-complement : natural (map complement (take 20 t)) ≡ low-complement + 2 ^ 544 * top-complement
+  split-complement : natural (map complement (take numberSize t)) ≡ low-complement + 2 ^ 544 * top-complement
   unfolding natural
   split-complement =
       rw (
@@ -59,30 +59,30 @@ module _ (t : List ℕ) (full : length t ≡ 21) (words : Words t) where
         map-append complement (take 17 t) (getD t 17 0 ∷ getD t 18 0 ∷ getD t 19 0 ∷ []),
         natural-append (map complement (take 17 t)) (complement (getD t 17 0) ∷ complement (getD t 18 0) ∷ complement (getD t 19 0) ∷ []),
         length-map (take 17 t) complement,
-        seventeen,
+        low-length,
       )
 
   bounds : (low < 2 ^ 544) × (low-complement < 2 ^ 544)
-  bounds = both-below low-complement low (2 ^ 544) (natural-complement (take 17 t) (take-words 17 t words) ∙ ap (λ (k : ℕ). 2 ^ (32 * k)) seventeen)
+  bounds = both-below low-complement low (2 ^ 544) (natural-complement (take 17 t) (take-words 17 t words) ∙ ap (λ (k : ℕ). 2 ^ (32 * k)) low-length)
 
   -- ---- the magnitude, by the sign that word 19 shows
-  shown : getD (take 20 t) 19 0 ≡ getD t 19 0
-  shown = getD-take 20 t 19 0 (omega arith)
+  shown : getD (take numberSize t) 19 0 ≡ getD t 19 0
+  shown = getD-take numberSize t 19 0 (omega arith)
 
   pub positive : getD t 19 0 < 2147483648 → natAbs (number t) ≡ low + 2 ^ 544 * top
-  positive h = ap natAbs (by-top.positive 19 (take 20 t) twenty (take-words 20 t words) (rw shown h)) ∙ split
+  positive h = ap natAbs (by-top.positive 19 (take numberSize t) number-full (take-words numberSize t words) (rw shown h)) ∙ split
 
   pub negative : 2147483648 ≤ getD t 19 0 → natAbs (number t) ≡ suc (low-complement + 2 ^ 544 * top-complement)
-  negative h = ap natAbs (by-top.negative 19 (take 20 t) twenty (take-words 20 t words) (rw shown h)) ∙ ap suc split-complement
+  negative h = ap natAbs (by-top.negative 19 (take numberSize t) number-full (take-words numberSize t words) (rw shown h)) ∙ ap suc split-complement
 
   -- ---- the limit counts 2 ^ 544 too
   limit : count t * 2 ^ 554 ≡ count t * 1024 * 2 ^ 544
   limit = sym (mul-assoc (count t) 1024 (2 ^ 544))
 
-  module _ (room : count t ≤ 65536) where
+  module _ (room : count t ≤ mostTerms) where
     by-number : (m : ℕ) → natAbs (number t) ≡ m → fit t ≡ leb m (count t * 1024 * 2 ^ 544)
     unfolding fit
-    by-number m e = rw (le-leb (count t) 65536 room, e, limit)
+    by-number m e = rw (le-leb (count t) mostTerms room, e, limit)
 
     by-positive : getD t 19 0 < 2147483648 → fit t ≡ leb (low + 2 ^ 544 * top) (count t * 1024 * 2 ^ 544)
     by-positive h = by-number (low + 2 ^ 544 * top) (positive h)
@@ -127,6 +127,6 @@ module _ (t : List ℕ) (full : length t ≡ 21) (words : Words t) where
           sym
           (by-positive (leb-false 2147483648 (getD t 19 0) (sym e)) ∙ ap (λ (x : ℕ). leb (low + 2 ^ 544 * x) (count t * 1024 * 2 ^ 544)) q ∙ level low (2 ^ 544) (count t * 1024))
 
-pub unfit-count : (t : List ℕ) → 65536 < count t → false ≡ fit t
+pub unfit-count : (t : List ℕ) → mostTerms < count t → false ≡ fit t
 unfolding fit
-unfit-count t h = rw (lt-leb (count t) 65536 h)
+unfit-count t h = rw (lt-leb (count t) mostTerms h)

@@ -8,13 +8,13 @@ use Rattle.rounding_spec.specs.Format.{binary32}
 use Rattle.rounding_spec.specs.Value.{Value, fields, magnitude, unsigned, decode}
 use Rattle.pattern_spec.specs.Exact.{times, finer}
 use Rattle.pattern_spec.proofs.Integers.{times-exact, int-scale}
-use Rattle.augmented_spec.proofs.Patterns.{finite-is}
-use Rattle.accumulator_spec.specs.Words.{wordsOf, wordsOfInteger}
+use Rattle.pattern_spec.proofs.Shown.{finite-is}
+use Rattle.accumulator_spec.specs.Words.{wordsOfNatural, wordsOfInteger}
 use Rattle.accumulator_spec.specs.Totals.{whole}
 use Rattle.accumulator_spec.specs.Theorems.{TotalLandmarks, TermLandmarks, FiniteOperandsAre, PatternTerm, ProductTerm, ExactBack}
 
 pub total-landmarks : TotalLandmarks
-unfolding wordsOf wordsOfInteger
+unfolding wordsOfNatural wordsOfInteger
 total-landmarks = (refl, refl, refl, refl)
 
 pub term-landmarks : TermLandmarks

@@ -8,7 +8,7 @@ pub mod Top
 pub mod Limit
 pub mod Fitness
 pub mod Zeros
-pub mod Placed
+pub mod TermAdded
 pub mod Answers
 pub mod Terms
 pub mod LeadingDigits
@@ -22,5 +22,4 @@ pub mod ReadTotal
 pub mod Landmarks
 pub mod ReadPairs
 pub mod Theorems
-pub mod Places
-pub mod WordTheorems
+pub mod EachWord

@@ -19,7 +19,7 @@ use Rattle.binary32_spec.proofs.Result.{result-encode}
 use Rattle.pattern_spec.proofs.Sums.{finer-sum}
 use Rattle.augmented_spec.specs.Pairs.{Halves, pairOf, answer, exactSum, exactProduct, sumPair, productPair}
 use Rattle.augmented_spec.proofs.Second.{first-infinite, second-infinite}
-use Rattle.accumulator_spec.specs.Totals.{ofPattern, ofProduct, whole, pair, exact, pairAnswer}
+use Rattle.accumulator_spec.specs.Totals.{ofPattern, ofProduct, whole, pair, exactNumber, pairAnswer}
 use Rattle.accumulator_spec.specs.Columns.{AllFinite, columnSum}
 use Rattle.accumulator_spec.specs.Theorems.{ReadOverflow, ReadSum, ReadProduct}
 use Rattle.accumulator_spec.proofs.Rest.{exact-int}
@@ -30,14 +30,14 @@ zero-int : (s : Bool) (N : ℕ) → N ≡ 0 → int s N ≡ pos 0
 zero-int false N e = ap pos e
 zero-int true N e = ap (λ (x : ℕ). int true x) e
 
-exact-some : (s : Bool) (N : ℕ) → int s N ≢ pos 0 → exact (int s N) ≡ finite s N
+exact-some : (s : Bool) (N : ℕ) → int s N ≢ pos 0 → exactNumber (int s N) ≡ finite s N
 exact-some s N n = exact-int s N (λ e. absurd (n (zero-int s N e)))
 
 pub read-overflow : ReadOverflow
 read-overflow t s N f e h =
     let o = over-edge binary32 (lit≤ tt, lit≤ tt) ToZero N h in
     let n : int s N ≢ pos 0 = λ (q : int s N ≡ pos 0). not-zero s N h q in
-    read-fit t f ∙ ap (λ z. pairAnswer (pairOf binary32 (exact z))) e ∙ ap (λ v. pairAnswer (pairOf binary32 v)) (exact-some s N n)
+    read-fit t f ∙ ap (λ z. pairAnswer (pairOf binary32 (exactNumber z))) e ∙ ap (λ v. pairAnswer (pairOf binary32 v)) (exact-some s N n)
     ∙ ap₂ (λ (v w : Value). pair (encode binary32 v) (encode binary32 w)) (first-infinite binary32 s N o) (second-infinite binary32 s N o)
   where
     not-zero : (s : Bool) (N : ℕ) → edge binary32 < N → int s N ≡ pos 0 → ⊥
@@ -46,7 +46,7 @@ read-overflow t s N f e h =
     not-zero true (suc N) h q = let z : _≡_ {A = ℕ} 0 1 = cc in omega arith
 
 sum-value : (v w : Value) → isFinite v ≡ true → isFinite w ≡ true → (whole (finer binary32 v) +ℤ (whole (finer binary32 w) +ℤ pos 0) ≢ pos 0)
-    → exact (whole (finer binary32 v) +ℤ (whole (finer binary32 w) +ℤ pos 0)) ≡ finer binary32 (plus v w)
+    → exactNumber (whole (finer binary32 v) +ℤ (whole (finer binary32 w) +ℤ pos 0)) ≡ finer binary32 (plus v w)
 unfolding finer plus
 sum-value nan w e f n = absurd (true≢false (sym e))
 sum-value (infinite s) w e f n = absurd (true≢false (sym e))
@@ -55,7 +55,7 @@ sum-value (finite s a) (infinite t) e f n = absurd (true≢false (sym f))
 sum-value (finite s a) (finite t b) e f n =
     let p = plus-exact s (a * 2 ^ 149) t (b * 2 ^ 149) in
     let z : int s (a * 2 ^ 149) +ℤ (int t (b * 2 ^ 149) +ℤ pos 0) ≡ int (p .0) (p .1) = ap (λ (k : ℤ). int s (a * 2 ^ 149) +ℤ k) (+ℤ-idr (int t (b * 2 ^ 149))) ∙ sym (p .3) in
-    ap exact z ∙ exact-some (p .0) (p .1) (λ q. n (z ∙ q)) ∙ sym (p .2) ∙ sym (finer-sum binary32 s a t b)
+    ap exactNumber z ∙ exact-some (p .0) (p .1) (λ q. n (z ∙ q)) ∙ sym (p .2) ∙ sym (finer-sum binary32 s a t b)
 
 -- the patterns of a pair, as the answer of two operands shows them
 shown : (x y : ℕ) (p : Halves) → pairAnswer p ≡ pair (result binary32 (x ∷ y ∷ []) (p .first)) (result binary32 (x ∷ y ∷ []) (p .second))
@@ -68,7 +68,7 @@ read-sum x y e f n =
     ∙ ap (λ v. pairAnswer (pairOf binary32 v)) (sum-value (decode binary32 x) (decode binary32 y) e f n)
     ∙ shown x y (pairOf binary32 (exactSum binary32 x y))
 
-product-value : (v w : Value) → isFinite v && isFinite w ≡ true → (whole (times v w) +ℤ pos 0 ≢ pos 0) → exact (whole (times v w) +ℤ pos 0) ≡ times v w
+product-value : (v w : Value) → isFinite v && isFinite w ≡ true → (whole (times v w) +ℤ pos 0 ≢ pos 0) → exactNumber (whole (times v w) +ℤ pos 0) ≡ times v w
 unfolding times
 product-value nan w e n = absurd (true≢false (sym e))
 product-value (infinite s) w e n = absurd (true≢false (sym e))
@@ -76,7 +76,7 @@ product-value (finite s a) nan e n = absurd (true≢false (sym e))
 product-value (finite s a) (infinite t) e n = absurd (true≢false (sym e))
 product-value (finite s a) (finite t b) e n =
     let z = +ℤ-idr (int (unlike s t) (a * b)) in
-    ap exact z ∙ exact-some (unlike s t) (a * b) (λ q. n (z ∙ q))
+    ap exactNumber z ∙ exact-some (unlike s t) (a * b) (λ q. n (z ∙ q))
 
 pub read-product : ReadProduct
 unfolding columnSum AllFinite productPair answer

@@ -17,7 +17,7 @@ use Rattle.rounding_spec.proofs.RoundValue.{round-fits}
 use Rattle.pattern_spec.specs.Exact.{int}
 use Rattle.augmented_spec.specs.Pairs.{zeroTakes, secondOf, pairOf}
 use Rattle.augmented_spec.proofs.Second.{head, tail, up, tail-le, first-finite, pair-second}
-use Rattle.accumulator_spec.specs.Totals.{number, pair, exact, pairAnswer}
+use Rattle.accumulator_spec.specs.Totals.{number, pair, exactNumber, pairAnswer}
 use Rattle.accumulator_spec.specs.Columns.{zeros, column}
 use Rattle.accumulator_spec.specs.Theorems.{ReadFit, ReadColumn, ReadZero, ReadRoundedToZero, ReadFinite}
 use Rattle.accumulator_spec.proofs.Answers.{reading-pair}
@@ -31,7 +31,7 @@ read-fit t f = reading-pair t (f .full) (f .fits)
 pub read-column : ReadColumn
 read-column xs h f =
     let c = exact-column xs h f in
-    read-fit (column zeros xs) (c .4) ∙ ap (λ z. pairAnswer (pairOf binary32 (exact z))) (c .2)
+    read-fit (column zeros xs) (c .4) ∙ ap (λ z. pairAnswer (pairOf binary32 (exactNumber z))) (c .2)
 
 -- a number whose head is zero reads a zero of its sign twice
 module _ (s : Bool) (N : ℕ) (none : head binary32 s N ≡ 0) where
@@ -47,7 +47,7 @@ module _ (s : Bool) (N : ℕ) (none : head binary32 s N ≡ 0) where
 pub read-zero : ReadZero
 unfolding encode bits size
 read-zero t f e =
-    read-fit t f ∙ ap (λ z. pairAnswer (pairOf binary32 (exact z))) e ∙ vanished false 0 (rounded-none ToZero 23 149)
+    read-fit t f ∙ ap (λ z. pairAnswer (pairOf binary32 (exactNumber z))) e ∙ vanished false 0 (rounded-none ToZero 23 149)
 
 -- half of u is a tie, which goes to zero
 half : rounded ToZero 23 149 (2 ^ 148) ≡ 0
@@ -57,7 +57,7 @@ half = refl
 pub read-rounded-to-zero : ReadRoundedToZero
 read-rounded-to-zero t s N f e h =
     let none : head binary32 s (suc N) ≡ 0 = le-zero (le-trans (rounded-mono ToZero 23 149 (suc N) (2 ^ 148) h) (le-of-eq half)) in
-    read-fit t f ∙ ap (λ z. pairAnswer (pairOf binary32 (exact z))) e ∙ ap (λ v. pairAnswer (pairOf binary32 v)) (exact-int s (suc N) (λ z. absurd (omega arith))) ∙ vanished s (suc N) none
+    read-fit t f ∙ ap (λ z. pairAnswer (pairOf binary32 (exactNumber z))) e ∙ ap (λ v. pairAnswer (pairOf binary32 v)) (exact-int s (suc N) (λ z. absurd (omega arith))) ∙ vanished s (suc N) none
   where
     le-zero : {n : ℕ} → n ≤ 0 → n ≡ 0
     le-zero h = omega arith
@@ -66,9 +66,9 @@ read-rounded-to-zero t s N f e h =
 pub read-finite : ReadFinite
 unfolding pairOf secondOf
 read-finite t s a f e =
-    let v = exact (number t +ℤ int (not s) (a * 2 ^ 149)) in
+    let v = exactNumber (number t +ℤ int (not s) (a * 2 ^ 149)) in
     read-fit t f
     ∙ ap₂ pair (ap (encode binary32) e)
-    (ap (λ (w : Value). encode binary32 (secondOf binary32 (exact (number t)) w)) e
+    (ap (λ (w : Value). encode binary32 (secondOf binary32 (exactNumber (number t)) w)) e
     ∙ ap (λ (w : Value). encode binary32 (zeroTakes s (round ToZero binary32 w))) (rest-whole (number t) s a)
     ∙ sym (zero-taken s (round ToZero binary32 v) (round-fits ToZero binary32 v)))

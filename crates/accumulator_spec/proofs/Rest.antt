@@ -19,25 +19,25 @@ use Rattle.pattern_spec.specs.Exact.{negate, plus, finer, int}
 use Rattle.pattern_spec.proofs.Integers.{plus-exact}
 use Rattle.pattern_spec.proofs.Sums.{sum-same}
 use Rattle.augmented_spec.specs.Pairs.{rest}
-use Rattle.accumulator_spec.specs.Totals.{exact}
+use Rattle.accumulator_spec.specs.Totals.{exactNumber}
 
 -- ---- the rest as a whole number
 -- a number by its sign and magnitude, where a zero has the sign +
-pub exact-int : (r : Bool) (c : ℕ) → (c ≡ 0 → r ≡ false) → exact (int r c) ≡ finite r c
+pub exact-int : (r : Bool) (c : ℕ) → (c ≡ 0 → r ≡ false) → exactNumber (int r c) ≡ finite r c
 exact-int false c h = refl
 exact-int true zero h = ap (λ (b : Bool). finite b 0) (sym (h refl))
 exact-int true (suc c) h = refl
 
 -- the exact value of a whole number, and a magnitude with its sign added: never a zero with the sign -
-plus-whole : (z : ℤ) (t : Bool) (b : ℕ) → plus (exact z) (finite t b) ≡ exact (z +ℤ int t b)
+plus-whole : (z : ℤ) (t : Bool) (b : ℕ) → plus (exactNumber z) (finite t b) ≡ exactNumber (z +ℤ int t b)
 unfolding plus
-plus-whole (pos n) t b = let p = plus-exact false n t b in p .2 ∙ sym (exact-int (p .0) (p .1) (p .4)) ∙ ap exact (p .3)
-plus-whole (negsuc n) false b = let p = plus-exact true (suc n) false b in p .2 ∙ sym (exact-int (p .0) (p .1) (p .4)) ∙ ap exact (p .3)
+plus-whole (pos n) t b = let p = plus-exact false n t b in p .2 ∙ sym (exact-int (p .0) (p .1) (p .4)) ∙ ap exactNumber (p .3)
+plus-whole (negsuc n) false b = let p = plus-exact true (suc n) false b in p .2 ∙ sym (exact-int (p .0) (p .1) (p .4)) ∙ ap exactNumber (p .3)
 plus-whole (negsuc n) true b =
-    sum-same true (suc n) true b refl ∙ sym (exact-int true (suc n + b) (λ (e : suc n + b ≡ 0). absurd (omega arith))) ∙ ap exact (negℤ-+ℤ (pos (suc n)) (pos b))
+    sum-same true (suc n) true b refl ∙ sym (exact-int true (suc n + b) (λ (e : suc n + b ≡ 0). absurd (omega arith))) ∙ ap exactNumber (negℤ-+ℤ (pos (suc n)) (pos b))
 
 -- a units of u, of either sign, taken from z units of u * u
-pub rest-whole : (z : ℤ) (s : Bool) (a : ℕ) → rest binary32 (exact z) (finite s a) ≡ exact (z +ℤ int (not s) (a * 2 ^ 149))
+pub rest-whole : (z : ℤ) (s : Bool) (a : ℕ) → rest binary32 (exactNumber z) (finite s a) ≡ exactNumber (z +ℤ int (not s) (a * 2 ^ 149))
 unfolding rest negate finer
 rest-whole z s a = plus-whole z (not s) (a * 2 ^ 149)
 
@@ -69,7 +69,7 @@ same-sign s N r a e =
     ]
 
 -- zero is a number of the format, so what is left is not larger
-pub rest-le : (z : ℤ) (s : Bool) (a : ℕ) → RN0 binary32 (exact z) ≡ finite s a → natAbs (z +ℤ int (not s) (a * 2 ^ 149)) ≤ natAbs z
+pub rest-le : (z : ℤ) (s : Bool) (a : ℕ) → RN0 binary32 (exactNumber z) ≡ finite s a → natAbs (z +ℤ int (not s) (a * 2 ^ 149)) ≤ natAbs z
 unfolding round
 rest-le (pos n) s a e = rw (same-sign false n s a e, abs-less n (a * 2 ^ 149)) (near-zero false n s a e)
 rest-le (negsuc n) s a e = rw (same-sign true (suc n) s a e, abs-sub (a * 2 ^ 149) (suc n)) (near-zero true (suc n) s a e)

@@ -8,14 +8,14 @@ use native.Mathlib.Omega.{arith}
 use lib.IntN.{ℤ, pos, negsuc, negℤ, subℕ, _+ℤ_}
 use borrow.Author.Tests.{lt-ltb, le-ltb}
 use Rattle.pattern_spec.specs.Exact.{int}
-use Rattle.accumulator_spec.specs.Words.{wordsOf, wordsOfInteger, complement}
+use Rattle.accumulator_spec.specs.Words.{wordsOfNatural, wordsOfInteger, complement}
 use Rattle.accumulator_spec.proofs.Complements.{words-words, complement-back}
 use Rattle.accumulator_spec.proofs.Carry.{walk}
 
 -- ---- adding
 -- to a natural number
-up : (k a n : ℕ) → walk false (wordsOf k a) n ≡ wordsOf k (a + n)
-unfolding walk wordsOf
+up : (k a n : ℕ) → walk false (wordsOfNatural k a) n ≡ wordsOfNatural k (a + n)
+unfolding walk wordsOfNatural
 up zero a n = refl
 up (suc k) a n =
     let h : (a % 4294967296 + n) % 4294967296 ≡ (a + n) % 4294967296 = omega arith in
@@ -23,8 +23,8 @@ up (suc k) a n =
     rw (h, up k (a / 4294967296) ((a % 4294967296 + n) / 4294967296), t)
 
 -- n to -(n + e + 1), which is -(e + 1)
-below-zero : (k n e : ℕ) → walk false (map complement (wordsOf k (n + e))) n ≡ map complement (wordsOf k e)
-unfolding walk wordsOf
+below-zero : (k n e : ℕ) → walk false (map complement (wordsOfNatural k (n + e))) n ≡ map complement (wordsOfNatural k e)
+unfolding walk wordsOfNatural
 below-zero zero n e = refl
 below-zero (suc k) n e =
     let q = (4294967295 - (n + e) % 4294967296 + n) / 4294967296 in
@@ -33,8 +33,8 @@ below-zero (suc k) n e =
     rw (h, t, below-zero k q (e / 4294967296))
 
 -- m + 1 + d to -(m + 1), which is d
-past-zero : (k m d : ℕ) → walk false (map complement (wordsOf k m)) (m + 1 + d) ≡ wordsOf k d
-unfolding walk wordsOf
+past-zero : (k m d : ℕ) → walk false (map complement (wordsOfNatural k m)) (m + 1 + d) ≡ wordsOfNatural k d
+unfolding walk wordsOfNatural
 past-zero zero m d = refl
 past-zero (suc k) m d =
     let h : (4294967295 - m % 4294967296 + (m + 1 + d)) % 4294967296 ≡ d % 4294967296 = omega arith in
@@ -49,17 +49,17 @@ sub-ge a b h = rw (le-ltb a b h)
 
 -- by whether zero is passed
 module _ (k m n : ℕ) where
-  past : suc m ≤ n → walk false (map complement (wordsOf k m)) n ≡ wordsOfInteger k (subℕ n (suc m))
+  past : suc m ≤ n → walk false (map complement (wordsOfNatural k m)) n ≡ wordsOfInteger k (subℕ n (suc m))
   unfolding wordsOfInteger
   past h =
       let d : n ≡ m + 1 + (n - suc m) = omega arith in
-      rw (sub-ge n (suc m) h) (ap (walk false (map complement (wordsOf k m))) d ∙ past-zero k m (n - suc m))
+      rw (sub-ge n (suc m) h) (ap (walk false (map complement (wordsOfNatural k m))) d ∙ past-zero k m (n - suc m))
 
-  short : n < suc m → walk false (map complement (wordsOf k m)) n ≡ wordsOfInteger k (subℕ n (suc m))
+  short : n < suc m → walk false (map complement (wordsOfNatural k m)) n ≡ wordsOfInteger k (subℕ n (suc m))
   unfolding wordsOfInteger
   short h =
       let d : m ≡ n + (suc m - suc n) = omega arith in
-      rw (sub-lt n (suc m) h) (ap (λ (x : ℕ). walk false (map complement (wordsOf k x)) n) d ∙ below-zero k n (suc m - suc n))
+      rw (sub-lt n (suc m) h) (ap (λ (x : ℕ). walk false (map complement (wordsOfNatural k x)) n) d ∙ below-zero k n (suc m - suc n))
 
 add-integer : (k : ℕ) (z : ℤ) (n : ℕ) → walk false (wordsOfInteger k z) n ≡ wordsOfInteger k (z +ℤ pos n)
 unfolding wordsOfInteger
@@ -75,7 +75,7 @@ opposite (negsuc n) = pos n
 opposite-words : (k : ℕ) (z : ℤ) → map complement (wordsOfInteger k z) ≡ wordsOfInteger k (opposite z)
 unfolding wordsOfInteger
 opposite-words k (pos n) = refl
-opposite-words k (negsuc n) = complement-back (wordsOf k n) (words-words k n)
+opposite-words k (negsuc n) = complement-back (wordsOfNatural k n) (words-words k n)
 
 opposite-sum : (z : ℤ) (n : ℕ) → opposite (opposite z +ℤ pos n) ≡ z +ℤ negℤ (pos n)
 opposite-sum (pos a) zero = let e : suc a - suc 0 ≡ a + 0 = omega arith in rw (sub-lt 0 (suc a) (omega arith)) (ap pos e)

@@ -12,7 +12,7 @@ use Rattle.pattern_spec.specs.Answer.{Answer, refused, done}
 use Rattle.rounding_spec.specs.Format.{binary32}
 use Rattle.rounding_spec.specs.Value.{Value, nan, infinite, finite, decode, isFinite}
 use Rattle.pattern_spec.specs.Exact.{int, times, finer}
-use Rattle.accumulator_spec.specs.Totals.{number, count, totalOf, fit, Term, ofPattern, ofProduct, finiteOperands, exactTerm, whole, adding, afterAdding}
+use Rattle.accumulator_spec.specs.Totals.{totalSize, mostTerms, number, count, totalOf, fit, Term, ofPattern, ofProduct, finiteOperands, exactTerm, whole, adding, afterAdding}
 use Rattle.accumulator_spec.proofs.Answers.{adding-special, adding-full, adding-done, after-refused, after-done}
 
 -- ---- a product is finite where both operands are
@@ -42,7 +42,7 @@ term-finite (ofPattern x) = sym (finer-finite (decode binary32 x))
 term-finite (ofProduct x y) = sym (times-finite (decode binary32 x) (decode binary32 y))
 
 -- ---- of a fit total
-module _ (t : List ℕ) (x : Term) (full : length t ≡ 21) (fits : fit t ≡ true) where
+module _ (t : List ℕ) (x : Term) (full : length t ≡ totalSize) (fits : fit t ≡ true) where
   abbrev Ends : Answer (Unit {0}) → List ℕ → Type 0
   Ends a ws = (a ≡ adding t x) × (ws ≡ afterAdding t x)
 
@@ -54,16 +54,16 @@ module _ (t : List ℕ) (x : Term) (full : length t ≡ 21) (fits : fit t ≡ tr
     finite-term = term-finite x ∙ ap isFinite is
 
     -- with what adding it promises: whether there is room, and the words as they end
-    pub tried : (room : Bool) (a : Answer (Unit {0})) (ws : List ℕ) → room ≡ not (eqb (count t) 65536) → a ≡ cond room (done tt) (refused 8)
+    pub tried : (room : Bool) (a : Answer (Unit {0})) (ws : List ℕ) → room ≡ not (eqb (count t) mostTerms) → a ≡ cond room (done tt) (refused 8)
         → ws ≡ cond room (totalOf (number t +ℤ int s N) (suc (count t))) t → Ends a ws
     tried room a ws r ea ews =
-        elim (ℕ-discrete (count t) 65536) [
+        elim (ℕ-discrete (count t) mostTerms) [
           | yes n ↦
               let e = adding-full t x full fits finite-term n in
-              let q : room ≡ false = r ∙ ap not (eq-eqb (count t) 65536 n) in
+              let q : room ≡ false = r ∙ ap not (eq-eqb (count t) mostTerms n) in
               ((rw q at ea) ∙ sym e, (rw q at ews) ∙ sym (after-refused t x 8 e))
           | no n ↦
               let e = adding-done t x full fits finite-term n in
-              let q : room ≡ true = r ∙ ap not (ne-eqb (count t) 65536 n) in
+              let q : room ≡ true = r ∙ ap not (ne-eqb (count t) mostTerms n) in
               ((rw q at ea) ∙ sym e, (rw q at ews) ∙ ap (λ (v : Value). totalOf (number t +ℤ whole v) (suc (count t))) (sym is) ∙ sym (after-done t x e))
         ]

@@ -1,8 +1,11 @@
 -- All that specs/Theorems states, proved.
 use Rattle.accumulator_spec.specs.Theorems.{All}
+use Rattle.accumulator_spec.proofs.EachWord.{word-at, natural-words}
+use Rattle.accumulator_spec.proofs.TwosComplement.{words-formed, integer-held, words-unique}
+use Rattle.accumulator_spec.proofs.Zeros.{cleared-zeros}
 use Rattle.accumulator_spec.proofs.Held.{number-and-count, number-held, total-unique}
 use Rattle.accumulator_spec.proofs.Landmarks.{total-landmarks, finite-operands-are, pattern-term, product-term, term-landmarks, exact-back}
-use Rattle.accumulator_spec.proofs.Answers.{adding-refused, refused-term, clears, reading-refused}
+use Rattle.accumulator_spec.proofs.Answers.{adding-refused, refused-term, clearing-is, reading-refused}
 use Rattle.accumulator_spec.proofs.Adding.{fit-is, lowest-unfit, accepted-term, exact-adding}
 use Rattle.accumulator_spec.proofs.Columns.{column-next, accepted-each, all-finite-is, exact-column, any-order}
 use Rattle.accumulator_spec.proofs.ReadTotal.{read-fit, read-column, read-finite, read-zero, read-rounded-to-zero}
@@ -10,12 +13,18 @@ use Rattle.accumulator_spec.proofs.ReadPairs.{read-overflow, read-sum, 
 
 pub all : All
 all = (
+  word-at,
+  words-formed,
+  natural-words,
+  integer-held,
+  words-unique,
   number-and-count,
   number-held,
   total-unique,
   total-landmarks,
   fit-is,
   lowest-unfit,
+  cleared-zeros,
   finite-operands-are,
   pattern-term,
   product-term,
@@ -24,7 +33,7 @@ all = (
   accepted-term,
   exact-adding,
   refused-term,
-  clears,
+  clearing-is,
   column-next,
   accepted-each,
   all-finite-is,

@@ -12,11 +12,11 @@ use lib.IntN.{pos, negsuc, natAbs}
 use lib.ListN.{length, take, getD, drop-of-length-le}
 use lib.Seq.{split-at, length-take-le}
 use Rattle.rounding_spec.specs.Value.{finite}
-use Rattle.accumulator_spec.specs.Words.{Words, natural, integer, wordsOf, complement}
+use Rattle.accumulator_spec.specs.Words.{Words, natural, integer, wordsOfNatural, complement}
 use Rattle.accumulator_spec.proofs.Append.{base-suc, natural-append}
 use Rattle.accumulator_spec.proofs.Parts.{take-words}
 use Rattle.accumulator_spec.proofs.TwosComplement.{natural-back, natural-complement, integer-positive, integer-negative}
-use Rattle.accumulator_spec.specs.Totals.{exact}
+use Rattle.accumulator_spec.specs.Totals.{exactNumber}
 
 -- over a variable b, as a power of two is one for omega
 module _ (l b w : ℕ) where
@@ -73,12 +73,12 @@ module _ (k : ℕ) (ws : List ℕ) (full : length ws ≡ suc k) (words : Words w
   pub negative : 2 ^ 31 ≤ top → integer ws ≡ negsuc (natural (map complement ws))
   negative h = integer-negative ws words (upper-half h)
 
-  pub exact-top : (s : Bool) → s ≡ leb (2 ^ 31) top → exact (integer ws) ≡ finite s (natAbs (integer ws))
+  pub exact-top : (s : Bool) → s ≡ leb (2 ^ 31) top → exactNumber (integer ws) ≡ finite s (natAbs (integer ws))
   exact-top false e = rw (positive (leb-false (2 ^ 31) top (sym e)))
   exact-top true e = rw (negative (leb-true (2 ^ 31) top (sym e)))
 
   -- as the code makes it: there is room in as many words, for the least number too
-  pub magnitude-top : (s : Bool) → s ≡ leb (2 ^ 31) top → natural (wordsOf (length ws) (natural (cond s (map complement ws) ws) + cond s 1 0)) ≡ natAbs (integer ws)
+  pub magnitude-top : (s : Bool) → s ≡ leb (2 ^ 31) top → natural (wordsOfNatural (length ws) (natural (cond s (map complement ws) ws) + cond s 1 0)) ≡ natAbs (integer ws)
   magnitude-top false e =
       let h = leb-false (2 ^ 31) top (sym e) in
       let r = natural-back (length ws) (natural ws + 0) (whole-lt (natural ws) (2 ^ (32 * length ws)) (natural (map complement ws)) (natural-complement ws words) (lower-half h)) in

@@ -7,15 +7,15 @@ use native.Mathlib.Omega.{arith}
 use borrow.Author.Tests.{lt-ltb, le-ltb}
 use lib.IntN.{pos, negsuc, _-ℤ_}
 use lib.ListN.{length, length-map}
-use Rattle.accumulator_spec.specs.Words.{Words, natural, integer, wordsOf, wordsOfInteger, complement}
-use Rattle.accumulator_spec.specs.WordTheorems.{Held, WordsUnique, Formed}
+use Rattle.accumulator_spec.specs.Words.{Words, natural, integer, wordsOfNatural, wordsOfInteger, complement}
+use Rattle.accumulator_spec.specs.Theorems.{IntegerHeld, WordsUnique, WordsFormed}
 use Rattle.accumulator_spec.proofs.Append.{base-suc}
 use Rattle.accumulator_spec.proofs.Complements.{words-length, words-words, complement-words, complement-back}
 
 -- ---- natural numbers
 -- a number that has room comes back
-pub natural-back : (k n : ℕ) → n < 2 ^ (32 * k) → natural (wordsOf k n) ≡ n
-unfolding natural wordsOf
+pub natural-back : (k n : ℕ) → n < 2 ^ (32 * k) → natural (wordsOfNatural k n) ≡ n
+unfolding natural wordsOfNatural
 natural-back zero n h = let e : 0 ≡ n = omega arith in e
 natural-back (suc k) n h =
     let b = base-suc k in
@@ -23,8 +23,8 @@ natural-back (suc k) n h =
     rw i (omega arith)
 
 -- and words are those of their number
-pub words-natural : (ws : List ℕ) → Words ws → wordsOf (length ws) (natural ws) ≡ ws
-unfolding natural wordsOf
+pub words-natural : (ws : List ℕ) → Words ws → wordsOfNatural (length ws) (natural ws) ≡ ws
+unfolding natural wordsOfNatural
 words-natural [] k = refl
 words-natural (w ∷ ws) k =
     let h = k 0 in
@@ -68,19 +68,19 @@ module _ (n b a c : ℕ) where
   lower : 2 * suc n < b → n < b
   lower h = omega arith
 
-pub held : Held
+pub integer-held : IntegerHeld
 unfolding wordsOfInteger
-held k (pos n) h =
-    let ws = wordsOf k n in
+integer-held k (pos n) h =
+    let ws = wordsOfNatural k n in
     let r = natural-back k n (room n (2 ^ (32 * k)) 0 0 h) in
     integer-positive ws (rw (r, words-length k n) h) ∙ ap pos r
-held k (negsuc n) h =
-    let ws = wordsOf k n in
+integer-held k (negsuc n) h =
+    let ws = wordsOfNatural k n in
     let r = natural-back k n (lower n (2 ^ (32 * k)) 0 0 h) in
     let s : natural (map complement ws) + natural ws + 1 ≡ 2 ^ (32 * k) = natural-complement ws (words-words k n) ∙ ap (λ (x : ℕ). 2 ^ (32 * x)) (words-length k n) in
     let l : length (map complement ws) ≡ k = length-map ws complement ∙ words-length k n in
     integer-negative (map complement ws) (complement-words ws) (rw l (upper n (2 ^ (32 * k)) (natural ws) (natural (map complement ws)) h r s))
-    ∙ ap negsuc (ap natural (complement-back (wordsOf k n) (words-words k n)) ∙ r)
+    ∙ ap negsuc (ap natural (complement-back (wordsOfNatural k n) (words-words k n)) ∙ r)
 
 pub words-unique : WordsUnique
 unfolding wordsOfInteger
@@ -88,7 +88,7 @@ words-unique ws k =
     elim (decLe (2 ^ (32 * length ws)) (2 * natural ws)) [
       | yes h ↦
           ap (wordsOfInteger (length ws)) (integer-negative ws k h)
-          ∙ ap (λ (l : ℕ). map complement (wordsOf l (natural (map complement ws)))) (sym (length-map ws complement))
+          ∙ ap (λ (l : ℕ). map complement (wordsOfNatural l (natural (map complement ws)))) (sym (length-map ws complement))
           ∙ ap (map complement) (words-natural (map complement ws) (complement-words ws)) ∙ complement-back ws k
       | no h ↦ ap (wordsOfInteger (length ws)) (integer-positive ws (below (2 ^ (32 * length ws)) (2 * natural ws) h)) ∙ words-natural ws k
     ]
@@ -96,7 +96,7 @@ words-unique ws k =
     below : (a b : ℕ) → (a ≤ b → ⊥) → b < a
     below a b h = omega arith
 
-pub formed : Formed
+pub words-formed : WordsFormed
 unfolding wordsOfInteger
-formed k (pos n) = (words-length k n, words-words k n)
-formed k (negsuc n) = (length-map (wordsOf k n) complement ∙ words-length k n, complement-words (wordsOf k n))
+words-formed k (pos n) = (words-length k n, words-words k n)
+words-formed k (negsuc n) = (length-map (wordsOfNatural k n) complement ∙ words-length k n, complement-words (wordsOfNatural k n))

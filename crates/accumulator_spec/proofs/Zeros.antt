@@ -1,34 +1,66 @@
--- Whether words hold 0, and words that are all 0.
-use mathlib.Core.Path.{_≡_, refl, sym, ap, _∙_}
-use mathlib.Core.Bool.{true, false}
-use mathlib.Core.List.{List}
+-- Words that are all zero: found so word by word, and made so.
+use mathlib.Core.Path.{_≡_, refl, sym, ap, ap₂, _∙_}
+use mathlib.Core.Bool.{true≢false, Bool, true, false, _&&_}
+use mathlib.Core.List.{List, [], _∷_}
 use Prim.Native.Nat.{ℕ, zero, suc, _+_, _*_, _≤_, _<_}
 use native.Mathlib.Numerals.{add-one}
 use native.Mathlib.Omega.{arith}
-use borrow.Author.Tests.{ne-eqb}
+use borrow.Author.Tests.{eqb-true, ne-eqb}
 use lib.Dec.{eqb}
 use lib.ListN.{length, take, drop, set, getD, replicate, replicate-append-replicate, drop-of-length-le}
 use lib.Seq.{drop-cons, take-suc-set}
-use Rattle.accumulator_spec.specs.Words.{natural}
-
-no-word : (r : ℕ) → eqb (0 + 4294967296 * r) 0 ≡ eqb r 0
-no-word zero = refl
-no-word (suc r) = ne-eqb (0 + 4294967296 * suc r) 0 (λ z. omega arith) ∙ sym (ne-eqb (suc r) 0 (λ z. omega arith))
+use Rattle.accumulator_spec.specs.Words.{allZero, natural}
+use Rattle.accumulator_spec.specs.Totals.{totalSize, isCleared}
+use Rattle.accumulator_spec.specs.Columns.{zeros}
+use Rattle.accumulator_spec.specs.Theorems.{ClearedZeros}
 
 -- ---- word by word
 module _ (ws : List ℕ) (i : ℕ) (inside : i < length ws) where
-  pub zero-more : getD ws i 0 ≡ 0 → eqb (natural (drop (i + 1) ws)) 0 ≡ eqb (natural (drop i ws)) 0
-  unfolding natural
-  zero-more z = rw (add-one, drop-cons ws i 0, z) (sym (no-word (natural (drop (suc i) ws))))
+  pub zero-more : getD ws i 0 ≡ 0 → allZero (drop (i + 1) ws) ≡ allZero (drop i ws)
+  unfolding allZero
+  zero-more z = rw (add-one, drop-cons ws i 0 inside, z)
 
-  pub zero-not : (getD ws i 0 ≡ 0 → ⊥) → false ≡ eqb (natural (drop i ws)) 0
-  unfolding natural
-  zero-not n = rw (drop-cons ws i 0) (sym (ne-eqb (getD ws i 0 + 4294967296 * natural (drop (suc i) ws)) 0 (λ z. n (omega arith))))
+  pub zero-not : (getD ws i 0 ≡ 0 → ⊥) → false ≡ allZero (drop i ws)
+  unfolding allZero
+  zero-not n = rw (drop-cons ws i 0 inside, ne-eqb (getD ws i 0) 0 n)
 
-pub zero-done : (ws : List ℕ) (i : ℕ) → length ws ≤ i → true ≡ eqb (natural (drop i ws)) 0
-unfolding natural
-zero-done ws i h = rw (drop-of-length-le ws)
+pub zero-done : (ws : List ℕ) (i : ℕ) → length ws ≤ i → true ≡ allZero (drop i ws)
+unfolding allZero
+zero-done ws i h = rw (drop-of-length-le ws h)
+
+-- ---- the number that they hold is zero
+pub zero-natural : (ws : List ℕ) → allZero ws ≡ eqb (natural ws) 0
+unfolding allZero natural
+zero-natural [] = refl
+zero-natural (zero ∷ ws) = zero-natural ws ∙ sym (no-word (natural ws))
+  where
+    no-word : (r : ℕ) → eqb (0 + 4294967296 * r) 0 ≡ eqb r 0
+    no-word zero = refl
+    no-word (suc r) = ne-eqb (0 + 4294967296 * suc r) 0 (λ z. omega arith) ∙ sym (ne-eqb (suc r) 0 (λ z. omega arith))
+zero-natural (suc w ∷ ws) = rw (ne-eqb (suc w) 0 (λ z. omega arith), ne-eqb (suc w + 4294967296 * natural ws) 0 (λ z. omega arith))
+
+-- ---- cleared totals
+both : (a b : Bool) → a && b ≡ true → (a ≡ true) × (b ≡ true)
+both true b e = (refl, e)
+both false b e = absurd (true≢false (sym e))
+
+all-zeros : (ws : List ℕ) → allZero ws ≡ true → ws ≡ replicate (length ws) 0
+unfolding allZero
+all-zeros [] e = refl
+all-zeros (w ∷ ws) e =
+    let p = both (eqb w 0) (allZero ws) e in
+    ap₂ {C = List ℕ} (λ (v : ℕ) (vs : List ℕ). v ∷ vs) (eqb-true w 0 (p .0)) (all-zeros ws (p .1))
+
+pub is-zeros : (t : List ℕ) → isCleared t ≡ true → t ≡ zeros
+is-zeros t e =
+    let p = both (eqb (length t) totalSize) (allZero t) e in
+    all-zeros t (p .1) ∙ ap (λ (k : ℕ). replicate k 0) (eqb-true (length t) totalSize (p .0))
+
+pub cleared-zeros : ClearedZeros
+unfolding allZero
+cleared-zeros t = (is-zeros t, λ e. ap isCleared e)
 
 -- ---- clearing word by word
 pub clear-more : (ws : List ℕ) (i : ℕ) → i < length ws → take i ws ≡ replicate i 0 → take (i + 1) (set ws i 0) ≡ replicate (i + 1) 0
-clear-more ws i h e = rw (add-one, take-suc-set ws i 0 h, e) (replicate-append-replicate {A = ℕ} i 1 0 ∙ ap (λ (n : ℕ). replicate n 0) (add-one i))
+clear-more ws i h e =
+    rw (add-one, take-suc-set ws i 0 h, e) (replicate-append-replicate {A = ℕ} i 1 0 ∙ ap (λ (n : ℕ). replicate n 0) (add-one i))

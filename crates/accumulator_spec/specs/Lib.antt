@@ -3,4 +3,3 @@ pub mod Totals
 pub mod Columns
 pub mod Theorems
 pub mod Inner
-pub mod WordTheorems

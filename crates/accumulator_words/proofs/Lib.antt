@@ -1,1 +1,3 @@
 pub mod Significand
+pub mod Limit
+pub mod Lent

@@ -1,20 +1,32 @@
-// The carrying add: a shifted significand goes into words of 32 bits, lowest first.
+// Words of 32 bits, lowest first: a term goes into the number that they hold; whether they are all zero; whether they are a fit total.
+pub mod fit;
+
 use choose::choose_pattern;
 ghost use mathlib.Core.Path.{_≡_};
-ghost use Prim.Native.Nat.{_*_, _%_, _^_};
+ghost use Prim.Native.Nat.{_*_, _≤_, _<_};
 ghost use lib.ListN.{length};
-ghost use lib.IntN.{pos, _+ℤ_};
-ghost use Rattle.pattern_spec.specs.Exact.{int};
-ghost use Rattle.accumulator_spec.specs.Words.{natural, wordsOfInteger};
+ghost use Rattle.accumulator_spec.specs.Words.{allZero};
+ghost use Rattle.accumulator_spec.specs.Inner.{afterTerm};
+ghost use Rattle.accumulator_words.specs.Inner.{carried};
 
-// Adds sig * 2^shift to the words' number, or takes it away, the shift taken modulo 32. What goes beyond the last word is lost.
+// Adds ±sig * 2^exp. The words from the term's lowest one on are lent to the carrying add (R6.4).
+pub fn add(number: &mut [u32], minus: bool, sig: u64, exp: u16)
+    requires { ⌜ exp ≤ 32 * length (now number) ⌝ }
+    ensures { λ _. ⌜ now (number .exit) ≡ afterTerm (now (number .entry)) minus sig exp ⌝ }
+{
+    let w = (exp / 32) as usize;
+    carry(&mut number[w..], minus, sig, exp % 32);
+}
+
+// Adds sig * 2^shift to the words' number, or takes it away. What goes beyond the last word is lost.
 // Taking away is adding to the complements: one loop for both, with nothing that jumps by the sign.
-pub fn add(words: &mut [u32], minus: bool, sig: u64, shift: u16)
-    ensures { λ _. ⌜ now (words .exit) ≡ wordsOfInteger (length (now (words .entry))) (pos (natural (now (words .entry))) +ℤ int minus (sig * 2 ^ (shift % 32))) ⌝ }
+fn carry(words: &mut [u32], minus: bool, sig: u64, shift: u16)
+    requires { ⌜ shift < 32 ⌝ }
+    ensures { λ _. ⌜ now (words .exit) ≡ carried (now (words .entry)) minus sig shift ⌝ }
 {
     let mask = choose_pattern(minus, 0xffff_ffff, 0);
-    let mut low = (sig % 0x1_0000_0000) << (shift % 32);
-    let mut high = (sig / 0x1_0000_0000) << (shift % 32);
+    let mut low = (sig % 0x1_0000_0000) << shift;
+    let mut high = (sig / 0x1_0000_0000) << shift;
     let mut i: usize = 0;
     while i < words.len() {
         // A term has three words at most: stopping there at the earliest is what a processor foresees.
@@ -35,4 +47,17 @@ fn wide(w: u32) -> u64
     ensures { λ r. ⌜ r ≡ w ⌝ }
 {
     w as u64
+}
+
+pub fn is_zero(words: &[u32]) -> bool
+    ensures { λ r. ⌜ r ≡ allZero (now (words .entry)) ⌝ }
+{
+    let mut i: usize = 0;
+    while i < words.len() {
+        if words[i] != 0 {
+            return false;
+        }
+        i += 1;
+    }
+    true
 }

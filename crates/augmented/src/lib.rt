@@ -1,15 +1,16 @@
 // Direct pairs of two binary32 patterns: the result rounded to nearest with ties to zero, RN0 of what that left over, and the flags.
-use augmented_pack::is_finite;
 use augmented_pack::raised;
 pub use augmented_spec::Flags;
 pub use augmented_spec::Pair;
 use pattern::flipped;
+use pattern::is_finite;
 ghost use mathlib.Core.Path.{_≡_};
-ghost use mathlib.Core.Bool.{true, false};
+ghost use mathlib.Core.Bool.{true};
 ghost use Rattle.rounding_spec.specs.Format.{binary32};
 ghost use Rattle.rounding_spec.specs.Value.{decode, isFinite};
-ghost use Rattle.augmented_spec.specs.Pairs.{invalid, overflowed, flagsOf, sumPair, differencePair, productPair};
+ghost use Rattle.augmented_spec.specs.Pairs.{sumPair, differencePair, productPair};
 ghost use Rattle.augmented_spec.specs.Direct.{none};
+ghost use Rattle.augmented_spec.specs.Inner.{flagsWithoutU, pairWithoutU};
 
 pub fn sum(x: u32, y: u32) -> Pair
     ensures { λ r. ⌜ r ≡ sumPair binary32 x y ⌝ }
@@ -44,8 +45,8 @@ pub fn product(x: u32, y: u32) -> Pair
 
 // A finite first comes from finite operands, and no sum is inexact.
 fn pair(x: u32, y: u32, first: u32, second: u32) -> Pair
-    requires { ⌜ (isFinite (decode binary32 first) ≡ true → flagsOf (invalid binary32 x y (decode binary32 first)) (overflowed binary32 x y (decode binary32 first)) false ≡ none) ⌝ }
-    ensures { λ r. ⌜ r ≡ record { first = first; second = second; flags = flagsOf (invalid binary32 x y (decode binary32 first)) (overflowed binary32 x y (decode binary32 first)) false } ⌝ }
+    requires { ⌜ (isFinite (decode binary32 first) ≡ true → flagsWithoutU x y first ≡ none) ⌝ }
+    ensures { λ r. ⌜ r ≡ pairWithoutU x y first second ⌝ }
 {
     if is_finite(first) {
         let flags = Flags {

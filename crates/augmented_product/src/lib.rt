@@ -1,14 +1,14 @@
 // Product pairs.
-use augmented_pack::is_infinite;
-use augmented_pack::packed;
 use augmented_pack::raised;
-use augmented_pack::zero_takes;
+use augmented_pack::rest_pattern;
 use augmented_spec::Flags;
 use augmented_spec::Pair;
 use choose::choose_exponent;
 use choose::choose_pattern;
 use choose::choose_sign;
 use pattern::infinity;
+use pattern::is_infinite;
+use pattern::zero_takes;
 use pattern_spec::Class;
 use pattern_spec::NAN;
 use rounding::round_with_rest;
@@ -17,9 +17,9 @@ ghost use mathlib.Core.Path.{_≡_};
 ghost use mathlib.Core.Bool.{false};
 ghost use Prim.Native.Nat.{_*_, _^_, _<_};
 ghost use Rattle.rounding_spec.specs.Format.{binary32};
-ghost use Rattle.rounding_spec.specs.Value.{finite, decode};
-ghost use Rattle.augmented_spec.specs.Pairs.{pairOf, invalid, overflowed, underflowed, flagsOf, productPair};
-ghost use Rattle.augmented_spec.specs.Inner.{finitePair, ShortRest};
+ghost use Rattle.rounding_spec.specs.Value.{finite};
+ghost use Rattle.augmented_spec.specs.Pairs.{pairOf, flagsOf, productPair};
+ghost use Rattle.augmented_spec.specs.Inner.{pairWithoutU, finiteAnswer, productAnswer, ShortRest};
 
 pub fn of_patterns(x: u32, y: u32) -> Pair
     ensures { λ r. ⌜ r ≡ productPair binary32 x y ⌝ }
@@ -38,7 +38,7 @@ pub fn of_patterns(x: u32, y: u32) -> Pair
 
 // An infinite or NaN product stands twice.
 fn twice(x: u32, y: u32, half: u32) -> Pair
-    ensures { λ r. ⌜ r ≡ record { first = half; second = half; flags = flagsOf (invalid binary32 x y (decode binary32 half)) (overflowed binary32 x y (decode binary32 half)) false } ⌝ }
+    ensures { λ r. ⌜ r ≡ pairWithoutU x y half half ⌝ }
 {
     let flags = raised::of_special(x, y, half);
     Pair {
@@ -51,7 +51,7 @@ fn twice(x: u32, y: u32, half: u32) -> Pair
 // Where the exponent is below 149, the rest can have digits below u.
 fn of_number(sign: bool, sig: u64, exp: u16) -> Pair
     requires { ⌜ sig < 2 ^ 48 ⌝ }
-    ensures { λ r. ⌜ r ≡ finitePair (pairOf binary32 (finite sign (sig * 2 ^ exp))) (underflowed binary32 (finite sign (sig * 2 ^ exp)) (pairOf binary32 (finite sign (sig * 2 ^ exp)))) ⌝ }
+    ensures { λ r. ⌜ r ≡ productAnswer sign (sig * 2 ^ exp) ⌝ }
 {
     if exp < 149 {
         twice_rounded(sign, sig, exp)
@@ -63,13 +63,13 @@ fn of_number(sign: bool, sig: u64, exp: u16) -> Pair
 // The rest is a number of the format itself, and nothing is lost.
 fn with_rest(sign: bool, sig: u64, exp: u16) -> Pair
     requires { ⌜ ShortRest sig exp ⌝ }
-    ensures { λ r. ⌜ r ≡ finitePair (pairOf binary32 (finite sign (sig * 2 ^ exp))) false ⌝ }
+    ensures { λ r. ⌜ r ≡ finiteAnswer (pairOf binary32 (finite sign (sig * 2 ^ exp))) false ⌝ }
 {
     let first = round_with_rest(Ties::ToZero, sign, sig, exp);
     let over = is_infinite(first.pattern);
     // The rest of an infinite first is not used, and has to stay in range.
     let unit = choose_exponent(over, 0, exp - 149);
-    let second = packed(sign, first.up, first.rest, unit);
+    let second = rest_pattern(sign, first.up, first.rest, unit);
     pair(
         first.pattern,
         choose_pattern(over, first.pattern, second),
@@ -80,7 +80,7 @@ fn with_rest(sign: bool, sig: u64, exp: u16) -> Pair
 
 // First is the rounded number, second what that left over, rounded again on its side of first.
 fn twice_rounded(sign: bool, sig: u64, exp: u16) -> Pair
-    ensures { λ r. ⌜ r ≡ finitePair (pairOf binary32 (finite sign (sig * 2 ^ exp))) (underflowed binary32 (finite sign (sig * 2 ^ exp)) (pairOf binary32 (finite sign (sig * 2 ^ exp)))) ⌝ }
+    ensures { λ r. ⌜ r ≡ productAnswer sign (sig * 2 ^ exp) ⌝ }
 {
     let first = round_with_rest(Ties::ToZero, sign, sig, exp);
     if is_infinite(first.pattern) {

@@ -20,8 +20,8 @@ use Rattle.pattern_spec.specs.Exact.{int}
 use Rattle.pattern_spec.proofs.Integers.{int-scale}
 use Rattle.augmented_spec.specs.declared.Pair.{Pair}
 use Rattle.augmented_spec.specs.Pairs.{pairOf, overflowed, underflowed, answer, exactProduct, productPair}
-use Rattle.augmented_spec.specs.Direct.{Operation, sum, difference, product, directPair}
-use Rattle.augmented_spec.specs.Theorems.{exactly, finerInt, FiniteOperands}
+use Rattle.augmented_spec.specs.Direct.{Operation, sum, difference, product, directPair, exactResult}
+use Rattle.augmented_spec.specs.Theorems.{finerInt, FiniteOperands}
 use Rattle.augmented_spec.proofs.Second.{head, first-finite, underflowed-is}
 use Rattle.augmented_spec.proofs.Distance.{int-one, int-zero, scaled-size, sum-size, difference-size, left-is}
 use Rattle.augmented_spec.proofs.FiniteOperands.{number, rest, side, secondSize, secondSign, lost, Halved}
@@ -60,7 +60,7 @@ finer-size k a b G (inl e) = inl (scaled-size k G ∙ ap (λ (x : ℕ). x * G) e
 finer-size k a b G (inr e) = inr (scaled-size k G ∙ ap (λ (x : ℕ). x * G) e ∙ sym (dist-scale a b G))
 
 exact-size : (o : Operation) → o ≢ product → (F : Format) (s : Bool) (a : ℕ) (t : Bool) (b : ℕ)
-    → (natAbs (exactly o F s a t b) ≡ a * 2 ^ low F + b * 2 ^ low F) ⊎ (natAbs (exactly o F s a t b) ≡ dist (a * 2 ^ low F) (b * 2 ^ low F))
+    → (natAbs (exactResult o F (int s a) (int t b)) ≡ a * 2 ^ low F + b * 2 ^ low F) ⊎ (natAbs (exactResult o F (int s a) (int t b)) ≡ dist (a * 2 ^ low F) (b * 2 ^ low F))
 exact-size sum n F s a t b = finer-size (int s a +ℤ int t b) a b (2 ^ low F) (sum-size s a t b)
 exact-size difference n F s a t b = finer-size (int s a -ℤ int t b) a b (2 ^ low F) (difference-size s a t b)
 exact-size product n F s a t b = absurd (n refl)

@@ -18,7 +18,7 @@ use Rattle.augmented_spec.specs.declared.Flags.{Flags}
 use Rattle.augmented_spec.specs.declared.Pair.{Pair}
 use Rattle.augmented_spec.specs.Pairs.{Halves, secondOf, pairOf, invalid, overflowed, underflowed, flagsOf, answer, exactSum, sumPair, exactProduct, productPair}
 use Rattle.augmented_spec.specs.Direct.{none}
-use Rattle.augmented_spec.specs.Inner.{join, finitePair}
+use Rattle.augmented_spec.specs.Inner.{join, finiteAnswer, productAnswer}
 use Rattle.augmented_spec.proofs.Second.{head, first-finite, first-infinite}
 use Rattle.augmented_spec.proofs.Width.{encode-width}
 use Rattle.augmented_spec.proofs.FlagSets.{finite-number, finite-flags, underflow-none}
@@ -77,13 +77,14 @@ finite-not-infinite (finite s a) e = refl
 
 -- ---- finite operands
 module _ (x y : ℕ) where
-  pub answer-finite : (p : Halves) (u : Bool) → isNaN (p .first) ≡ false → isFinite (decode binary32 x) ≡ true → isFinite (decode binary32 y) ≡ true → answer binary32 x y p u ≡ finitePair p u
+  pub answer-finite : (p : Halves) (u : Bool) → isNaN (p .first) ≡ false → isFinite (decode binary32 x) ≡ true → isFinite (decode binary32 y) ≡ true → answer binary32 x y p u ≡ finiteAnswer p u
   unfolding answer overflowed
   answer-finite p u n a b =
       same-pair (result-encode binary32 (x ∷ y ∷ []) (p .first)) (result-encode binary32 (x ∷ y ∷ []) (p .second))
       (finite-flags binary32 x y (p .first) u a b n)
 
-  pub finite-answer : (v : Value) (s : Bool) (N : ℕ) (u : Bool) → v ≡ finite s N → Operands (decode binary32 x) (decode binary32 y) v → answer binary32 x y (pairOf binary32 v) u ≡ finitePair (pairOf binary32 (finite s N)) u
+  pub finite-answer : (v : Value) (s : Bool) (N : ℕ) (u : Bool) → v ≡ finite s N → Operands (decode binary32 x) (decode binary32 y) v
+      → answer binary32 x y (pairOf binary32 v) u ≡ finiteAnswer (pairOf binary32 (finite s N)) u
   finite-answer v s N u e o =
       let k = rw e at o in
       ap (λ (w : Value). answer binary32 x y (pairOf binary32 w) u) e ∙ answer-finite (pairOf binary32 (finite s N)) u (first-number binary32 s N) (k .0) (k .1)
@@ -104,11 +105,11 @@ module _ (x y : ℕ) where
   abbrev exact : Value
   exact = exactProduct binary32 x y
 
-  pub product-finite : (s : Bool) (N : ℕ) → exact ≡ finite s N → productPair binary32 x y ≡ finitePair (pairOf binary32 (finite s N)) (underflowed binary32 (finite s N) (pairOf binary32 (finite s N)))
+  pub product-finite : (s : Bool) (N : ℕ) → exact ≡ finite s N → productPair binary32 x y ≡ productAnswer s N
   unfolding productPair
   product-finite s N e =
       finite-answer x y exact s N (underflowed binary32 exact (pairOf binary32 exact)) e (product-operands (decode binary32 x) (decode binary32 y))
-      ∙ ap (λ (v : Value). finitePair (pairOf binary32 (finite s N)) (underflowed binary32 v (pairOf binary32 v))) e
+      ∙ ap (λ (v : Value). finiteAnswer (pairOf binary32 (finite s N)) (underflowed binary32 v (pairOf binary32 v))) e
 
   special-first : (v : Value) → isFinite v ≡ false → isFinite (pairOf binary32 v .first) ≡ false
   unfolding pairOf round

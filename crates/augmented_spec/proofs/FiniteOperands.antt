@@ -18,8 +18,8 @@ use Rattle.pattern_spec.proofs.Classified.{decode-flip}
 use Rattle.pattern_spec.proofs.Integers.{plus-exact, times-exact, int-not, int-scale}
 use Rattle.augmented_spec.specs.declared.Pair.{Pair}
 use Rattle.augmented_spec.specs.Pairs.{pairOf, exactProduct}
-use Rattle.augmented_spec.specs.Direct.{Operation, sum, difference, product}
-use Rattle.augmented_spec.specs.Theorems.{exactly, zeroSign, FiniteOperands}
+use Rattle.augmented_spec.specs.Direct.{Operation, sum, difference, product, exactResult}
+use Rattle.augmented_spec.specs.Theorems.{zeroSign, FiniteOperands}
 use Rattle.augmented_spec.proofs.Distance.{int-size}
 use Rattle.augmented_spec.proofs.Read.{exactFor, first-read, second-read}
 use Rattle.augmented_spec.proofs.Second.{head, left, up, tail, first-finite, pair-second, first-infinite}
@@ -47,7 +47,7 @@ module _ (F : Format) (s : Bool) (a : ℕ) (t : Bool) (b : ℕ) where
       (λ z. e .4 (eq-of-mul-eq-mul-right (2 ^ low F) (pow-pos (low F)) (e .1) 0 (z ∙ sym (zero-mul (2 ^ low F)))))
 
 exact-number : (o : Operation) (F : Format) (x y : ℕ) → y < 2 * signBit F → (s : Bool) (a : ℕ) (t : Bool) (b : ℕ)
-    → decode F x ≡ finite s a → decode F y ≡ finite t b → Number (exactFor o F x y) (exactly o F s a t b) (zeroSign o s t)
+    → decode F x ≡ finite s a → decode F y ≡ finite t b → Number (exactFor o F x y) (exactResult o F (int s a) (int t b)) (zeroSign o s t)
 unfolding times negate
 exact-number sum F x y w s a t b p q = rw (p, q) (sum-number F s a t b)
 exact-number difference F x y w s a t b p q = rw (p, decode-flip F y w, q, ← int-not t b) (sum-number F s a (not t) b)

@@ -1,16 +1,17 @@
 -- The pattern of a number of at most 24 digits, moved up by its leading zeros, or as far as its exponent goes.
-use mathlib.Core.Path.{_≡_, refl, sym, ap, ap₂, _∙_}
-use mathlib.Core.Bool.{Bool, true, false, cond}
-use Prim.Native.Nat.{ℕ, suc, _+_, _-_, _*_, _%_, _^_, _≤_, _<_}
-use native.Mathlib.Nat.{add-comm, le-trans, lt-of-lt-of-le, lt-of-not-le, not-le-of-lt, zero-mul, mul-le-mul-left, mul-le-mul-right, mod-eq-of-lt, lt-irrefl, pow-succ'}
+use mathlib.Core.Path.{_≡_, refl, sym, ap, _∙_}
+use mathlib.Core.Bool.{Bool, cond}
+use Prim.Native.Nat.{ℕ, suc, _+_, _-_, _*_, _%_, _^_, _≤_, _<_, min}
+use native.Mathlib.Nat.{le-trans, lt-of-lt-of-le, lt-of-not-le, not-le-of-lt, zero-mul, mul-le-mul-left, mul-le-mul-right, mod-eq-of-lt, lt-irrefl, pow-succ'}
 use native.Mathlib.Decide.{decLe}
 use native.Mathlib.Omega.{arith}
 use lib.Count.{leadingZeros, leading-top}
 use lib.Dec.{ltb, eqb}
 use lib.Pow.{pow-add, pow-mono, shl-lt}
 use borrow.Author.Tests.{lt-ltb, le-ltb, eq-eqb, ne-eqb}
-use Rattle.rounding_spec.specs.Format.{binary32, limit}
-use Rattle.rounding_spec.specs.Value.{finite, bits, encode}
+use Rattle.rounding_spec.specs.Format.{binary32, limit, infinity}
+use Rattle.rounding_spec.specs.Value.{finite, bits, signed, encode}
+use Rattle.rounding_spec.specs.Inner.{packed}
 use Rattle.rounding_spec.proofs.Multiple.{joined}
 use Rattle.rounding_spec.proofs.Bits.{bits-at}
 use Rattle.rounding_spec.proofs.Codec.{bits-below}
@@ -70,7 +71,7 @@ module _ (rest : ℕ) (small : rest < 2 ^ 24) where
         ]
 
     module _ (field : ℕ) (field-is : field ≡ cond (eqb rest 0) 0 (unit - shift)) where
-      pub packed-bits : field * 2 ^ 23 + rest * 2 ^ shift % 2 ^ 64 ≡ bits 23 (rest * 2 ^ unit)
+      packed-bits : field * 2 ^ 23 + rest * 2 ^ shift % 2 ^ 64 ≡ bits 23 (rest * 2 ^ unit)
       packed-bits =
           let b = significand in
           let w : rest * 2 ^ shift % 2 ^ 64 ≡ rest * 2 ^ shift = mod-eq-of-lt (omega arith) in
@@ -88,13 +89,18 @@ module _ (rest : ℕ) (small : rest < 2 ^ 24) where
                 ∙ bits-at 23 (unit - shift) (rest * 2 ^ shift) (omega arith) (λ g. b .1 g (let q : 0 < rest = omega arith in q))))
           ]
 
-      pub packed-below : rest * 2 ^ unit < limit binary32 → field * 2 ^ 23 + rest * 2 ^ shift % 2 ^ 64 < 0x7f80_0000
+      packed-below : rest * 2 ^ unit < limit binary32 → field * 2 ^ 23 + rest * 2 ^ shift % 2 ^ 64 < 0x7f80_0000
       packed-below h = rw packed-bits (bits-below binary32 (omega arith) (record { e = unit; m = rest; low = omega arith; small = small; is = refl }) h)
 
-      pub packed-is : (minus : Bool) (w : ℕ) → w ≡ cond minus (2 ^ 31) 0 → field * 2 ^ 23 + rest * 2 ^ shift % 2 ^ 64 + w ≡ encode binary32 (finite minus (rest * 2 ^ unit))
-      unfolding encode
-      packed-is minus w e = ap₂ _+_ packed-bits e ∙ add-comm (bits 23 (rest * 2 ^ unit)) (cond minus (2 ^ 31) 0)
+      pub packed-bounds : rest * 2 ^ unit < limit binary32 → (field ≤ 0x1_0000) × (rest * 2 ^ shift % 2 ^ 64 ≤ 0x100_0000)
+      packed-bounds h =
+          let b = packed-below h in
+          let w : rest * 2 ^ shift % 2 ^ 64 ≡ rest * 2 ^ shift = mod-eq-of-lt (let l = significand .0 in omega arith) in
+          (omega arith, rw w (let l = significand .0 in omega arith))
 
-pub sign-le : (minus : Bool) (w : ℕ) → w ≡ cond minus (2 ^ 31) 0 → w ≤ 2 ^ 31
-sign-le true w e = omega arith
-sign-le false w e = omega arith
+      pub packed-is : (minus : Bool) → rest * 2 ^ unit < limit binary32 → packed minus field (rest * 2 ^ shift % 2 ^ 64) ≡ encode binary32 (finite minus (rest * 2 ^ unit))
+      unfolding encode
+      packed-is minus h =
+          let b = packed-below h in
+          let below : min (infinity binary32) (field * 2 ^ 23 + rest * 2 ^ shift % 2 ^ 64) ≡ field * 2 ^ 23 + rest * 2 ^ shift % 2 ^ 64 = omega arith in
+          ap (signed binary32 minus) (below ∙ packed-bits)

@@ -13,18 +13,18 @@ use Rattle.rounding_spec.specs.declared.Ties.the-variants.{ToZero}
 use Rattle.rounding_spec.specs.Format.{binary32, limit}
 use Rattle.rounding_spec.specs.Round.{lastPlace, rounded, leftOver, roundedUp}
 use Rattle.rounding_spec.specs.Nearest.{dist}
-use Rattle.rounding_spec.specs.Value.{Value, infinite, finite, encode, roundFinite, isFinite, isInfinite}
+use Rattle.rounding_spec.specs.Value.{Value, infinite, finite, decode, encode, roundFinite, isFinite, isInfinite}
 use Rattle.rounding_spec.proofs.Multiple.{joined, mult-dist}
 use Rattle.rounding_spec.proofs.LastPlace.{place-le}
 use Rattle.rounding_spec.proofs.NearLaws.{near-mult}
 use Rattle.rounding_spec.proofs.Rounded.{rounded-near, rounded-half, rounded-exact}
 use Rattle.rounding_spec.proofs.Scaled.{rounded-rep}
 use Rattle.rounding_spec.proofs.RoundValue.{round-below, round-above}
+use Rattle.pattern_spec.specs.Classes.{zeroPattern}
 use Rattle.pattern_spec.proofs.Products.{none, some-left}
 use Rattle.augmented_spec.specs.declared.Pair.{Pair}
 use Rattle.augmented_spec.specs.Pairs.{zeroTakes, pairOf, underflowed, flagsOf}
-use Rattle.augmented_spec.specs.Half.{zeroPattern}
-use Rattle.augmented_spec.specs.Inner.{join, finitePair, ShortRest}
+use Rattle.augmented_spec.specs.Inner.{join, finiteAnswer, productAnswer, ShortRest}
 use Rattle.augmented_spec.proofs.Second.{head, left, up, tail, tail-le, first-finite, pair-second, first-infinite, second-infinite, underflowed-is}
 use Rattle.augmented_spec.proofs.Patterns.{finite-shows, infinite-shows, zero-pattern}
 use Rattle.augmented_spec.proofs.Answered.{same-pair}
@@ -33,12 +33,12 @@ use Rattle.augmented_spec.proofs.FlagSets.{underflow-none}
 -- ---- a number of u * u, by its magnitude N
 module _ (s : Bool) (N : ℕ) where
   -- first overflows, or both halves are finite
-  pub over-infinite : limit binary32 ≤ head binary32 s N → eqb (encode binary32 (roundFinite ToZero binary32 s N) % 2 ^ 31) 0x7f80_0000 ≡ true
-  over-infinite h = ap (λ (v : Value). eqb (encode binary32 v % 2 ^ 31) 0x7f80_0000) (round-above ToZero binary32 s N h) ∙ infinite-shows s
+  pub over-infinite : limit binary32 ≤ head binary32 s N → isInfinite (decode binary32 (encode binary32 (roundFinite ToZero binary32 s N))) ≡ true
+  over-infinite h = ap (λ (v : Value). isInfinite (decode binary32 (encode binary32 v))) (round-above ToZero binary32 s N h) ∙ infinite-shows s
 
-  pub over-finite : head binary32 s N < limit binary32 → eqb (encode binary32 (roundFinite ToZero binary32 s N) % 2 ^ 31) 0x7f80_0000 ≡ false
+  pub over-finite : head binary32 s N < limit binary32 → isInfinite (decode binary32 (encode binary32 (roundFinite ToZero binary32 s N))) ≡ false
   over-finite h =
-      ap (λ (v : Value). eqb (encode binary32 v % 2 ^ 31) 0x7f80_0000) (round-below ToZero binary32 s N h) ∙ finite-shows s (head binary32 s N) (rounded-rep ToZero 23 149 N) h
+      ap (λ (v : Value). isInfinite (decode binary32 (encode binary32 v))) (round-below ToZero binary32 s N h) ∙ finite-shows s (head binary32 s N) (rounded-rep ToZero 23 149 N) h
 
   first-encodes : encode binary32 (roundFinite ToZero binary32 s N) ≡ encode binary32 (pairOf binary32 (finite s N) .first)
   first-encodes =
@@ -65,7 +65,7 @@ module _ (s : Bool) (N : ℕ) where
       record { first = e ∙ first-encodes; second = g ∙ sym (ap (encode binary32) (pair-second binary32 s N h)); infinite = sym (ap isInfinite (first-finite binary32 s N h)) }
 
   -- as a pair with flags, and in one word
-  pub halved-pair : {c d : ℕ} {over : Bool} (u : Bool) → Halved c d over → record { first = c; second = d; flags = flagsOf false over u } ≡ finitePair (pairOf binary32 (finite s N)) u
+  pub halved-pair : {c d : ℕ} {over : Bool} (u : Bool) → Halved c d over → record { first = c; second = d; flags = flagsOf false over u } ≡ finiteAnswer (pairOf binary32 (finite s N)) u
   halved-pair u h = same-pair (h .first) (h .second) (ap (λ (o : Bool). flagsOf false o u) (h .infinite))
 
   pub halved-word : {c d : ℕ} {over : Bool} → Halved c d over → c + d * 2 ^ 32 ≡ join (pairOf binary32 (finite s N))
@@ -112,12 +112,12 @@ module _ (s : Bool) (m e : ℕ) (short : ShortRest m e) (rest : ℕ) (rest-is : 
         | no h ↦ underflowed-is binary32 s N (omega arith) ∙ ap (λ (x : ℕ). not (eqb x 0)) (dist-none tail-exact)
       ]
 
-  module _ (c : ℕ) (over : Bool) (is : c ≡ encode binary32 (roundFinite ToZero binary32 s N)) (shows : over ≡ eqb (c % 2 ^ 31) 0x7f80_0000) where
+  module _ (c : ℕ) (over : Bool) (is : c ≡ encode binary32 (roundFinite ToZero binary32 s N)) (shows : over ≡ isInfinite (decode binary32 c)) where
     when-infinite : limit binary32 ≤ head binary32 s N → over ≡ true
-    when-infinite h = shows ∙ ap (λ (x : ℕ). eqb (x % 2 ^ 31) 0x7f80_0000) is ∙ over-infinite s N h
+    when-infinite h = shows ∙ ap (λ (x : ℕ). isInfinite (decode binary32 x)) is ∙ over-infinite s N h
 
     when-finite : head binary32 s N < limit binary32 → over ≡ false
-    when-finite h = shows ∙ ap (λ (x : ℕ). eqb (x % 2 ^ 31) 0x7f80_0000) is ∙ over-finite s N h
+    when-finite h = shows ∙ ap (λ (x : ℕ). isInfinite (decode binary32 x)) is ∙ over-finite s N h
 
     module _ (unit : ℕ) (unit-is : unit ≡ cond over 0 (e - 149)) where
       pub rest-fits : (rest < 2 ^ 24) × (rest * 2 ^ unit < limit binary32)
@@ -132,7 +132,8 @@ module _ (s : Bool) (m e : ℕ) (short : ShortRest m e) (rest : ℕ) (rest-is : 
         ],
       )
 
-      pub with-rest-is : (v : Bool) → v ≡ roundedUp ToZero 23 149 N → (d half : ℕ) → d ≡ encode binary32 (finite (cond (eqb rest 0) s (unlike s v)) (rest * 2 ^ unit)) → half ≡ cond over c d → Halved s N c half over
+      pub with-rest-is : (v : Bool) → v ≡ roundedUp ToZero 23 149 N → (d half : ℕ) → d ≡ encode binary32 (finite (cond (eqb rest 0) s (unlike s v)) (rest * 2 ^ unit)) → half ≡ cond over c d
+          → Halved s N c half over
       with-rest-is v v-is d half d-is half-is =
           elim (decLe (limit binary32) (head binary32 s N)) [
             | yes h ↦ rw (half-is, when-infinite h) (halved-infinite s N h c is)
@@ -166,23 +167,23 @@ module _ (s : Bool) (N : ℕ) (c : ℕ) (is : c ≡ encode binary32 (roundFinite
   differ : {a b : Bool} → a ≡ true → b ≡ false → a ≡ b → ⊥
   differ p q e = let k : _≡_ {A = ℕ} 0 1 = ap (λ (b : Bool). cond b 0 1) (sym p ∙ e ∙ q) in omega arith
 
-  pub shown-infinite : eqb (c % 2 ^ 31) 0x7f80_0000 ≡ true → limit binary32 ≤ head binary32 s N
+  pub shown-infinite : isInfinite (decode binary32 c) ≡ true → limit binary32 ≤ head binary32 s N
   shown-infinite e =
       elim (decLe (limit binary32) (head binary32 s N)) [
         | yes h ↦ h
-        | no h ↦ absurd (differ e (over-finite s N (let l : head binary32 s N < limit binary32 = omega arith in l)) (ap (λ (x : ℕ). eqb (x % 2 ^ 31) 0x7f80_0000) is))
+        | no h ↦ absurd (differ e (over-finite s N (let l : head binary32 s N < limit binary32 = omega arith in l)) (ap (λ (x : ℕ). isInfinite (decode binary32 x)) is))
       ]
 
-  pub shown-finite : eqb (c % 2 ^ 31) 0x7f80_0000 ≡ false → head binary32 s N < limit binary32
+  pub shown-finite : isInfinite (decode binary32 c) ≡ false → head binary32 s N < limit binary32
   shown-finite e =
       elim (decLe (limit binary32) (head binary32 s N)) [
-        | yes h ↦ absurd (differ (over-infinite s N h) e (sym (ap (λ (x : ℕ). eqb (x % 2 ^ 31) 0x7f80_0000) is)))
+        | yes h ↦ absurd (differ (over-infinite s N h) e (sym (ap (λ (x : ℕ). isInfinite (decode binary32 x)) is)))
         | no h ↦ omega arith
       ]
 
   pub twice-infinite : (r : Pair) → r ≡ record { first = c; second = c; flags = flagsOf false true false } → limit binary32 ≤ head binary32 s N
-      → r ≡ finitePair (pairOf binary32 (finite s N)) (underflowed binary32 (finite s N) (pairOf binary32 (finite s N)))
-  twice-infinite r e h = e ∙ halved-pair s N false (halved-infinite s N h c is) ∙ ap (finitePair (pairOf binary32 (finite s N))) (sym (infinite-loses-nothing s N h))
+      → r ≡ productAnswer s N
+  twice-infinite r e h = e ∙ halved-pair s N false (halved-infinite s N h c is) ∙ ap (finiteAnswer (pairOf binary32 (finite s N))) (sym (infinite-loses-nothing s N h))
 
   module _ (e rest : ℕ) (v : Bool) (rest-is : rest * 2 ^ e ≡ leftOver ToZero 23 149 N) (up-is : v ≡ roundedUp ToZero 23 149 N) (h : head binary32 s N < limit binary32) where
     second-pattern : (d half : ℕ) → d ≡ encode binary32 (roundFinite ToZero binary32 (unlike s v) (rest * 2 ^ e)) → half ≡ zeroPattern s d
@@ -192,7 +193,8 @@ module _ (s : Bool) (N : ℕ) (c : ℕ) (is : c ≡ encode binary32 (roundFinite
         let l : tail binary32 s N < limit binary32 = lt-of-le-of-lt (tail-le binary32 s N) h in
         let q = unlike s (up binary32 s N) in
         half-is
-        ∙ ap (zeroPattern s) (d-is ∙ ap₂ (λ (b : Bool) (x : ℕ). encode binary32 (roundFinite ToZero binary32 (unlike s b) x)) up-is rest-is ∙ ap (encode binary32) (round-below ToZero binary32 q (left binary32 s N) l))
+        ∙ ap (zeroPattern s) (d-is ∙ ap₂ (λ (b : Bool) (x : ℕ). encode binary32 (roundFinite ToZero binary32 (unlike s b) x)) up-is rest-is
+        ∙ ap (encode binary32) (round-below ToZero binary32 q (left binary32 s N) l))
         ∙ zero-pattern s q (tail binary32 s N) (rounded-rep ToZero 23 149 (left binary32 s N)) l
 
     lost-is : (k : ℕ) → k * 2 ^ e ≡ leftOver ToZero 23 149 (rest * 2 ^ e) → not (eqb k 0) ≡ underflowed binary32 (finite s N) (pairOf binary32 (finite s N))
@@ -208,6 +210,6 @@ module _ (s : Bool) (N : ℕ) (c : ℕ) (is : c ≡ encode binary32 (roundFinite
 
     pub twice-is : (d half k : ℕ) (r : Pair) → d ≡ encode binary32 (roundFinite ToZero binary32 (unlike s v) (rest * 2 ^ e)) → half ≡ zeroPattern s d
         → k * 2 ^ e ≡ leftOver ToZero 23 149 (rest * 2 ^ e) → r ≡ record { first = c; second = half; flags = flagsOf false false (not (eqb k 0)) }
-        → r ≡ finitePair (pairOf binary32 (finite s N)) (underflowed binary32 (finite s N) (pairOf binary32 (finite s N)))
+        → r ≡ productAnswer s N
     twice-is d half k r d-is half-is k-is r-is =
-        r-is ∙ halved-pair s N (not (eqb k 0)) (halved-finite s N h c half is (second-pattern d half d-is half-is)) ∙ ap (finitePair (pairOf binary32 (finite s N))) (lost-is k k-is)
+        r-is ∙ halved-pair s N (not (eqb k 0)) (halved-finite s N h c half is (second-pattern d half d-is half-is)) ∙ ap (finiteAnswer (pairOf binary32 (finite s N))) (lost-is k k-is)

@@ -117,7 +117,8 @@ infinite-operand F x y v w s e n = (
       (infinite-pair sum F x y s (ap (finer F) g), infinite-pair sum F y x s (ap (finer F) (plus-comm (decode F x) (decode F y) ∙ g))),
   λ o. (
     infinite-pair difference F x y s (ap (finer F) (ap₂ plus e (decode-flip F y w) ∙ infinite-difference s (decode F y) n o)),
-    infinite-pair difference F y x (not s) (ap (finer F) (ap (plus (decode F y)) (decode-flip F x v ∙ ap negate e) ∙ plus-comm (infinite (not s)) (decode F y) ∙ infinite-sum (not s) (decode F y) n (rw (Bool·not-not s) o))),
+    infinite-pair difference F y x (not s) (ap (finer F) (ap (plus (decode F y)) (decode-flip F x v ∙ ap negate e) ∙ plus-comm (infinite (not s)) (decode F y)
+        ∙ infinite-sum (not s) (decode F y) n (rw (Bool·not-not s) o))),
   ),
   λ t b h.
       let p = infinite-product s (decode F y) t b h in

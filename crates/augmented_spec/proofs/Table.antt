@@ -1,4 +1,4 @@
--- Document 01's eleven cases, by computation.
+-- The eleven cases of the table, by computation.
 use mathlib.Core.Path.{refl}
 use lib.Ieee.{size}
 use Rattle.rounding_spec.specs.Round.{keep, lastPlace}

@@ -22,13 +22,13 @@ use Rattle.rounding_spec.proofs.RoundValue.{round-below}
 use Rattle.pattern_spec.specs.Exact.{plusFinite, plus, finer}
 use Rattle.pattern_spec.specs.declared.Class.{Class}
 use Rattle.pattern_spec.specs.declared.Class.the-variants.{Finite}
-use Rattle.pattern_spec.specs.Classes.{classOf, valueOf, Operand, Below}
+use Rattle.pattern_spec.specs.Classes.{classOf, valueOf, zeroPattern}
+use Rattle.pattern_spec.specs.Inner.{Operand, Below}
 use Rattle.pattern_spec.proofs.Classified.{class-value, class-operand}
 use Rattle.pattern_spec.proofs.Exacts.{Sum, near-exact}
 use Rattle.pattern_spec.proofs.Far.{far-below, far-sum}
 use Rattle.pattern_spec.proofs.Sums.{like?, like-eq, sum-same, sum-left, finer-sum}
 use Rattle.augmented_spec.specs.Pairs.{zeroTakes, secondOf, pairOf, exactSum}
-use Rattle.augmented_spec.specs.Half.{zeroPattern}
 use Rattle.augmented_spec.specs.Inner.{join, Apart}
 use Rattle.augmented_spec.proofs.Patterns.{zero-pattern}
 use Rattle.augmented_spec.proofs.Second.{second-is, side, unlike-true, unlike-false}
@@ -36,7 +36,8 @@ use Rattle.augmented_spec.proofs.Second.{second-is, side, unlike-true, 
 -- a number of the format is its own rounding
 own-rounding : (F : Format) (q : Bool) (b : ℕ) → Rep (suc (F .fraction)) (low F) (b * 2 ^ low F) → b < limit F → roundFinite ToZero F q (b * 2 ^ low F) ≡ finite q b
 own-rounding F q b r h =
-    let e : rounded ToZero (F .fraction) (low F) (b * 2 ^ low F) ≡ b = eq-of-mul-eq-mul-right (2 ^ low F) (pow-pos (low F)) (rounded ToZero (F .fraction) (low F) (b * 2 ^ low F)) b (rounded-exact ToZero (F .fraction) (low F) (b * 2 ^ low F) r) in
+    let e : rounded ToZero (F .fraction) (low F) (b * 2 ^ low F) ≡ b =
+    eq-of-mul-eq-mul-right (2 ^ low F) (pow-pos (low F)) (rounded ToZero (F .fraction) (low F) (b * 2 ^ low F)) b (rounded-exact ToZero (F .fraction) (low F) (b * 2 ^ low F) r) in
     round-below ToZero F q (b * 2 ^ low F) (le-trans (le-of-eq (ap suc e)) h) ∙ ap (finite q) e
 
 zero-takes-any : (s q t : Bool) (b : ℕ) → b ≡ 0 → zeroTakes s (finite q b) ≡ zeroTakes s (finite t b)
@@ -64,7 +65,8 @@ module _ (F : Format) (s : Bool) (a : ℕ) (t : Bool) (b : ℕ) (below : b < a) 
       ∙ ap (zeroTakes s) (own-rounding F (side F s N a) b rep fits)
       ∙ elim (decLe b 0) [
         | yes h ↦ zero-takes-any s (side F s N a) t b (omega arith)
-        | no h ↦ ap (λ (r : Bool). zeroTakes s (finite r b)) (q (le-trans (le-of-eq (ap suc (sym (zero-mul (2 ^ low F))))) (mul-lt-mul-of-pos-right (let z : 0 < b = omega arith in z) (pow-pos (low F)))))
+        | no h ↦ ap (λ (r : Bool). zeroTakes s (finite r b)) (q (le-trans (le-of-eq (ap suc (sym (zero-mul (2 ^ low F)))))
+            (mul-lt-mul-of-pos-right (let z : 0 < b = omega arith in z) (pow-pos (low F)))))
       ]
 
   pub apart-second : secondOf F (finer F (plus (finite s a) (finite t b))) (finite s a) ≡ zeroTakes s (finite t b)
@@ -102,7 +104,8 @@ apart-word p q hp hq k =
     let b = k .n * 2 ^ k .d in
     let exact = exactSum binary32 p q in
     let same : exact ≡ finer binary32 (plus (finite (k .s) a) (finite (k .t) b)) = ap (finer binary32) (ap₂ plus (k .left) (k .right)) in
-    let first : pairOf binary32 exact .first ≡ finite (k .s) a = ap (round ToZero binary32) same ∙ far-sum ToZero (k .s) (k .m) (k .e) (k .t) (k .n) (k .d) (k .operands .0) (k .operands .1) (k .far) in
+    let first : pairOf binary32 exact .first ≡ finite (k .s) a = ap (round ToZero binary32) same
+    ∙ far-sum ToZero (k .s) (k .m) (k .e) (k .t) (k .n) (k .d) (k .operands .0) (k .operands .1) (k .far) in
     let fits : Rep 24 0 b × (b < limit binary32) = rw (k .right) at (decode-fits binary32 (omega arith) q) in
     let second : pairOf binary32 exact .second ≡ zeroTakes (k .s) (finite (k .t) b) =
     ap₂ (secondOf binary32) same first

@@ -1,4 +1,4 @@
--- Document 01's table, "Cases to be proved", and the theorem over all its rows, `Table`: `proofs/Theorems.antt` has its proof, `table`.
+-- The table of cases (R10), and the theorem over all its rows, `Table`: `proofs/Theorems.antt` has its proof, `table`.
 use Prim.Native.Nat.{ℕ}
 use mathlib.Core.Path.{_≡_}
 use mathlib.Core.List.{List, [], _∷_}

@@ -1,8 +1,9 @@
--- The direct pair of any operation, and the flag sets that occur, for statements about all of them.
-use Prim.Native.Nat.{ℕ}
+-- The direct pair of any operation, its exact result, and the flag sets that occur, for statements about all of them.
+use Prim.Native.Nat.{ℕ, _^_}
 use mathlib.Core.Bool.{Bool, true, false, cond, _&&_}
 use lib.Dec.{eqb, leb}
-use Rattle.rounding_spec.specs.Format.{Format}
+use lib.IntN.{ℤ, pos, _+ℤ_, _-ℤ_, _*ℤ_}
+use Rattle.rounding_spec.specs.Format.{Format, low}
 use Rattle.augmented_spec.specs.declared.Flags.{Flags}
 use Rattle.augmented_spec.specs.declared.Pair.{Pair}
 use Rattle.augmented_spec.specs.Pairs.{sumPair, differencePair, productPair}
@@ -24,14 +25,20 @@ operationNumber product = 3
 abbrev pub operationOf : ℕ → Operation
 operationOf n = cond (eqb n 1) sum (cond (eqb n 2) difference product)
 
--- document 01's "direct pair"
+-- R3.1, R3.5, R3.2
 unfoldable pub directPair : Operation → Format → ℕ → ℕ → Pair
 unfolding sumPair differencePair productPair
 directPair sum = sumPair
 directPair difference = differencePair
 directPair product = productPair
 
--- `-` ("None otherwise."), I, OX and UX
+-- the exact result of two finite operands, which count u, in u * u
+abbrev pub exactResult : Operation → Format → ℤ → ℤ → ℤ
+exactResult sum F X Y = (X +ℤ Y) *ℤ pos (2 ^ low F)
+exactResult difference F X Y = (X -ℤ Y) *ℤ pos (2 ^ low F)
+exactResult product F X Y = X *ℤ Y
+
+-- R4.5: -, I, OX and UX
 abbrev pub none : Flags
 none = record { invalid = false; overflow = false; underflow = false; inexact = false }
 

@@ -1,4 +1,4 @@
--- What the functions below `augmented` promise each other. No contract of `augmented` cites it.
+-- What the functions below `augmented` promise each other. No contract of `augmented`'s entry points cites it.
 use Prim.Native.Nat.{ℕ, _+_, _*_, _^_, _≤_, _<_}
 use mathlib.Core.Path.{_≡_}
 use mathlib.Core.Bool.{Bool, false}
@@ -6,18 +6,38 @@ use Rattle.rounding_spec.specs.declared.Ties.the-variants.{ToZero}
 use Rattle.rounding_spec.specs.Format.{binary32}
 use Rattle.rounding_spec.specs.Round.{leftOver}
 use Rattle.rounding_spec.specs.Value.{finite, decode, encode, isInfinite}
-use Rattle.pattern_spec.specs.Classes.{Operand}
+use Rattle.pattern_spec.specs.Inner.{Operand}
+use Rattle.augmented_spec.specs.declared.Flags.{Flags}
 use Rattle.augmented_spec.specs.declared.Pair.{Pair}
-use Rattle.augmented_spec.specs.Pairs.{Halves, flagsOf}
+use Rattle.augmented_spec.specs.Pairs.{Halves, pairOf, invalid, overflowed, underflowed, flagsOf}
 
 -- both patterns in one word
 abbrev pub join : Halves → ℕ
 join p = encode binary32 (p .first) + encode binary32 (p .second) * 2 ^ 32
 
--- the answer of finite operands
-abbrev pub finitePair : Halves → Bool → Pair
-finitePair p u = record { first = encode binary32 (p .first); second = encode binary32 (p .second); flags = flagsOf false (isInfinite (p .first)) u }
+-- ---- answers
+-- the flags of two operands whose first has the pattern c, but for U
+abbrev pub flagsWithoutU : ℕ → ℕ → ℕ → Flags
+flagsWithoutU x y c = flagsOf (invalid binary32 x y (decode binary32 c)) (overflowed binary32 x y (decode binary32 c)) false
 
+-- two patterns as a pair with these flags
+abbrev pub pairWithoutU : ℕ → ℕ → ℕ → ℕ → Pair
+pairWithoutU x y c d = record { first = c; second = d; flags = flagsWithoutU x y c }
+
+-- the answer of finite operands
+abbrev pub finiteAnswer : Halves → Bool → Pair
+finiteAnswer p u =
+    record {
+      first = encode binary32 (p .first);
+      second = encode binary32 (p .second);
+      flags = flagsOf false (isInfinite (p .first)) u;
+    }
+
+-- the answer of finite operands whose product is N with the sign s, in u * u
+abbrev pub productAnswer : Bool → ℕ → Pair
+productAnswer s N = let p = pairOf binary32 (finite s N) in finiteAnswer p (underflowed binary32 (finite s N) p)
+
+-- ---- exact results that need no second rounding
 -- what rounding leaves of m * 2 ^ e has at most 24 digits, and none below u
 pub record ShortRest (m e : ℕ) : Type 0 where
   pub unit : 149 ≤ e

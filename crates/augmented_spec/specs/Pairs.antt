@@ -1,4 +1,4 @@
--- Pairs and flags of two patterns (document 01, "Pairs" and "Flags"), in any format.
+-- Pairs and flags of two patterns (R3, R4), in any format.
 -- An exact result counts u * u, as everything that is rounded does; the halves of a pair count u.
 use Prim.Native.Nat.{ℕ}
 use mathlib.Core.Bool.{Bool, false, not, cond, _&&_, _||_}
@@ -12,44 +12,44 @@ use Rattle.pattern_spec.specs.Classes.{flip}
 use Rattle.augmented_spec.specs.declared.Flags.{Flags}
 use Rattle.augmented_spec.specs.declared.Pair.{Pair}
 
--- ---- "Pairs", on values
+-- ---- pairs, on values
 pub record Halves : Type 0 where
   pub first : Value
   pub second : Value
 
--- "the exact rest": what is left of an exact result when a half is taken from it, in u * u as the exact result
+-- what is left of an exact result when a half is taken from it, in u * u as the exact result
 unfoldable pub rest : Format → Value → Value → Value
 unfolding plus negate finer
 rest F exact half = plus exact (negate (finer F half))
 
--- "A zero second takes first's sign": s, even where the rest was not zero and had the other sign. 3F7FFFFF times 00000001 is
--- 00000001 and +0, though the rest is negative.
+-- R3.3: a zero has the sign s, even where the rest was not zero and had the other sign. 3F7FFFFF times 00000001 is 00000001 and +0,
+-- though the rest is negative.
 unfoldable pub zeroTakes : Bool → Value → Value
 zeroTakes s nan = nan
 zeroTakes s (infinite r) = infinite r
 zeroTakes s (finite r a) = finite (cond (eqb a 0) s r) a
 
--- "second = RN0(xy - first)"; in a sum "the exact rest", which is its own RN0 (`SumAddsUp` of Theorems).
--- "If first is infinite, second equals it. If first is NaN .. both are 7FC00000."
+-- R3.2: RN0 of the rest; in a sum that is the rest itself (R3.1; `SumAddsUp` of Theorems). An infinite or NaN first stands in second
+-- again (R3.6, R3.7).
 unfoldable pub secondOf : Format → Value → Value → Value
 unfolding rest zeroTakes round
 secondOf F exact (finite s a) = zeroTakes s (RN0 F (rest F exact (finite s a)))
 secondOf F exact (infinite s) = infinite s
 secondOf F exact nan = nan
 
--- The pair of an exact result: "first = RN0(x + y)", "first = RN0(xy)". An exact zero has its sign already ("first's zero follows the
--- steps' zero rule"), which RN0 keeps; a first that is rounded to zero keeps the exact value's sign.
+-- The pair of an exact result: first is its RN0 (R3.1, R3.2). An exact zero has its sign already, which RN0 keeps; a first that is
+-- rounded to zero keeps the exact value's sign (R3.4).
 unfoldable pub pairOf : Format → Value → Halves
 unfolding secondOf round
 pairOf F exact = let first = RN0 F exact in record { first = first; second = secondOf F exact first }
 
--- ---- "Flags"; how they are handed back is free: as four truth values, in the order I O U X
--- "I: a signalling operand, or NaN from operands that are not NaN."
+-- ---- flags: four truth values, in the order I O U X (R4.1)
+-- I (R4.2): a signalling operand, or a NaN first where no operand is NaN
 unfoldable pub invalid : Format → ℕ → ℕ → Value → Bool
 unfolding signalling decode
 invalid F x y first = signalling F x || signalling F y || (isNaN first && not (isNaN (decode F x)) && not (isNaN (decode F y)))
 
--- "O and X: infinite first from finite operands."
+-- O (R4.3): an infinite first where both operands are finite
 unfoldable pub overflowed : Format → ℕ → ℕ → Value → Bool
 unfolding decode
 overflowed F x y first = isInfinite first && isFinite (decode F x) && isFinite (decode F y)
@@ -59,14 +59,20 @@ unfoldable pub addsUp : Format → Value → Halves → Bool
 unfolding rest
 addsUp F exact p = isZero (rest F (rest F exact (p .first)) (p .second))
 
--- "U and X: a finite product pair that does not add up to the exact product."
+-- U (R4.4), of a product: both halves are finite and do not add up to it
 unfoldable pub underflowed : Format → Value → Halves → Bool
 unfolding addsUp
 underflowed F exact p = isFinite (p .first) && isFinite (p .second) && not (addsUp F exact p)
 
 -- the flags from I, O and U: X is raised with O and with U, and never alone
 abbrev pub flagsOf : Bool → Bool → Bool → Flags
-flagsOf isInvalid isOverflow isUnderflow = record { invalid = isInvalid; overflow = isOverflow; underflow = isUnderflow; inexact = isOverflow || isUnderflow }
+flagsOf isInvalid isOverflow isUnderflow =
+    record {
+      invalid = isInvalid;
+      overflow = isOverflow;
+      underflow = isUnderflow;
+      inexact = isOverflow || isUnderflow;
+    }
 
 -- ---- of two patterns
 -- the patterns of a pair, with the flags; `underflow` says whether U is raised
@@ -79,7 +85,7 @@ answer F x y p underflow =
       flags = flagsOf (invalid F x y (p .first)) (overflowed F x y (p .first)) underflow;
     }
 
--- "The sum pair is first = RN0(x + y), second = the exact rest." Operands and their sum count u.
+-- R3.1: operands and their sum count u
 abbrev pub exactSum : Format → ℕ → ℕ → Value
 exactSum F x y = finer F (plus (decode F x) (decode F y))
 
@@ -87,12 +93,12 @@ unfoldable pub sumPair : Format → ℕ → ℕ → Pair
 unfolding answer pairOf
 sumPair F x y = answer F x y (pairOf F (exactSum F x y)) false
 
--- "A difference is the sum with y's sign bit flipped, NaN included."
+-- R3.5
 unfoldable pub differencePair : Format → ℕ → ℕ → Pair
 unfolding sumPair
 differencePair F x y = sumPair F x (flip F y)
 
--- "The product pair is first = RN0(xy), second = RN0(xy - first)." A product of operands counts u * u.
+-- R3.2: a product of operands counts u * u
 abbrev pub exactProduct : Format → ℕ → ℕ → Value
 exactProduct F x y = times (decode F x) (decode F y)
 

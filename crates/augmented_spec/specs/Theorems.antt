@@ -1,4 +1,4 @@
--- What is proved of pairs and flags, beside the contracts. Each name is a statement; `proofs/Theorems.antt` has its proof.
+-- What is proved of pairs and flags, beside the contracts. A name of type `Type 0` is a statement; `proofs/Theorems.antt` has its proof.
 -- E counts u * u, so that sums, differences and products read alike; the magnitudes of halves and operands count u. `finerInt` takes the
 -- second unit to the first.
 use mathlib.Core.Path.{_≡_}
@@ -18,14 +18,10 @@ use Rattle.augmented_spec.specs.declared.Flags.{Flags}
 use Rattle.augmented_spec.specs.declared.Pair.{Pair}
 use Rattle.augmented_spec.specs.Pairs.{sumPair, differencePair, productPair}
 use Rattle.augmented_spec.specs.Cases.{Table}
-use Rattle.augmented_spec.specs.Direct.{Operation, sum, difference, product, directPair, none, I, OX, UX}
+use Rattle.augmented_spec.specs.Direct.{Operation, sum, difference, product, directPair, exactResult, none, I, OX, UX}
 
--- ---- the exact number of an operation on finite operands, signs and magnitudes in u, and the sign that an exact zero takes
-abbrev pub exactly : Operation → Format → Bool → ℕ → Bool → ℕ → ℤ
-exactly sum F s a t b = (int s a +ℤ int t b) *ℤ pos (2 ^ low F)
-exactly difference F s a t b = (int s a -ℤ int t b) *ℤ pos (2 ^ low F)
-exactly product F s a t b = int s a *ℤ int t b
-
+-- ---- what the statements are about
+-- the sign that an exact zero takes (R3.4)
 abbrev pub zeroSign : Operation → Bool → Bool → Bool
 zeroSign sum s t = s && t
 zeroSign difference s t = s && not t
@@ -48,73 +44,91 @@ pub record FiniteOperands (o : Operation) (F : Format) (E : ℤ) (z : Bool) (p :
   pub b : ℕ
   pub left : decode F x ≡ finite s a
   pub right : decode F y ≡ finite t b
-  pub exact : E ≡ exactly o F s a t b
+  pub exact : E ≡ exactResult o F (int s a) (int t b)
   pub zero : z ≡ zeroSign o s t
   pub pair : p ≡ directPair o F x y
 
 -- every two finite patterns of binary32 are such operands, in each operation: what follows is said of all of them
 abbrev pub EveryFinite : Type 0
 EveryFinite =
-    (o : Operation) (x y : ℕ) (s : Bool) (a : ℕ) (t : Bool) (b : ℕ) → y < 2 ^ 32 → decode binary32 x ≡ finite s a → decode binary32 y ≡ finite t b
-    → FiniteOperands o binary32 (exactly o binary32 s a t b) (zeroSign o s t) (directPair o binary32 x y)
+    (o : Operation) (x y : ℕ) (s : Bool) (a : ℕ) (t : Bool) (b : ℕ) → y < 2 ^ 32 → decode binary32 x ≡ finite s a
+    → decode binary32 y ≡ finite t b
+    → FiniteOperands o binary32 (exactResult o binary32 (int s a) (int t b)) (zeroSign o s t) (directPair o binary32 x y)
 
 -- and their pairs are those of the contracts
 abbrev pub DirectPairs : Type 0
 DirectPairs = (directPair sum ≡ sumPair) × (directPair difference ≡ differencePair) × (directPair product ≡ productPair)
 
 -- ---- first
--- "first = RN0(..)": the exact number, rounded once; "first's zero follows the steps' zero rule"
+-- the exact number, rounded once (R3.1, R3.2); a zero has the sign of R3.4
 abbrev pub FirstRounded : Type 0
-FirstRounded = (o : Operation) (F : Format) (E : ℤ) (z : Bool) (p : Pair) → FiniteOperands o F E z p
+FirstRounded =
+    (o : Operation) (F : Format) (E : ℤ) (z : Bool) (p : Pair) → FiniteOperands o F E z p
     → (r : Bool) × (N : ℕ) × (int r N ≡ E) × (N ≡ 0 → r ≡ z) × (decode F (p .first) ≡ roundFinite ToZero F r N)
 
 -- no finite pattern is nearer; of those that are equally near, the smaller magnitude
 abbrev pub FirstNearest : Type 0
-FirstNearest = (o : Operation) (F : Format) (E : ℤ) (z : Bool) (p : Pair) → FiniteOperands o F E z p → (q : Bool) (c : ℕ) → decode F (p .first) ≡ finite q c
+FirstNearest =
+    (o : Operation) (F : Format) (E : ℤ) (z : Bool) (p : Pair) → FiniteOperands o F E z p → (q : Bool) (c : ℕ)
+    → decode F (p .first) ≡ finite q c
     → (w : ℕ) (r : Bool) (b : ℕ) → decode F w ≡ finite r b
     → (natAbs (finerInt F q c -ℤ E) ≤ natAbs (finerInt F r b -ℤ E)) × (natAbs (finerInt F r b -ℤ E) ≡ natAbs (finerInt F q c -ℤ E) → c ≤ b)
 
--- infinite, with E's sign, exactly where |E| is strictly above the edge (in u * u), 2 ^ 128 - 2 ^ 103 in binary32; at the edge itself it is finite
+-- infinite, with E's sign, exactly where |E| is strictly above the edge (in u * u), 2 ^ 128 - 2 ^ 103 in binary32; at the edge itself it
+-- is finite
 abbrev pub Overflow : Type 0
-Overflow = (o : Operation) (F : Format) (E : ℤ) (z : Bool) (p : Pair) → FiniteOperands o F E z p
+Overflow =
+    (o : Operation) (F : Format) (E : ℤ) (z : Bool) (p : Pair) → FiniteOperands o F E z p
     → (edge F < natAbs E → (r : Bool) × (decode F (p .first) ≡ infinite r) × (int r (natAbs E) ≡ E))
     × (natAbs E ≤ edge F → (r : Bool) × (c : ℕ) × (decode F (p .first) ≡ finite r c))
 
 -- ---- second
--- "second = RN0(xy - first)": the exact rest, rounded once; "A zero second takes first's sign."
+-- the exact rest, rounded once (R3.2); a zero has first's sign (R3.3)
 abbrev pub SecondRounded : Type 0
-SecondRounded = (o : Operation) (F : Format) (E : ℤ) (z : Bool) (p : Pair) → FiniteOperands o F E z p → (q : Bool) (c : ℕ) → decode F (p .first) ≡ finite q c
-    → (r : Bool) × (N : ℕ) × (d : ℕ) × (int r N ≡ E -ℤ finerInt F q c) × (roundFinite ToZero F r N ≡ finite r d) × (decode F (p .second) ≡ finite (cond (eqb d 0) q r) d)
+SecondRounded =
+    (o : Operation) (F : Format) (E : ℤ) (z : Bool) (p : Pair) → FiniteOperands o F E z p → (q : Bool) (c : ℕ)
+    → decode F (p .first) ≡ finite q c
+    → (r : Bool) × (N : ℕ) × (d : ℕ) × (int r N ≡ E -ℤ finerInt F q c) × (roundFinite ToZero F r N ≡ finite r d)
+    × (decode F (p .second) ≡ finite (cond (eqb d 0) q r) d)
 
 -- no finite pattern is nearer to the exact rest, E less first; of those that are equally near, the smaller magnitude
 abbrev pub SecondNearest : Type 0
-SecondNearest = (o : Operation) (F : Format) (E : ℤ) (z : Bool) (p : Pair) → FiniteOperands o F E z p → (q : Bool) (c : ℕ) → decode F (p .first) ≡ finite q c
+SecondNearest =
+    (o : Operation) (F : Format) (E : ℤ) (z : Bool) (p : Pair) → FiniteOperands o F E z p → (q : Bool) (c : ℕ)
+    → decode F (p .first) ≡ finite q c
     → (t : Bool) (d : ℕ) → decode F (p .second) ≡ finite t d → (w : ℕ) (r : Bool) (b : ℕ) → decode F w ≡ finite r b
     → let rest = E -ℤ finerInt F q c in
-    (natAbs (finerInt F t d -ℤ rest) ≤ natAbs (finerInt F r b -ℤ rest)) × (natAbs (finerInt F r b -ℤ rest) ≡ natAbs (finerInt F t d -ℤ rest) → d ≤ b)
+    (natAbs (finerInt F t d -ℤ rest) ≤ natAbs (finerInt F r b -ℤ rest))
+    × (natAbs (finerInt F r b -ℤ rest) ≡ natAbs (finerInt F t d -ℤ rest) → d ≤ b)
 
 -- second is at most half a unit in first's last place (both in u; so a zero first has a zero second)
 abbrev pub HalfUnit : Type 0
-HalfUnit = (o : Operation) (F : Format) (E : ℤ) (z : Bool) (p : Pair) → FiniteOperands o F E z p → (q : Bool) (c : ℕ) → decode F (p .first) ≡ finite q c
+HalfUnit =
+    (o : Operation) (F : Format) (E : ℤ) (z : Bool) (p : Pair) → FiniteOperands o F E z p → (q : Bool) (c : ℕ)
+    → decode F (p .first) ≡ finite q c
     → (r : Bool) × (d : ℕ) × (decode F (p .second) ≡ finite r d) × (2 * d ≤ 2 ^ lastPlace (F .fraction) 0 c)
 
 -- ---- what a finite pair adds up to
--- "second = the exact rest": a finite sum or difference pair adds up, always
+-- a finite sum or difference pair adds up, always (R3.1)
 abbrev pub SumAddsUp : Type 0
-SumAddsUp = (o : Operation) (F : Format) (E : ℤ) (z : Bool) (p : Pair) → o ≢ product → FiniteOperands o F E z p → (q : Bool) (c : ℕ) → decode F (p .first) ≡ finite q c
+SumAddsUp =
+    (o : Operation) (F : Format) (E : ℤ) (z : Bool) (p : Pair) → o ≢ product → FiniteOperands o F E z p → (q : Bool) (c : ℕ)
+    → decode F (p .first) ≡ finite q c
     → (r : Bool) × (d : ℕ) × (decode F (p .second) ≡ finite r d) × (finerInt F q c +ℤ finerInt F r d ≡ E)
 
 -- a finite product pair without X adds up, and U and X are raised exactly when it does not
 abbrev pub ProductAddsUp : Type 0
-ProductAddsUp = (F : Format) (E : ℤ) (z : Bool) (p : Pair) → FiniteOperands product F E z p → (q : Bool) (c : ℕ) → decode F (p .first) ≡ finite q c
+ProductAddsUp =
+    (F : Format) (E : ℤ) (z : Bool) (p : Pair) → FiniteOperands product F E z p → (q : Bool) (c : ℕ) → decode F (p .first) ≡ finite q c
     → (r : Bool) × (d : ℕ) × (decode F (p .second) ≡ finite r d) × (p .flags .underflow ≡ p .flags .inexact)
     × (p .flags .inexact ≡ false → finerInt F q c +ℤ finerInt F r d ≡ E) × (p .flags .inexact ≡ true → finerInt F q c +ℤ finerInt F r d ≢ E)
 
 -- ---- flags of finite operands
--- "O and X: infinite first from finite operands. U and X: a finite product pair that does not add up to the exact product. None otherwise."
+-- R4.3 to R4.5: OX where first overflows; otherwise none, but UX of a product that is not met.
 -- Which of the two a finite product pair has, `ProductAddsUp` says.
 abbrev pub FlagsOfFinite : Type 0
-FlagsOfFinite = (o : Operation) (F : Format) (E : ℤ) (z : Bool) (p : Pair) → FiniteOperands o F E z p
+FlagsOfFinite =
+    (o : Operation) (F : Format) (E : ℤ) (z : Bool) (p : Pair) → FiniteOperands o F E z p
     → (edge F < natAbs E → p .flags ≡ OX) × (natAbs E ≤ edge F → o ≢ product → p .flags ≡ none)
     × (natAbs E ≤ edge F → (p .flags ≡ none) ⊎ (p .flags ≡ UX))
 
@@ -123,51 +137,65 @@ FlagsOfFinite = (o : Operation) (F : Format) (E : ℤ) (z : Bool) (p : Pair) →
 abbrev pub Twice : Pair → ℕ → Flags → Type 0
 Twice p a f = p ≡ record { first = a; second = a; flags = f }
 
--- "If first is NaN (a NaN operand, opposite infinities, zero times infinity), both are 7FC00000."
--- "I: a signalling operand, or NaN from operands that are not NaN."
+-- NaN twice (R3.7), and I where an operand is signalling or none is NaN (R4.2): of a NaN operand, of opposite infinities, of zero times
+-- infinity
 abbrev pub NaNOperand : Type 0
-NaNOperand = (o : Operation) (F : Format) → Proper F → (x y : ℕ) → y < 2 * signBit F → (decode F x ≡ nan) ⊎ (decode F y ≡ nan)
+NaNOperand =
+    (o : Operation) (F : Format) → Proper F → (x y : ℕ) → y < 2 * signBit F → (decode F x ≡ nan) ⊎ (decode F y ≡ nan)
     → Twice (directPair o F x y) (nanOf F (x ∷ y ∷ [])) (cond (signalling F x || signalling F y) I none)
 
 abbrev pub OppositeInfinities : Type 0
-OppositeInfinities = (F : Format) (x y : ℕ) → y < 2 * signBit F → (s : Bool) → decode F x ≡ infinite s
+OppositeInfinities =
+    (F : Format) (x y : ℕ) → y < 2 * signBit F → (s : Bool) → decode F x ≡ infinite s
     → (decode F y ≡ infinite (not s) → Twice (directPair sum F x y) (nanOf F (x ∷ y ∷ [])) I)
     × (decode F y ≡ infinite s → Twice (directPair difference F x y) (nanOf F (x ∷ y ∷ [])) I)
 
 -- in both orders
 abbrev pub ZeroTimesInfinity : Type 0
-ZeroTimesInfinity = (F : Format) (x y : ℕ) (s t : Bool) → decode F x ≡ finite s 0 → decode F y ≡ infinite t
+ZeroTimesInfinity =
+    (F : Format) (x y : ℕ) (s t : Bool) → decode F x ≡ finite s 0 → decode F y ≡ infinite t
     → Twice (directPair product F x y) (nanOf F (x ∷ y ∷ [])) I × Twice (directPair product F y x) (nanOf F (y ∷ x ∷ [])) I
 
--- "infinities as in IEEE 754-2019": every other infinite operand x, on either side. An infinite addend gives its sign, flipped on the right
+-- R2.3: every other infinite operand x, on either side. An infinite addend gives its sign, flipped on the right
 -- of a difference; an infinite factor, times an infinity or a number that is not zero, the product of signs.
 abbrev pub InfiniteOperand : Type 0
-InfiniteOperand = (F : Format) (x y : ℕ) → x < 2 * signBit F → y < 2 * signBit F → (s : Bool) → decode F x ≡ infinite s → decode F y ≢ nan
+InfiniteOperand =
+    (F : Format) (x y : ℕ) → x < 2 * signBit F → y < 2 * signBit F → (s : Bool) → decode F x ≡ infinite s → decode F y ≢ nan
     → let infinityOf : Bool → ℕ = λ r. signed F r (infinity F) in
     (decode F y ≢ infinite (not s) → Twice (directPair sum F x y) (infinityOf s) none × Twice (directPair sum F y x) (infinityOf s) none)
-    × (decode F y ≢ infinite s → Twice (directPair difference F x y) (infinityOf s) none × Twice (directPair difference F y x) (infinityOf (not s)) none)
+    × (decode F y ≢ infinite s → Twice (directPair difference F x y) (infinityOf s) none
+    × Twice (directPair difference F y x) (infinityOf (not s)) none)
     × ((t : Bool) (b : ℕ) → (decode F y ≡ infinite t) ⊎ ((decode F y ≡ finite t b) × (b ≢ 0))
     → Twice (directPair product F x y) (infinityOf (unlike s t)) none × Twice (directPair product F y x) (infinityOf (unlike s t)) none)
 
 -- ---- all patterns
 -- only the flag sets -, I, OX and UX
 abbrev pub FlagSets : Type 0
-FlagSets = (o : Operation) (F : Format) (x y : ℕ)
+FlagSets =
+    (o : Operation) (F : Format) (x y : ℕ)
     → let f = directPair o F x y .flags in (f ≡ none) ⊎ ((f ≡ I) ⊎ ((f ≡ OX) ⊎ (f ≡ UX)))
 
--- "If first is infinite, second equals it."
+-- R3.6
 abbrev pub InfiniteTwice : Type 0
-InfiniteTwice = (o : Operation) (F : Format) → Proper F → (x y : ℕ) (s : Bool) → decode F (directPair o F x y .first) ≡ infinite s → directPair o F x y .second ≡ directPair o F x y .first
+InfiniteTwice =
+    (o : Operation) (F : Format) → Proper F → (x y : ℕ) (s : Bool) → decode F (directPair o F x y .first) ≡ infinite s
+    → directPair o F x y .second ≡ directPair o F x y .first
 
--- "If first is NaN .. both are 7FC00000."
+-- R3.7
 abbrev pub NaNTwice : Type 0
-NaNTwice = (o : Operation) (x y : ℕ) → let p = directPair o binary32 x y in
+NaNTwice =
+    (o : Operation) (x y : ℕ) → let p = directPair o binary32 x y in
     decode binary32 (p .first) ≡ nan → (p .first ≡ 0x7fc0_0000) × (p .second ≡ 0x7fc0_0000)
 
 -- both halves are patterns of the format: 32 bits wide in binary32
 abbrev pub PatternWidth : Type 0
-PatternWidth = (o : Operation) (F : Format) → Proper F → (x y : ℕ) → (directPair o F x y .first < 2 * signBit F) × (directPair o F x y .second < 2 * signBit F)
+PatternWidth =
+    (o : Operation) (F : Format) → Proper F → (x y : ℕ) → (directPair o F x y .first < 2 * signBit F)
+    × (directPair o F x y .second < 2 * signBit F)
 
--- all of them, and document 01's table: `proofs/Theorems.antt` proves this
+-- ---- all of them, and the table of cases: `proofs/Theorems.antt` proves this
 abbrev pub All : Type 0
-All = EveryFinite × DirectPairs × FirstRounded × FirstNearest × Overflow × SecondRounded × SecondNearest × HalfUnit × SumAddsUp × ProductAddsUp × FlagsOfFinite × NaNOperand × OppositeInfinities × ZeroTimesInfinity × InfiniteOperand × FlagSets × InfiniteTwice × NaNTwice × PatternWidth × Table
+All =
+    EveryFinite × DirectPairs × FirstRounded × FirstNearest × Overflow × SecondRounded × SecondNearest × HalfUnit × SumAddsUp
+    × ProductAddsUp × FlagsOfFinite × NaNOperand × OppositeInfinities × ZeroTimesInfinity × InfiniteOperand × FlagSets × InfiniteTwice
+    × NaNTwice × PatternWidth × Table

@@ -1,6 +1,6 @@
 // A pair with its flags, as the code hands it back.
 
-// Document 01's I, O, U and X.
+// I, O, U and X.
 #[repr(C)]
 pub struct Flags {
     pub invalid: bool,

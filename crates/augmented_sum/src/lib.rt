@@ -1,24 +1,24 @@
 // Both halves of a sum. They come back in one word, which goes in a register; what is large here is compiled once for sums and differences.
-use augmented_pack::is_infinite;
 use augmented_pack::joined;
-use augmented_pack::packed;
-use augmented_pack::zero_takes;
+use augmented_pack::rest_pattern;
 use choose::choose_exponent;
 use choose::choose_pattern;
 use pattern::classify;
+use pattern::is_infinite;
 use pattern::larger;
 use pattern::smaller;
+use pattern::zero_takes;
 use pattern_spec::Class;
 use rounding::round_with_rest;
 use rounding_spec::Ties;
 ghost use mathlib.Core.Path.{_≡_};
-ghost use mathlib.Core.Bool.{true, false};
+ghost use mathlib.Core.Bool.{false};
 ghost use Prim.Native.Nat.{_*_, _^_};
 ghost use Rattle.rounding_spec.specs.Format.{binary32};
 ghost use Rattle.rounding_spec.specs.Value.{finite, decode, isFinite};
-ghost use Rattle.pattern_spec.specs.Classes.{classOf, Operand, Below};
-ghost use Rattle.augmented_spec.specs.Pairs.{pairOf, invalid, overflowed, flagsOf, exactSum};
-ghost use Rattle.augmented_spec.specs.Direct.{none};
+ghost use Rattle.pattern_spec.specs.Classes.{classOf};
+ghost use Rattle.pattern_spec.specs.Inner.{Operand, Below};
+ghost use Rattle.augmented_spec.specs.Pairs.{pairOf, exactSum};
 ghost use Rattle.augmented_spec.specs.Inner.{join, Apart, ShortRest};
 
 // The larger magnitude comes first, whose exponent then is not below the other's.
@@ -91,6 +91,6 @@ fn near(sign: bool, sig: u64, exp: u16) -> u64
     let over = is_infinite(first.pattern);
     // The rest of an infinite first is not used, and has to stay in range.
     let unit = choose_exponent(over, 0, exp - 149);
-    let second = packed(sign, first.up, first.rest, unit);
+    let second = rest_pattern(sign, first.up, first.rest, unit);
     joined(first.pattern, choose_pattern(over, first.pattern, second))
 }

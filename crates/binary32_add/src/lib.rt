@@ -14,10 +14,9 @@ ghost use Rattle.rounding_spec.specs.Format.{binary32};
 ghost use Rattle.rounding_spec.specs.Value.{infinite, finite, decode, encode, round};
 ghost use Rattle.pattern_spec.specs.Exact.{plusFinite, plus};
 ghost use Rattle.binary32_spec.specs.Steps.{addValue};
-ghost use Rattle.pattern_spec.specs.Classes.{valueOf, Operand, Below, Descending};
-ghost use Rattle.pattern_spec.specs.Unrounded.{Bounded};
+ghost use Rattle.pattern_spec.specs.Classes.{valueOf};
+ghost use Rattle.pattern_spec.specs.Inner.{Operand, Below, Descending, Bounded};
 
-// The sum of two patterns.
 pub fn of_patterns(x: u32, y: u32) -> u32
     ensures { λ r. ⌜ r ≡ encode binary32 (addValue binary32 (decode binary32 x) (decode binary32 y)) ⌝ }
 {
@@ -73,7 +72,8 @@ fn finite_plus(s: bool, m: u64, e: u16, b: Class) -> u32
     }
 }
 
-// From 26 places on the second operand does not reach a quarter of the first one's last place; up to 39 the first one's shifted significand fits 63 bits. 31 is between.
+// From 26 places on the second operand does not reach a quarter of the first one's last place; up to 39 the first one's shifted
+// significand fits 63 bits. 31 is between.
 fn finite_sum(s: bool, m: u64, e: u16, t: bool, n: u64, d: u16) -> u32
     requires { ⌜ d ≤ e ⌝ }
     requires { ⌜ Operand m e ⌝ }
@@ -82,18 +82,9 @@ fn finite_sum(s: bool, m: u64, e: u16, t: bool, n: u64, d: u16) -> u32
 {
     let gap = e - d;
     if gap > 31 {
-        return packed(s, m, e);
+        return rounding::packed(s, e as u64, m);
     }
     round_sum(s, m << gap, t, n, d + 149)
-}
-
-// The pattern of an operand: exponent and significand side by side.
-fn packed(sign: bool, sig: u64, exp: u16) -> u32
-    requires { ⌜ Operand sig exp ⌝ }
-    ensures { λ r. ⌜ r ≡ encode binary32 (finite sign (sig * 2 ^ exp)) ⌝ }
-{
-    let c = (exp as u32) * 0x80_0000 + (sig as u32);
-    if sign { 0x8000_0000 + c } else { c }
 }
 
 // ±a * 2^exp and ±b * 2^exp units of 2^-298.

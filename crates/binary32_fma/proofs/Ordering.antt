@@ -9,7 +9,7 @@ use borrow.Author.Tests.{le-leb, lt-leb}
 use lib.Dec.{leb}
 use Rattle.binary32_fma.specs.declared.Addends.{Addends}
 use Rattle.pattern_spec.specs.Exact.{plusFinite}
-use Rattle.pattern_spec.specs.Unrounded.{Product}
+use Rattle.pattern_spec.specs.Inner.{Product}
 use Rattle.binary32_spec.specs.Inner.{Reaches}
 use Rattle.binary32_fma.specs.Inner.{Ordered, product-first, operand-first}
 use Rattle.pattern_spec.proofs.Sums.{sum-swap}

@@ -15,9 +15,8 @@ ghost use Rattle.rounding_spec.specs.Format.{binary32};
 ghost use Rattle.rounding_spec.specs.Value.{finite, encode, round};
 ghost use Rattle.pattern_spec.specs.Exact.{plusFinite, plus, finer};
 ghost use Rattle.binary32_spec.specs.Steps.{fmaStep};
-ghost use Rattle.pattern_spec.specs.Classes.{valueOf, Operand};
-ghost use Rattle.pattern_spec.specs.Unrounded.{Product, Bounded};
-ghost use Rattle.pattern_spec.specs.Inner.{Jammed};
+ghost use Rattle.pattern_spec.specs.Classes.{valueOf};
+ghost use Rattle.pattern_spec.specs.Inner.{Operand, Product, Bounded, Jammed};
 ghost use Rattle.binary32_spec.specs.Inner.{Normal, Reaches};
 ghost use Rattle.binary32_fma.specs.Inner.{Ordered};
 

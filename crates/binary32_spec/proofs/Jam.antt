@@ -3,7 +3,8 @@ use mathlib.Core.Path.{_≡_, refl, ap, ap₂, _∙_, sym, subst}
 use mathlib.Core.Logic.{_⊎_, inl, inr}
 use mathlib.Core.Bool.{Bool, cond}
 use Prim.Native.Nat.{ℕ, suc, _+_, _-_, _*_, _/_, _%_, _^_, _≤_, _<_}
-use native.Mathlib.Nat.{le-trans, le-of-eq, lt-of-le-of-lt, mul-one, add-mul, mul-le-mul-left, mul-le-mul-right, mul-lt-mul-of-pos-right, pow-succ', mod-eq-of-lt, mod-lt, div-add-mod', div-eq-of-lt, zero-mul, eq-zero-or-pos, sub-add-cancel}
+use native.Mathlib.Nat.{le-trans, le-of-eq, lt-of-le-of-lt, mul-one, add-mul, mul-le-mul-left, mul-le-mul-right, mul-lt-mul-of-pos-right, pow-succ', mod-eq-of-lt, mod-lt, div-add-mod', div-eq-of-lt}
+use native.Mathlib.Nat.{zero-mul, eq-zero-or-pos, sub-add-cancel}
 use native.Mathlib.Decide.{decLe, ℕ-discrete}
 use native.Mathlib.Omega.{arith}
 use borrow.Author.Tests.{lt-ltb, le-ltb, lt-leb, le-leb, eq-eqb, ne-eqb}
@@ -120,7 +121,8 @@ module _ (s : Bool) (a k : ℕ) (t : Bool) (r Y : ℕ) (even : a % 2 ≡ 0) (far
       let first : (r + 1) * 2 ^ k ≤ a * 2 ^ k = mul-le-mul-right (2 ^ k) (let z : r + 1 ≤ a = omega arith in z) in
       let one : (r + 1) * 2 ^ k ≡ r * 2 ^ k + 1 * 2 ^ k = add-mul r 1 (2 ^ k) in
       let pos = pow-pos k in
-      let step : (v w : Value) → plusFinite s (a * 2 ^ k) t (r * 2 ^ k) ≡ v → plusFinite s (a * 2 ^ k) t Y ≡ w → round ToEven binary32 v ≡ round ToEven binary32 w → rounds s (a * 2 ^ k) t (r * 2 ^ k) ≡ rounds s (a * 2 ^ k) t Y =
+      let step : (v w : Value) → plusFinite s (a * 2 ^ k) t (r * 2 ^ k) ≡ v → plusFinite s (a * 2 ^ k) t Y ≡ w → round ToEven binary32 v ≡ round ToEven binary32 w
+      → rounds s (a * 2 ^ k) t (r * 2 ^ k) ≡ rounds s (a * 2 ^ k) t Y =
       λ v w e f g. ap (λ (x : Value). encode binary32 (round ToEven binary32 x)) e ∙ ap (encode binary32) g ∙ sym (ap (λ (x : Value). encode binary32 (round ToEven binary32 x)) f)
       in
       elim (like? s t) [

@@ -14,7 +14,10 @@ use Rattle.rounding_spec.proofs.Codec.{decode-encode}
 use Rattle.rounding_spec.proofs.RoundValue.{round-fits}
 use Rattle.pattern_spec.specs.Exact.{negate, plus, times, finer, int}
 use Rattle.binary32_spec.specs.Steps.{addValue, subValue, mulValue, fmaValue, addStep, subStep, fmaStep}
-use Rattle.binary32_spec.specs.Theorems.{RoundedOnce, AddFinite, SubFinite, MulFinite, FmaFinite, NaNResults, StepNaN, StepInvalid, StepInfinite, AddDecodes, SubDecodes, MulDecodes, FmaDecodes, All}
+use Rattle.binary32_spec.specs.Theorems.{RoundedOnce, AddFinite, SubFinite, MulFinite, FmaFinite, NaNResults, StepNaN, StepInvalid, StepInfinite, AddDecodes, SubDecodes, MulDecodes, FmaDecodes}
+use Rattle.binary32_spec.specs.Theorems.{All}
+use Rattle.binary32_spec.specs.Agreement.{AddAgrees, SubAgrees, MulAgrees}
+use Rattle.binary32_spec.proofs.Agreement as agreement
 use Rattle.binary32_spec.proofs.Infinities as infinities
 use Rattle.pattern_spec.proofs.Integers as integers
 use Rattle.binary32_spec.proofs.Result.{add-step, sub-step, mul-step, fma-step}
@@ -69,7 +72,8 @@ pub fma-finite : FmaFinite
 unfolding fmaValue times plus finer round
 fma-finite x y z s t u a b c p q w =
     let e = integers.plus-exact (unlike s t) (a * b) u (c * 2 ^ 149) in
-    let d : decode binary32 (fmaStep x y z) ≡ fmaValue binary32 (finite s a) (finite t b) (finite u c) = fma-decodes x y z ∙ ap₂ (λ (f g : Value). fmaValue binary32 f g (decode binary32 z)) p q ∙ ap (fmaValue binary32 (finite s a) (finite t b)) w in
+    let d : decode binary32 (fmaStep x y z) ≡ fmaValue binary32 (finite s a) (finite t b) (finite u c) = fma-decodes x y z ∙ ap₂ (λ (f g : Value). fmaValue binary32 f g (decode binary32 z)) p q
+    ∙ ap (fmaValue binary32 (finite s a) (finite t b)) w in
     (e .0, e .1, e .3 ∙ ap₂ _+ℤ_ (integers.times-exact s a t b) (integers.int-scale u c (2 ^ 149)), e .4, d ∙ ap (round ToEven binary32) (e .2))
 
 -- ---- NaN
@@ -94,6 +98,15 @@ step-invalid = infinities.step-invalid
 pub step-infinite : StepInfinite
 step-infinite = infinities.step-infinite
 
+pub add-agrees : AddAgrees
+add-agrees = agreement.add-agrees
+
+pub sub-agrees : SubAgrees
+sub-agrees = agreement.sub-agrees
+
+pub mul-agrees : MulAgrees
+mul-agrees = agreement.mul-agrees
+
 -- ---- all of them
 pub all : All
 all = (
@@ -109,4 +122,7 @@ all = (
   sub-decodes,
   mul-decodes,
   fma-decodes,
+  add-agrees,
+  sub-agrees,
+  mul-agrees,
 )

@@ -6,7 +6,7 @@ use native.Mathlib.Omega.{arith}
 use lib.Count.{leadingZeros, leading-top}
 use lib.Pow.{pow-add, pow-mono, shl-lt}
 use Rattle.rounding_spec.proofs.Multiple.{joined}
-use Rattle.pattern_spec.specs.Unrounded.{Product}
+use Rattle.pattern_spec.specs.Inner.{Product}
 use Rattle.binary32_spec.specs.Inner.{Normal, Reaches}
 
 -- ---- a third operand with all its digits

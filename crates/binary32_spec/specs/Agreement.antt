@@ -1,5 +1,5 @@
 -- Add, subtract and multiply agree with lib.Ieee, the toolchain's own account of IEEE 754, which has no fused step. Each name is a
--- statement; `proofs/Agreement.antt` has its proof.
+-- statement; `proofs/Theorems.antt` has its proof.
 use mathlib.Core.Path.{_≡_}
 use Prim.Native.Nat.{ℕ}
 use lib.Ieee.{binary32, ofBits, toBits, add, sub, mul}

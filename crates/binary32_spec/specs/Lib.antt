@@ -1,4 +1,4 @@
 pub mod Steps
+pub mod Agreement
 pub mod Theorems
 pub mod Inner
-pub mod Agreement

@@ -1,4 +1,4 @@
--- The four rounding steps (document 01, "Steps"): the exact result, and one rounding, RNe.
+-- The four rounding steps (R2.1): the exact result, and one rounding, RNe.
 use Prim.Native.Nat.{ℕ}
 use mathlib.Core.List.{List, [], _∷_}
 use Rattle.rounding_spec.specs.Format.{Format, binary32}
@@ -10,7 +10,7 @@ unfoldable pub addValue : Format → Value → Value → Value
 unfolding round plus finer
 addValue F x y = RNe F (finer F (plus x y))
 
--- "for subtract, the second flipped"
+-- the second flipped (R2.5)
 unfoldable pub subValue : Format → Value → Value → Value
 unfolding addValue negate
 subValue F x y = addValue F x (negate y)
@@ -19,7 +19,7 @@ unfoldable pub mulValue : Format → Value → Value → Value
 unfolding round times
 mulValue F x y = RNe F (times x y)
 
--- "one rounding of product plus third operand"
+-- R2.2: one rounding, of the exact product and the third operand together
 unfoldable pub fmaValue : Format → Value → Value → Value → Value
 unfolding round plus times finer
 fmaValue F x y z = RNe F (plus (times x y) (finer F z))

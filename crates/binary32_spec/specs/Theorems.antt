@@ -1,4 +1,4 @@
--- What is proved of the steps, beside the contracts. Each name is a statement; `proofs/Theorems.antt` has its proof.
+-- What is proved of the steps, beside the contracts. A name of type `Type 0` is a statement; `proofs/Theorems.antt` has its proof.
 use mathlib.Core.Path.{_≡_}
 use mathlib.Core.Logic.{_⊎_}
 use mathlib.Core.Bool.{Bool, not, _&&_}
@@ -9,6 +9,7 @@ use Rattle.rounding_spec.specs.declared.Ties.the-variants.{ToEven}
 use Rattle.rounding_spec.specs.Format.{binary32, infinity}
 use Rattle.rounding_spec.specs.Value.{nan, infinite, finite, decode, signed, roundFinite}
 use Rattle.pattern_spec.specs.Exact.{int}
+use Rattle.binary32_spec.specs.Agreement.{AddAgrees, SubAgrees, MulAgrees}
 use Rattle.binary32_spec.specs.Steps.{addValue, subValue, mulValue, fmaValue, addStep, subStep, mulStep, fmaStep}
 
 -- ---- a step on finite operands is the exact result, rounded once with ties to even
@@ -28,54 +29,67 @@ SubFinite =
 
 abbrev pub MulFinite : Type 0
 MulFinite =
-    (x y : ℕ) (s t : Bool) (a b : ℕ) → decode binary32 x ≡ finite s a → decode binary32 y ≡ finite t b → RoundedOnce (int s a *ℤ int t b) (unlike s t) (mulStep x y)
+    (x y : ℕ) (s t : Bool) (a b : ℕ) → decode binary32 x ≡ finite s a → decode binary32 y ≡ finite t b
+    → RoundedOnce (int s a *ℤ int t b) (unlike s t) (mulStep x y)
 
 abbrev pub FmaFinite : Type 0
 FmaFinite =
-    (x y z : ℕ) (s t u : Bool) (a b c : ℕ) → decode binary32 x ≡ finite s a → decode binary32 y ≡ finite t b → decode binary32 z ≡ finite u c
+    (x y z : ℕ) (s t u : Bool) (a b c : ℕ) → decode binary32 x ≡ finite s a → decode binary32 y ≡ finite t b
+    → decode binary32 z ≡ finite u c
     → RoundedOnce (int s a *ℤ int t b +ℤ int u c *ℤ pos (2 ^ 149)) (unlike s t && u) (fmaStep x y z)
 
--- ---- "Every NaN result is 7FC00000."
+-- ---- R2.4: every NaN result is one pattern
 abbrev pub NaNResults : Type 0
 NaNResults =
-    ((x y : ℕ) → decode binary32 (addStep x y) ≡ nan → addStep x y ≡ 0x7fc0_0000) × ((x y : ℕ) → decode binary32 (subStep x y) ≡ nan → subStep x y ≡ 0x7fc0_0000)
-    × ((x y : ℕ) → decode binary32 (mulStep x y) ≡ nan → mulStep x y ≡ 0x7fc0_0000) × ((x y z : ℕ) → decode binary32 (fmaStep x y z) ≡ nan → fmaStep x y z ≡ 0x7fc0_0000)
+    ((x y : ℕ) → decode binary32 (addStep x y) ≡ nan → addStep x y ≡ 0x7fc0_0000)
+    × ((x y : ℕ) → decode binary32 (subStep x y) ≡ nan → subStep x y ≡ 0x7fc0_0000)
+    × ((x y : ℕ) → decode binary32 (mulStep x y) ≡ nan → mulStep x y ≡ 0x7fc0_0000)
+    × ((x y z : ℕ) → decode binary32 (fmaStep x y z) ≡ nan → fmaStep x y z ≡ 0x7fc0_0000)
 
 -- a NaN operand gives a NaN
 abbrev pub StepNaN : Type 0
 StepNaN =
-    ((x y : ℕ) → (decode binary32 x ≡ nan) ⊎ (decode binary32 y ≡ nan) → (addStep x y ≡ 0x7fc0_0000) × (subStep x y ≡ 0x7fc0_0000) × (mulStep x y ≡ 0x7fc0_0000))
+    ((x y : ℕ) → (decode binary32 x ≡ nan) ⊎ (decode binary32 y ≡ nan)
+    → (addStep x y ≡ 0x7fc0_0000) × (subStep x y ≡ 0x7fc0_0000) × (mulStep x y ≡ 0x7fc0_0000))
     × ((x y z : ℕ) → (decode binary32 x ≡ nan) ⊎ ((decode binary32 y ≡ nan) ⊎ (decode binary32 z ≡ nan)) → fmaStep x y z ≡ 0x7fc0_0000)
 
--- ---- "infinities as in IEEE 754-2019"
+-- ---- R2.3: infinities
 -- x has the sign s and y the sign t: two infinities, or an infinity and a finite number other than 0
 abbrev pub InfiniteFactors : ℕ → Bool → ℕ → Bool → Type 0
 InfiniteFactors x s y t =
     ((decode binary32 x ≡ infinite s) × (decode binary32 y ≡ infinite t))
-    ⊎ (((b : ℕ) × (0 < b) × (decode binary32 x ≡ infinite s) × (decode binary32 y ≡ finite t b)) ⊎ ((a : ℕ) × (0 < a) × (decode binary32 x ≡ finite s a) × (decode binary32 y ≡ infinite t)))
+    ⊎ (((b : ℕ) × (0 < b) × (decode binary32 x ≡ infinite s) × (decode binary32 y ≡ finite t b))
+    ⊎ ((a : ℕ) × (0 < a) × (decode binary32 x ≡ finite s a) × (decode binary32 y ≡ infinite t)))
 
--- "NaN from operands that are not NaN": "opposite infinities, zero times infinity"
+-- NaN from operands that are not NaN: opposite infinities, zero times infinity
 abbrev pub StepInvalid : Type 0
 StepInvalid =
     ((x y : ℕ) (s : Bool) → decode binary32 x ≡ infinite s → decode binary32 y ≡ infinite (not s) → addStep x y ≡ 0x7fc0_0000)
     × ((x y : ℕ) (s : Bool) → decode binary32 x ≡ infinite s → decode binary32 y ≡ infinite s → subStep x y ≡ 0x7fc0_0000)
-    × ((x y : ℕ) (s t : Bool) → decode binary32 x ≡ finite s 0 → decode binary32 y ≡ infinite t → (mulStep x y ≡ 0x7fc0_0000) × (mulStep y x ≡ 0x7fc0_0000))
-    × ((x y z : ℕ) (s t : Bool) → decode binary32 x ≡ finite s 0 → decode binary32 y ≡ infinite t → (fmaStep x y z ≡ 0x7fc0_0000) × (fmaStep y x z ≡ 0x7fc0_0000))
+    × ((x y : ℕ) (s t : Bool) → decode binary32 x ≡ finite s 0 → decode binary32 y ≡ infinite t
+    → (mulStep x y ≡ 0x7fc0_0000) × (mulStep y x ≡ 0x7fc0_0000))
+    × ((x y z : ℕ) (s t : Bool) → decode binary32 x ≡ finite s 0 → decode binary32 y ≡ infinite t
+    → (fmaStep x y z ≡ 0x7fc0_0000) × (fmaStep y x z ≡ 0x7fc0_0000))
     × ((x y z : ℕ) (s t : Bool) → InfiniteFactors x s y t → decode binary32 z ≡ infinite (not (unlike s t)) → fmaStep x y z ≡ 0x7fc0_0000)
 
--- every other infinite operand, where none is NaN, gives an infinity: an infinity and a finite number, in sums and differences; two infinities of like
--- effect; products; a fused sum whose product is infinite, then one whose third operand alone is
+-- every other infinite operand, where none is NaN, gives an infinity: an infinity and a finite number, in sums and differences; two
+-- infinities of like effect; products; a fused sum whose product is infinite, then one whose third operand alone is
 abbrev pub StepInfinite : Type 0
 StepInfinite =
     ((x y : ℕ) (s t : Bool) (b : ℕ) → decode binary32 x ≡ infinite s → decode binary32 y ≡ finite t b
     → (addStep x y ≡ signed binary32 s (infinity binary32)) × (addStep y x ≡ signed binary32 s (infinity binary32))
     × (subStep x y ≡ signed binary32 s (infinity binary32)) × (subStep y x ≡ signed binary32 (not s) (infinity binary32)))
-    × ((x y : ℕ) (s : Bool) → decode binary32 x ≡ infinite s → decode binary32 y ≡ infinite s → addStep x y ≡ signed binary32 s (infinity binary32))
-    × ((x y : ℕ) (s : Bool) → decode binary32 x ≡ infinite s → decode binary32 y ≡ infinite (not s) → subStep x y ≡ signed binary32 s (infinity binary32))
+    × ((x y : ℕ) (s : Bool) → decode binary32 x ≡ infinite s → decode binary32 y ≡ infinite s
+    → addStep x y ≡ signed binary32 s (infinity binary32))
+    × ((x y : ℕ) (s : Bool) → decode binary32 x ≡ infinite s → decode binary32 y ≡ infinite (not s)
+    → subStep x y ≡ signed binary32 s (infinity binary32))
     × ((x y : ℕ) (s t : Bool) → InfiniteFactors x s y t → mulStep x y ≡ signed binary32 (unlike s t) (infinity binary32))
-    × ((x y z : ℕ) (s t u : Bool) (c : ℕ) → InfiniteFactors x s y t → decode binary32 z ≡ finite u c → fmaStep x y z ≡ signed binary32 (unlike s t) (infinity binary32))
-    × ((x y z : ℕ) (s t : Bool) → InfiniteFactors x s y t → decode binary32 z ≡ infinite (unlike s t) → fmaStep x y z ≡ signed binary32 (unlike s t) (infinity binary32))
-    × ((x y z : ℕ) (s t u : Bool) (a b : ℕ) → decode binary32 x ≡ finite s a → decode binary32 y ≡ finite t b → decode binary32 z ≡ infinite u → fmaStep x y z ≡ signed binary32 u (infinity binary32))
+    × ((x y z : ℕ) (s t u : Bool) (c : ℕ) → InfiniteFactors x s y t → decode binary32 z ≡ finite u c
+    → fmaStep x y z ≡ signed binary32 (unlike s t) (infinity binary32))
+    × ((x y z : ℕ) (s t : Bool) → InfiniteFactors x s y t → decode binary32 z ≡ infinite (unlike s t)
+    → fmaStep x y z ≡ signed binary32 (unlike s t) (infinity binary32))
+    × ((x y z : ℕ) (s t u : Bool) (a b : ℕ) → decode binary32 x ≡ finite s a → decode binary32 y ≡ finite t b
+    → decode binary32 z ≡ infinite u → fmaStep x y z ≡ signed binary32 u (infinity binary32))
 
 -- ---- what callers go by: a step's pattern stands for the step on values, which is rounded to a value of the format
 abbrev pub AddDecodes : Type 0
@@ -90,8 +104,8 @@ MulDecodes = (x y : ℕ) → decode binary32 (mulStep x y) ≡ mulValue binary32
 abbrev pub FmaDecodes : Type 0
 FmaDecodes = (x y z : ℕ) → decode binary32 (fmaStep x y z) ≡ fmaValue binary32 (decode binary32 x) (decode binary32 y) (decode binary32 z)
 
--- ---- all of them: `proofs/Theorems.antt` proves this
+-- ---- all of them, and those of Agreement: `proofs/Theorems.antt` proves this
 abbrev pub All : Type 0
 All =
-    AddFinite × SubFinite × MulFinite × FmaFinite × NaNResults × StepNaN × StepInvalid
-    × StepInfinite × AddDecodes × SubDecodes × MulDecodes × FmaDecodes
+    AddFinite × SubFinite × MulFinite × FmaFinite × NaNResults × StepNaN × StepInvalid × StepInfinite × AddDecodes × SubDecodes
+    × MulDecodes × FmaDecodes × AddAgrees × SubAgrees × MulAgrees

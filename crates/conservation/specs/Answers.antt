@@ -5,7 +5,7 @@ use Rattle.conservation.specs.declared.Replayed.the-variants as the-repl
 
 abbrev pub answerReplayed : Replayed → Answer (Unit {0})
 answerReplayed the-replayed.Done = done tt
-answerReplayed the-replayed.Unequal = refused 21
-answerReplayed the-replayed.TooMany = refused 22
-answerReplayed the-replayed.NotCleared = refused 23
-answerReplayed the-replayed.PastWords = refused 24
+answerReplayed the-replayed.Unequal = refused 101
+answerReplayed the-replayed.TooMany = refused 102
+answerReplayed the-replayed.NotCleared = refused 103
+answerReplayed the-replayed.PastWords = refused 104

@@ -10,7 +10,7 @@ ghost use Rattle.conservation_spec.specs.Lists.{run};
 ghost use Rattle.conservation_spec.specs.Replay.{eventsOf, wordsAfter, allWithin, replaying, totalsAfter, wordsLeft};
 ghost use Rattle.conservation_spec.specs.ReplayTheorems.{Conserves};
 
-// Carried out, or refused by 21 to 24 in this order.
+// Carried out, or refused by 101 to 104 in this order.
 pub enum Replayed {
     Done,
     Unequal,

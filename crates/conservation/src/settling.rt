@@ -1,12 +1,11 @@
 // One question: its sheet, and its terms on both totals where it enters.
 use augmented_spec::Pair;
 use pattern::flipped;
+use pattern::is_finite;
 use worksheet::Filled;
 ghost use mathlib.Core.Path.{_≡_};
 ghost use mathlib.Core.Bool.{not, _&&_};
 ghost use mathlib.Core.List.{[], _∷_};
-ghost use Rattle.rounding_spec.specs.Format.{binary32};
-ghost use Rattle.rounding_spec.specs.Value.{decode, isFinite};
 ghost use Rattle.augmented_spec.specs.Direct.{operationOf};
 ghost use Rattle.worksheet_spec.specs.Filling.{afterFilling};
 ghost use Rattle.accumulator_spec.specs.Totals.{ofPattern};
@@ -51,12 +50,6 @@ fn enters(pair: Pair) -> bool
     }
     let flags = pair.flags;
     !flags.inexact
-}
-
-fn is_finite(x: u32) -> bool
-    ensures { λ r. ⌜ r ≡ isFinite (decode binary32 x) ⌝ }
-{
-    x % 0x8000_0000 < 0x7f80_0000
 }
 
 fn add_two(x: u32, y: u32, total: &mut [u32])

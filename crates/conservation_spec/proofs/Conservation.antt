@@ -15,7 +15,7 @@ use Rattle.accumulator_spec.specs.Theorems.{FitTotal}
 use Rattle.accumulator_spec.proofs.Adding.{total-fit}
 use Rattle.accumulator_spec.proofs.Answers.{adding-special, adding-full, after-refused}
 use Rattle.accumulator_spec.proofs.Columns.{exact-from}
-use Rattle.conservation_spec.specs.Lists.{Question, answer, operation, enters, footTerms, setTerms, exactResult, Totals, Side, onFirst, onOther, Event, asks, reads, adds, after, run, book, questions, oneSum, oneProduct, enteringSums, enteringProducts}
+use Rattle.conservation_spec.specs.Lists.{Question, answer, operation, enters, footTerms, setTerms, exactOfPatterns, Totals, Side, onFirst, onOther, Event, asks, reads, adds, after, run, book, questions, oneSum, oneProduct, enteringSums, enteringProducts}
 use Rattle.conservation_spec.specs.Theorems.{AllowedNow, Allowed, MetNow, Met}
 use Rattle.conservation_spec.proofs.Entering.{entering}
 
@@ -137,7 +137,7 @@ module _ (z : ℤ) (m n : ℕ) (es : List Event) (few : m ≤ 65536) (few' : n �
       idle z m n (asks q) es small small' u (λ (f : enters q ≡ true). absurd (true≢false (sym f ∙ e)), λ (f : enters q ≡ false). u) (rw e) (rw e (omega arith)) (rw e (omega arith))
 
   entering-step : (q : Question) → q .y < 2 ^ 32 → enters q ≡ true → m + 2 ≤ 65536 → n + 2 ≤ 65536
-      → Step z (exactResult (operation q) (q .x) (q .y)) m n (2 * (oneSum (operation q) + oneProduct (operation q))) (2 * oneSum (operation q) + oneProduct (operation q)) (asks q) es
+      → Step z (exactOfPatterns (operation q) (q .x) (q .y)) m n (2 * (oneSum (operation q) + oneProduct (operation q))) (2 * oneSum (operation q) + oneProduct (operation q)) (asks q) es
   unfolding book enteringSums enteringProducts
   entering-step q w e h h' =
       let k = entering q w e in
@@ -145,9 +145,9 @@ module _ (z : ℤ) (m n : ℕ) (es : List Event) (few : m ≤ 65536) (few' : n �
       let two : 2 * (oneSum (operation q) + oneProduct (operation q)) ≡ 2 = exactly-two (operation q) in
       let a = exact-from (footTerms (answer q)) z m (omega (arith, k .footCount, two)) small (k .footFinite) in
       let b = exact-from (setTerms (operation q) (q .x) (q .y)) z n (omega (arith, k .setCount, most)) small' (k .setFinite) in
-      let f : column (totalOf z m) (footTerms (answer q)) ≡ totalOf (z +ℤ exactResult (operation q) (q .x) (q .y)) (m + 2 * (oneSum (operation q) + oneProduct (operation q))) =
+      let f : column (totalOf z m) (footTerms (answer q)) ≡ totalOf (z +ℤ exactOfPatterns (operation q) (q .x) (q .y)) (m + 2 * (oneSum (operation q) + oneProduct (operation q))) =
       a .is ∙ ap₂ (λ (d : ℤ) (i : ℕ). totalOf (z +ℤ d) (m + i)) (k .footAdds) (k .footCount) in
-      let g : column (totalOf z n) (setTerms (operation q) (q .x) (q .y)) ≡ totalOf (z +ℤ exactResult (operation q) (q .x) (q .y)) (n + (2 * oneSum (operation q) + oneProduct (operation q))) =
+      let g : column (totalOf z n) (setTerms (operation q) (q .x) (q .y)) ≡ totalOf (z +ℤ exactOfPatterns (operation q) (q .x) (q .y)) (n + (2 * oneSum (operation q) + oneProduct (operation q))) =
       b .is ∙ ap₂ (λ (d : ℤ) (i : ℕ). totalOf (z +ℤ d) (n + i)) (k .setAdds) (k .setCount) in
       record {
         leaves = rw (e, f, g);
@@ -167,7 +167,7 @@ module _ (z : ℤ) (m n : ℕ) (es : List Event) (few : m ≤ 65536) (few' : n �
       go false e = record { amount = pos 0; more = 0; more' = 0; most = omega arith; most' = omega arith; step = outside-step q e }
       go true e =
           record {
-            amount = exactResult (operation q) (q .x) (q .y);
+            amount = exactOfPatterns (operation q) (q .x) (q .y);
             more = 2 * (oneSum (operation q) + oneProduct (operation q));
             more' = 2 * oneSum (operation q) + oneProduct (operation q);
             most = le-of-eq (exactly-two (operation q));

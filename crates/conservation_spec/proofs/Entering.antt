@@ -19,7 +19,7 @@ use Rattle.worksheet_spec.proofs.Theorems.{filled-pair}
 use Rattle.accumulator_spec.specs.Totals.{ofPattern, exactTerm, whole}
 use Rattle.accumulator_spec.specs.Columns.{AllFinite, columnSum}
 use Rattle.accumulator_spec.proofs.Landmarks.{pattern-term}
-use Rattle.conservation_spec.specs.Lists.{Question, answer, operation, direct, finitePair, enters, footTerms, setTerms, exactResult, oneSum, oneProduct}
+use Rattle.conservation_spec.specs.Lists.{Question, answer, operation, direct, finitePair, enters, footTerms, setTerms, exactOfPatterns, oneSum, oneProduct}
 use Rattle.conservation_spec.proofs.Operands.{both, number-of, operands, result-is, terms-sum, terms-finite}
 
 pub not-true : (b : Bool) → not b ≡ true → b ≡ false
@@ -29,10 +29,10 @@ not-true true e = absurd (true≢false (sym e))
 -- ---- the two halves of a finite pair without X add up to the exact result
 record Halves (o : Operation) (x y : ℕ) (p : Pair) : Type 0 where
   pub finite : AllFinite (ofPattern (p .first) ∷ ofPattern (p .second) ∷ [])
-  pub adds : columnSum (ofPattern (p .first) ∷ ofPattern (p .second) ∷ []) ≡ exactResult o x y
+  pub adds : columnSum (ofPattern (p .first) ∷ ofPattern (p .second) ∷ []) ≡ exactOfPatterns o x y
 
 two-halves : (o : Operation) (x y : ℕ) (p : Pair) (E : ℤ) (q : Bool) (c : ℕ) (r : Bool) (d : ℕ) → decode binary32 (p .first) ≡ finite q c → decode binary32 (p .second) ≡ finite r d
-    → finerInt binary32 q c +ℤ finerInt binary32 r d ≡ E → exactResult o x y ≡ E → Halves o x y p
+    → finerInt binary32 q c +ℤ finerInt binary32 r d ≡ E → exactOfPatterns o x y ≡ E → Halves o x y p
 unfolding AllFinite columnSum
 two-halves o x y p E q c r d e f s g =
     record {
@@ -74,10 +74,10 @@ module _ (x y : ℕ) (width : y < 2 ^ 32) where
 -- ---- an entering question
 pub record Entering (q : Question) : Type 0 where
   pub footFinite : AllFinite (footTerms (answer q))
-  pub footAdds : columnSum (footTerms (answer q)) ≡ exactResult (operation q) (q .x) (q .y)
+  pub footAdds : columnSum (footTerms (answer q)) ≡ exactOfPatterns (operation q) (q .x) (q .y)
   pub footCount : length (footTerms (answer q)) ≡ 2 * (oneSum (operation q) + oneProduct (operation q))
   pub setFinite : AllFinite (setTerms (operation q) (q .x) (q .y))
-  pub setAdds : columnSum (setTerms (operation q) (q .x) (q .y)) ≡ exactResult (operation q) (q .x) (q .y)
+  pub setAdds : columnSum (setTerms (operation q) (q .x) (q .y)) ≡ exactOfPatterns (operation q) (q .x) (q .y)
   pub setCount : length (setTerms (operation q) (q .x) (q .y)) ≡ 2 * oneSum (operation q) + oneProduct (operation q)
 
 foot-count : (o : Operation) → 2 ≡ 2 * (oneSum o + oneProduct o)

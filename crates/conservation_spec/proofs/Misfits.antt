@@ -83,7 +83,7 @@ module _ (os xs ys counts words first second : List ℕ) where
           → (many : Bool) → ltb 32768 (length os) ≡ many
           → (clear : Bool) → isCleared first && isCleared second ≡ clear
           → (inside : Bool) → allWithin counts (length words) ≡ inside
-          → isDone {A = Unit {0}} (cond (not same) (refused 21) (cond many (refused 22) (cond (not clear) (refused 23) (cond (not inside) (refused 24) (done tt))))) ≡ true
+          → isDone {A = Unit {0}} (cond (not same) (refused 101) (cond many (refused 102) (cond (not clear) (refused 103) (cond (not inside) (refused 104) (done tt))))) ≡ true
           → Fits os xs ys counts words first second
       go false s many m clear c inside i d = absurd (true≢false (sym d))
       go true s true m clear c inside i d = absurd (true≢false (sym d))
@@ -105,26 +105,26 @@ module _ (os xs ys counts words first second : List ℕ) where
 
 -- ---- one law a case
 module _ (os xs ys counts words first second : List ℕ) where
-  pub unequal : eqb (length xs) (length os) && (eqb (length ys) (length os) && eqb (length counts) (length os)) ≡ false → refused 21 ≡ replaying os xs ys counts words first second
+  pub unequal : eqb (length xs) (length os) && (eqb (length ys) (length os) && eqb (length counts) (length os)) ≡ false → refused 101 ≡ replaying os xs ys counts words first second
   unfolding replaying
   unequal e = rw e
 
   module _ (same : eqb (length xs) (length os) && (eqb (length ys) (length os) && eqb (length counts) (length os)) ≡ true) where
-    pub too-many : 32768 < length os → refused 22 ≡ replaying os xs ys counts words first second
+    pub too-many : 32768 < length os → refused 102 ≡ replaying os xs ys counts words first second
     unfolding replaying
     too-many h = rw (same, lt-ltb 32768 (length os) h)
 
     module _ (few : length os ≤ 32768) where
-      pub first-not-cleared : isCleared first ≡ false → refused 23 ≡ replaying os xs ys counts words first second
+      pub first-not-cleared : isCleared first ≡ false → refused 103 ≡ replaying os xs ys counts words first second
       unfolding replaying
       first-not-cleared e = rw (same, le-ltb 32768 (length os) few, e)
 
       module _ (clear : isCleared first ≡ true) where
-        pub second-not-cleared : isCleared second ≡ false → refused 23 ≡ replaying os xs ys counts words first second
+        pub second-not-cleared : isCleared second ≡ false → refused 103 ≡ replaying os xs ys counts words first second
         unfolding replaying
         second-not-cleared e = rw (same, le-ltb 32768 (length os) few, clear, e)
 
-        pub past-words : isCleared second ≡ true → allWithin counts (length words) ≡ false → refused 24 ≡ replaying os xs ys counts words first second
+        pub past-words : isCleared second ≡ true → allWithin counts (length words) ≡ false → refused 104 ≡ replaying os xs ys counts words first second
         unfolding replaying
         past-words e w = rw (same, le-ltb 32768 (length os) few, clear, e, w)
 

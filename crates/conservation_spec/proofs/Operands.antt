@@ -15,14 +15,13 @@ use Rattle.pattern_spec.proofs.Integers.{plus-exact, int-not, int-scale}
 use Rattle.pattern_spec.proofs.Sums.{sum-scale}
 use Rattle.pattern_spec.proofs.Theorems.{flip-negates}
 use Rattle.augmented_spec.specs.Pairs.{pairOf}
-use Rattle.augmented_spec.specs.Direct.{Operation, sum, difference, product, directPair}
-use Rattle.augmented_spec.specs.Theorems.{exactly}
+use Rattle.augmented_spec.specs.Direct.{Operation, sum, difference, product, directPair, exactResult}
 use Rattle.augmented_spec.proofs.Read.{exactFor, taken, first, first-read}
 use Rattle.augmented_spec.proofs.Unrounded.{infinite-sum}
 use Rattle.accumulator_spec.specs.Totals.{ofPattern, ofProduct, exactTerm, whole}
 use Rattle.accumulator_spec.specs.Columns.{AllFinite, columnSum}
 use Rattle.accumulator_spec.proofs.Landmarks.{pattern-term, product-term}
-use Rattle.conservation_spec.specs.Lists.{setTerms, exactResult}
+use Rattle.conservation_spec.specs.Lists.{setTerms, exactOfPatterns}
 
 -- ---- from the pair to the operands
 rounded-finite : (v : Value) → isFinite (RN0 binary32 v) ≡ true → isFinite v ≡ true
@@ -102,7 +101,7 @@ scaled-sum s a t b G h =
     ap₂ _+ℤ_ (sym (int-scale s a G)) (sym (int-scale t b G)) ∙ sym (f .3) ∙ ap whole (sym (f .2) ∙ sum-scale s a t b G h (e .0) (e .1) (e .2)) ∙ int-scale (e .0) (e .1) G ∙ ap (λ (k : ℤ). k *ℤ pos G) (e .3)
 
 module _ (x y : ℕ) (s : Bool) (a : ℕ) (t : Bool) (b : ℕ) (width : y < 2 ^ 32) (left : decode binary32 x ≡ finite s a) (right : decode binary32 y ≡ finite t b) where
-  pub result-is : (o : Operation) → exactResult o x y ≡ exactly o binary32 s a t b
+  pub result-is : (o : Operation) → exactOfPatterns o x y ≡ exactResult o binary32 (int s a) (int t b)
   result-is sum = rw (left, right)
   result-is difference = rw (left, right)
   result-is product = rw (left, right)
@@ -116,7 +115,7 @@ module _ (x y : ℕ) (s : Bool) (a : ℕ) (t : Bool) (b : ℕ) (width : y < 2 ^ 
   two-terms z r c e =
       ap₂ _+ℤ_ (pattern-term x s a left) (+ℤ-idr (whole (exactTerm (ofPattern z))) ∙ pattern-term z r c e) ∙ scaled-sum s a r c (2 ^ 149) (lit< tt)
 
-  pub terms-sum : (o : Operation) → columnSum (setTerms o x y) ≡ exactly o binary32 s a t b
+  pub terms-sum : (o : Operation) → columnSum (setTerms o x y) ≡ exactResult o binary32 (int s a) (int t b)
   unfolding columnSum
   terms-sum sum = two-terms y t b right
   terms-sum difference = two-terms (flip binary32 y) (not t) b flipped ∙ ap (λ (k : ℤ). (int s a +ℤ k) *ℤ pos (2 ^ 149)) (int-not t b)

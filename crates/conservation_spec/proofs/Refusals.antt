@@ -60,11 +60,11 @@ module _ (os xs ys counts words first second : List ℕ) where
   equal-lengths a b c = rw (eq-eqb (length xs) (length os) a, eq-eqb (length ys) (length os) b, eq-eqb (length counts) (length os) c)
 
   not-both-cleared : (same : eqb (length xs) (length os) && (eqb (length ys) (length os) && eqb (length counts) (length os)) ≡ true) → length os ≤ 32768
-      → (first ≢ replicate 21 0) ⊎ (second ≢ replicate 21 0) → replaying os xs ys counts words first second ≡ refused 23
+      → (first ≢ replicate 21 0) ⊎ (second ≢ replicate 21 0) → replaying os xs ys counts words first second ≡ refused 103
   not-both-cleared s few (inl n) = sym (first-not-cleared os xs ys counts words first second s few (not-cleared first n))
   not-both-cleared s few (inr n) = go (isCleared first) refl
     where
-      go : (b : Bool) → isCleared first ≡ b → replaying os xs ys counts words first second ≡ refused 23
+      go : (b : Bool) → isCleared first ≡ b → replaying os xs ys counts words first second ≡ refused 103
       go true e = sym (second-not-cleared os xs ys counts words first second s few e (not-cleared second n))
       go false e = sym (first-not-cleared os xs ys counts words first second s few e)
 

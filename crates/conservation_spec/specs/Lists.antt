@@ -1,16 +1,16 @@
 -- Lists of calls over two totals (document 01, "Demand 3, word by word").
 -- Questions and adding calls act by the definitions that the contracts of `fill`, `add_pattern` and `add_product` cite; `read` is lent its total to
 -- look at only, and answers by `reading`.
-use Prim.Native.Nat.{ℕ, suc, _+_, _*_, _^_}
+use Prim.Native.Nat.{ℕ, suc, _+_, _*_}
 use mathlib.Core.Bool.{Bool, not, cond, _&&_}
 use mathlib.Core.List.{List, [], _∷_}
-use lib.IntN.{ℤ, pos, _+ℤ_, _-ℤ_, _*ℤ_}
+use lib.IntN.{ℤ, pos, _+ℤ_}
 use Rattle.pattern_spec.specs.Answer.{Answer, refused, done, isDone}
 use Rattle.rounding_spec.specs.Format.{binary32}
 use Rattle.rounding_spec.specs.Value.{decode, isFinite}
 use Rattle.pattern_spec.specs.Classes.{flip}
 use Rattle.augmented_spec.specs.declared.Pair.{Pair}
-use Rattle.augmented_spec.specs.Direct.{Operation, sum, difference, product, directPair, operationOf}
+use Rattle.augmented_spec.specs.Direct.{Operation, sum, difference, product, directPair, exactResult, operationOf}
 use Rattle.worksheet_spec.specs.Filling.{FilledSheet, filling}
 use Rattle.accumulator_spec.specs.Totals.{Term, ofPattern, ofProduct, whole, afterAdding}
 use Rattle.accumulator_spec.specs.Columns.{column}
@@ -90,15 +90,13 @@ run t (e ∷ es) = run (after t e) es
 
 -- ---- "The plain book beside them is S, a whole number of 2^-298, at first 0."
 -- A pattern's value counts 2 ^ -149: "its exact x + y, x - y or xy", from the decoded operands alone
-abbrev pub exactResult : Operation → ℕ → ℕ → ℤ
-exactResult sum x y = (whole (decode binary32 x) +ℤ whole (decode binary32 y)) *ℤ pos (2 ^ 149)
-exactResult difference x y = (whole (decode binary32 x) -ℤ whole (decode binary32 y)) *ℤ pos (2 ^ 149)
-exactResult product x y = whole (decode binary32 x) *ℤ whole (decode binary32 y)
+abbrev pub exactOfPatterns : Operation → ℕ → ℕ → ℤ
+exactOfPatterns o x y = exactResult o binary32 (whole (decode binary32 x)) (whole (decode binary32 y))
 
 -- "An entering question adds its exact x + y, x - y or xy to S; all else leaves S alone."
 unfoldable pub book : List Event → ℤ
 book [] = pos 0
-book (asks q ∷ es) = cond (enters q) (exactResult (operation q) (q .x) (q .y)) (pos 0) +ℤ book es
+book (asks q ∷ es) = cond (enters q) (exactOfPatterns (operation q) (q .x) (q .y)) (pos 0) +ℤ book es
 book (reads side ∷ es) = book es
 book (adds side x ∷ es) = book es
 

@@ -40,14 +40,14 @@ unfoldable pub allWithin : List ℕ → ℕ → Bool
 allWithin [] most = true
 allWithin (n ∷ ns) most = leb n most && allWithin ns most
 
--- tried in this order: 21, arrays of unequal length; 22, more than 32,768 questions; 23, a total that is not cleared; 24, a word count past the lent
--- words. The numbers follow document 01's, whose last is 11, at a distance.
+-- tried in this order: 101, arrays of unequal length; 102, more than 32,768 questions; 103, a total that is not cleared; 104, a word count past the
+-- lent words (R8.12).
 unfoldable pub replaying : List ℕ → List ℕ → List ℕ → List ℕ → List ℕ → List ℕ → List ℕ → Answer (Unit {0})
 replaying operations xs ys counts words first second =
-    cond (not (eqb (length xs) (length operations) && (eqb (length ys) (length operations) && eqb (length counts) (length operations)))) (refused 21)
-    (cond (ltb 32768 (length operations)) (refused 22)
-    (cond (not (isCleared first && isCleared second)) (refused 23)
-    (cond (not (allWithin counts (length words))) (refused 24)
+    cond (not (eqb (length xs) (length operations) && (eqb (length ys) (length operations) && eqb (length counts) (length operations)))) (refused 101)
+    (cond (ltb 32768 (length operations)) (refused 102)
+    (cond (not (isCleared first && isCleared second)) (refused 103)
+    (cond (not (allWithin counts (length words))) (refused 104)
     (done tt))))
 
 -- ---- what is left: nothing is changed where it is refused

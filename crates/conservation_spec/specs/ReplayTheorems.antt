@@ -18,16 +18,16 @@ Replayed =
     → let es = eventsOf operations xs ys counts words in
     Holds (totalsAfter operations xs ys counts words first second) es × Met (record { first = first; other = second }) es × (questions es ≡ length operations)
 
--- its refusals, "in the order written" in Replay.antt: 21 to 24, and no other
+-- its refusals, "in the order written" in Replay.antt: 101 to 104, and no other
 abbrev pub ReplayRefused : Type 0
 ReplayRefused =
     (operations xs ys counts words first second : List ℕ) → let n = length operations in let answer = replaying operations xs ys counts words first second in
-    ((length xs ≢ n) ⊎ (length ys ≢ n) ⊎ (length counts ≢ n) → answer ≡ refused 21)
+    ((length xs ≢ n) ⊎ (length ys ≢ n) ⊎ (length counts ≢ n) → answer ≡ refused 101)
     × (length xs ≡ n → length ys ≡ n → length counts ≡ n
-    → (32768 < n → answer ≡ refused 22)
-    × (n ≤ 32768 → (first ≢ replicate 21 0) ⊎ (second ≢ replicate 21 0) → answer ≡ refused 23)
+    → (32768 < n → answer ≡ refused 102)
+    × (n ≤ 32768 → (first ≢ replicate 21 0) ⊎ (second ≢ replicate 21 0) → answer ≡ refused 103)
     × (n ≤ 32768 → first ≡ replicate 21 0 → second ≡ replicate 21 0
-    → ((i : ℕ) → length words < getD counts i 0 → answer ≡ refused 24) × (((i : ℕ) → getD counts i 0 ≤ length words) → answer ≡ done tt)))
+    → ((i : ℕ) → length words < getD counts i 0 → answer ≡ refused 104) × (((i : ℕ) → getD counts i 0 ≤ length words) → answer ≡ done tt)))
 
 -- a refusal leaves the totals and the words as they were
 abbrev pub ReplayUnchanged : Type 0

@@ -2,7 +2,8 @@
 use mathlib.Core.Path.{_≡_, refl, sym, ap, ap₂, _∙_}
 use mathlib.Core.Bool.{Bool, true, false, not, cond, _&&_}
 use Prim.Native.Nat.{ℕ, suc, _+_, _-_, _*_, _^_, _≤_, _<_}
-use native.Mathlib.Nat.{le-refl, le-trans, le-of-eq, le-antisymm, mul-assoc, mul-left-comm, mul-right-comm, mul-le-mul-right, mul-lt-mul-of-pos-right, le-of-mul-le-mul-right, one-mul, pow-succ', suc-add, add-mul}
+use native.Mathlib.Nat.{le-refl, le-trans, le-of-eq, le-antisymm, mul-assoc, mul-left-comm, mul-right-comm, mul-le-mul-right, mul-lt-mul-of-pos-right, le-of-mul-le-mul-right, one-mul, pow-succ'}
+use native.Mathlib.Nat.{suc-add, add-mul}
 use native.Mathlib.Decide.{decLe}
 use native.Mathlib.Omega.{arith}
 use borrow.Author.Tests.{ne-eqb}
@@ -90,10 +91,24 @@ module _ (F : Format) (room : Roomy F) where
 
   two-rep : Rep (suc (F .fraction)) 0 (2 * edgeRest F)
   unfolding edgeRest
-  two-rep = record { e = suc (F .emax + low F - suc (suc (F .fraction))); m = 1; low = omega arith; small = omega (arith, pow-pos (F .fraction)); is = sym (pow-succ' 2 (F .emax + low F - suc (suc (F .fraction)))) ∙ sym (one-mul (2 ^ suc (F .emax + low F - suc (suc (F .fraction))))) }
+  two-rep = record {
+    e = suc (F .emax + low F - suc (suc (F .fraction)));
+    m = 1;
+    low = omega arith;
+    small = omega (arith, pow-pos (F .fraction));
+    is = sym (pow-succ' 2 (F .emax + low F - suc (suc (F .fraction)))) ∙ sym (one-mul (2 ^ suc (F .emax + low F - suc (suc (F .fraction)))));
+  }
 
   abbrev top-upper : Upper (F .fraction) 0 (limit F)
-  top-upper = record { f = suc (suc j); m = 2 ^ suc (F .fraction); low = omega arith; pos = pow-pos (suc (F .fraction)); above = λ h. omega (arith, pow-pos (F .fraction)); top = le-refl (2 ^ suc (F .fraction)); is = top-is }
+  top-upper = record {
+    f = suc (suc j);
+    m = 2 ^ suc (F .fraction);
+    low = omega arith;
+    pos = pow-pos (suc (F .fraction));
+    above = λ h. omega (arith, pow-pos (F .fraction));
+    top = le-refl (2 ^ suc (F .fraction));
+    is = top-is;
+  }
 
   -- no number of the format lies between it and the limit
   pub last-best : (m : ℕ) → Rep (suc (F .fraction)) 0 m → m < limit F → m ≤ last
@@ -104,7 +119,9 @@ module _ (F : Format) (room : Roomy F) where
     pub over-ge : (n : ℕ) → limit F ≤ toEven F (n * 2 ^ low F) → limit F ≤ n + 2 * edgeRest F
     over-ge n h =
         elim (decLe (edge F) (n * 2 ^ low F)) [
-          | yes g ↦ le-of-mul-le-mul-right {k = 2 ^ low F} (le-trans (le-of-eq (sym edge-is)) (le-trans (let z : edge F + 2 * edgeRest F * 2 ^ low F ≤ n * 2 ^ low F + 2 * edgeRest F * 2 ^ low F = omega arith in z) (le-of-eq (sym (add-mul n (2 * edgeRest F) (2 ^ low F)))))) (pow-pos (low F))
+          | yes g ↦ le-of-mul-le-mul-right {k = 2 ^ low F} (le-trans (le-of-eq (sym edge-is))
+              (le-trans (let z : edge F + 2 * edgeRest F * 2 ^ low F ≤ n * 2 ^ low F + 2 * edgeRest F * 2 ^ low F = omega arith in z) (le-of-eq (sym (add-mul n (2 * edgeRest F) (2 ^ low F))))))
+              (pow-pos (low F))
           | no g ↦ absurd (omega (arith, under-edge F ok ToEven (n * 2 ^ low F) (omega arith)))
         ]
 
@@ -141,7 +158,8 @@ module _ (F : Format) (room : Roomy F) where
       in
       let rest-is : 2 ^ (F .emax + low F - suc (suc (F .fraction))) * 2 ^ low F ≡ 2 ^ i = sym (pow-add 2 (F .emax + low F - suc (suc (F .fraction))) (low F)) in
       let sum : n * 2 ^ low F + 2 ^ i ≡ D * 2 ^ suc i = omega (arith, add-mul n (2 ^ (F .emax + low F - suc (suc (F .fraction)))) (2 ^ low F), ap (λ (z : ℕ). z * 2 ^ low F) e, next-is, rest-is) in
-      let tie-is : (D - 1) * 2 ^ suc i + 2 ^ i ≤ n * 2 ^ low F = omega (arith, sub-mul D 1 (2 ^ suc i), one-mul (2 ^ suc i), pow-succ' 2 i, sum, mul-le-mul-right (2 ^ suc i) (pow-pos (suc (F .fraction)))) in
+      let tie-is : (D - 1) * 2 ^ suc i + 2 ^ i ≤ n * 2 ^ low F = omega
+      (arith, sub-mul D 1 (2 ^ suc i), one-mul (2 ^ suc i), pow-succ' 2 i, sum, mul-le-mul-right (2 ^ suc i) (pow-pos (suc (F .fraction)))) in
       let ge = even-up (F .fraction) (low F) i (omega arith) (n * 2 ^ low F) tie-is in
       let up : halfLimit F ≤ toEven F (n * 2 ^ low F) = le-of-mul-le-mul-right {k = 2 ^ low F} (le-trans (le-of-eq next-is) ge) (pow-pos (low F)) in
       le-antisymm (near-le (even-at F n) (half-rep (F .fraction) 0) (omega arith)) up
@@ -219,6 +237,10 @@ module _ (F : Format) (room : Roomy F) where
               ap (mulValue F (minusTwo F)) e ∙ minus-is s ∙ (rw z at (finished-second F s (2 * n) last (finite s last) (finite s (2 * edgeRest F)) h)),
             )
         go false x y =
-            let past : limit F < 2 * n + 2 * edgeRest F = elim (decLe (2 * n + 2 * edgeRest F) (limit F)) [ yes k ↦ absurd (y (omega (arith, over-ge ok (2 * n) over, limit-twice))) | no k ↦ omega arith ] in
+            let past : limit F < 2 * n + 2 * edgeRest F = elim (decLe (2 * n + 2 * edgeRest F) (limit F)) [
+              | yes k ↦ absurd (y (omega (arith, over-ge ok (2 * n) over, limit-twice)))
+              | no k ↦
+                  omega arith
+            ] in
             let inf = past-edge ok (2 * n) past in
             (sym (first-infinite F s (2 * n * 2 ^ low F) inf), sym (second-infinite F s (2 * n * 2 ^ low F) inf))

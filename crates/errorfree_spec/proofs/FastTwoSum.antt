@@ -52,7 +52,8 @@ module _ (F : Format) (X Y : ℕ) (xr : Rep (suc (F .fraction)) 0 X) (yr : Rep (
       let h = even-at F (X + Y) in
       let ge = add-ge xr yr le h in
       let d : dist (A + 0) X ≡ A - X = omega arith in
-      split-by F s (X + Y) A h fine (rw (dist-comm (X + Y) A) (sum-error xr yr h)) (finite s X) (finite s Y) X 0 Y 0 (rel-own s X) (rel-own s Y) (omega arith) (rw d (add-v xr yr le h)) (rw d (omega arith))
+      split-by F s (X + Y) A h fine (rw (dist-comm (X + Y) A) (sum-error xr yr h)) (finite s X) (finite s Y) X 0 Y 0 (rel-own s X) (rel-own s Y) (omega arith) (rw d (add-v xr yr le h))
+      (rw d (omega arith))
 
   -- unlike signs
   split-unlike : (s : Bool) → Y < X

@@ -194,5 +194,10 @@ module _ (F : Format) (ok : Proper F) (room : Roomy F) (a b : ℕ) (ar : Rep (su
             let b-is : b' ≡ fmaValue F (finite s H) (finite t b) (negate (finite r A)) = bi ∙ ap₂ (λ (v w : Value). fmaValue F v (finite t b) (negate w)) h-is a-is in
             let split = product-split F H b H-rep br big-half s t fine in
             let v = fmaValue F (finite s H) (finite t b) (negate (finite r A)) in
-            inr (A, a-is, rw (a-is, b-is, n-twice) (rw (← m-is) at (edge-pair F room ok r m v (subst (λ (z : ℕ). limit F ≤ toEven F z) n-twice over) (subst (λ (z : ℕ). Is r v m (toEven F z)) m-is (split .rest)))))
+            inr (
+              A,
+              a-is,
+              rw (a-is, b-is, n-twice) (rw (← m-is) at (edge-pair F room ok r m v (subst (λ (z : ℕ). limit F ≤ toEven F z) n-twice over)
+                  (subst (λ (z : ℕ). Is r v m (toEven F z)) m-is (split .rest)))),
+            )
       ]

@@ -3,7 +3,8 @@ use mathlib.Core.Path.{_≡_, refl, sym, ap, ap₂, _∙_, subst}
 use mathlib.Core.Logic.{_≢_, inl, inr}
 use mathlib.Core.Bool.{Bool, true, false, not, cond, _&&_}
 use Prim.Native.Nat.{ℕ, suc, _+_, _*_, _^_, _≤_, _<_}
-use native.Mathlib.Nat.{le-trans, le-of-eq, lt-of-le-of-lt, mul-comm, mul-assoc, mul-right-comm, mul-zero, mul-pos, zero-add, add-comm, pow-succ', mul-le-mul-right, le-mul-of-pos-right, eq-of-mul-eq-mul-right, eq-zero-or-pos}
+use native.Mathlib.Nat.{le-trans, le-of-eq, lt-of-le-of-lt, mul-comm, mul-assoc, mul-right-comm, mul-zero, mul-pos, zero-add, add-comm, pow-succ', mul-le-mul-right, le-mul-of-pos-right}
+use native.Mathlib.Nat.{eq-of-mul-eq-mul-right, eq-zero-or-pos}
 use native.Mathlib.Decide.{decLe}
 use native.Mathlib.Omega.{arith}
 use lib.Dec.{ltb}
@@ -77,7 +78,12 @@ module _ (F : Format) (room : Roomy F) (a b : ℕ) (ar : Rep (suc (F .fraction))
   higher =
       elim (decLe (a * b) (2 ^ suc (suc (F .fraction + F .fraction)) * U)) [
         | yes g ↦ g
-        | no g ↦ absurd (omega (arith, pow-ge-of F (a * b) (suc (suc (F .fraction + F .fraction))) (omega arith), pow-succ' 2 (suc (F .fraction + F .fraction)), pow-pos (suc (F .fraction + F .fraction))))
+        | no g ↦ absurd (omega (
+          arith,
+          pow-ge-of F (a * b) (suc (suc (F .fraction + F .fraction))) (omega arith),
+          pow-succ' 2 (suc (F .fraction + F .fraction)),
+          pow-pos (suc (F .fraction + F .fraction)),
+        ))
       ]
 
   -- ---- the scaled product
@@ -87,7 +93,9 @@ module _ (F : Format) (room : Roomy F) (a b : ℕ) (ar : Rep (suc (F .fraction))
   scaled-high : a * b * 2 ^ K ≤ 2 ^ (K + K + K) * U
   scaled-high =
       le-trans (mul-le-mul-right (2 ^ K) higher)
-      (le-of-eq (mul-right-comm (2 ^ suc (suc (F .fraction + F .fraction))) U (2 ^ K) ∙ ap (λ (z : ℕ). z * U) (sym (pow-add 2 (suc (suc (F .fraction + F .fraction))) K) ∙ ap (λ (z : ℕ). 2 ^ z) (let z : suc (suc (F .fraction + F .fraction)) + K ≡ K + K + K = omega arith in z))))
+      (le-of-eq (mul-right-comm (2 ^ suc (suc (F .fraction + F .fraction))) U (2 ^ K)
+      ∙ ap (λ (z : ℕ). z * U) (sym (pow-add 2 (suc (suc (F .fraction + F .fraction))) K)
+      ∙ ap (λ (z : ℕ). 2 ^ z) (let z : suc (suc (F .fraction + F .fraction)) + K ≡ K + K + K = omega arith in z))))
 
   top-fine : 2 ^ (K + K + K) * U < limit F
   unfolding limit
@@ -104,14 +112,16 @@ module _ (F : Format) (room : Roomy F) (a b : ℕ) (ar : Rep (suc (F .fraction))
 
   big : 2 ^ suc (F .fraction + F .fraction) * U ≤ a * 2 ^ K * b
   big =
-      le-trans (le-of-eq (ap (λ (z : ℕ). z * U) (ap (λ (z : ℕ). 2 ^ z) (let z : suc (F .fraction + F .fraction) ≡ F .fraction + K = omega arith in z) ∙ pow-add 2 (F .fraction) K) ∙ mul-right-comm (2 ^ F .fraction) (2 ^ K) U))
+      le-trans (le-of-eq (ap (λ (z : ℕ). z * U) (ap (λ (z : ℕ). 2 ^ z) (let z : suc (F .fraction + F .fraction) ≡ F .fraction + K = omega arith in z) ∙ pow-add 2 (F .fraction) K)
+      ∙ mul-right-comm (2 ^ F .fraction) (2 ^ K) U))
       (le-trans (mul-le-mul-right (2 ^ K) lower) (le-of-eq (sym moved)))
 
   fine : toEven F (a * 2 ^ K * b) < limit F
   fine = lt-of-le-of-lt (le-trans (pow-le-of F (a * 2 ^ K * b) (K + K + K) (le-trans (le-of-eq moved) scaled-high)) (le-mul-of-pos-right (2 ^ (K + K + K)) (pow-pos (low F)))) top-fine
 
   -- one factor scaled up, and the scaled product split
-  pub middle-split : (s t : Bool) (m a' b' : Value) → m ≡ mulValue F (scale F) (finite s a) → a' ≡ mulValue F m (finite t b) → b' ≡ fmaValue F m (finite t b) (negate a') → Scaled F a b (unlike s t) a' b'
+  pub middle-split : (s t : Bool) (m a' b' : Value) → m ≡ mulValue F (scale F) (finite s a) → a' ≡ mulValue F m (finite t b) → b' ≡ fmaValue F m (finite t b) (negate a')
+      → Scaled F a b (unlike s t) a' b'
   middle-split s t m a' b' m-eq a-eq b-eq =
       let A = toEven F (a * 2 ^ K * b) in
       let w = whole F (a * 2 ^ K) b factor-rep br big in
@@ -169,7 +179,8 @@ module _ (F : Format) (room : Roomy F) (a b : ℕ) (ar : Rep (suc (F .fraction))
         let y : Near0 K (K + low F) (d * U) (q * 2 ^ K * U) = near0-up (low F) near in
         let k : X * 2 ^ K ≡ d * U = sym (dist-mul (head * U) (a * b) (2 ^ K)) ∙ ap₂ dist scaled product ∙ dist-mul f n U ∙ ap (λ (z : ℕ). z * U) (let z : dist f n ≡ d = omega arith in z) in
         let y' : Near0 K (low F + K) (X * 2 ^ K) (q * 2 ^ K * U) = rw (k, add-comm (low F) K) y in
-        sym (eq-of-mul-eq-mul-right (U * 2 ^ K) (mul-pos (pow-pos (low F)) (pow-pos K)) R q (sym (mul-assoc R U (2 ^ K)) ∙ near0-one x y' ∙ mul-assoc q (2 ^ K) U ∙ ap (λ (z : ℕ). q * z) (mul-comm (2 ^ K) U)))
+        sym (eq-of-mul-eq-mul-right (U * 2 ^ K) (mul-pos (pow-pos (low F)) (pow-pos K)) R q
+        (sym (mul-assoc R U (2 ^ K)) ∙ near0-one x y' ∙ mul-assoc q (2 ^ K) U ∙ ap (λ (z : ℕ). q * z) (mul-comm (2 ^ K) U)))
 
     -- a finished second of the sign t, that of a left-over which is not zero where it is not
     finish : (t : Bool) (d q : ℕ) (v : Value) → Rel s t d n f → Near0 K K d (q * 2 ^ K) → Is t v q 0 → cond (isZero v) (mulValue F zero (finite s head)) v ≡ pairOf F (finite s (a * b)) .second

@@ -34,7 +34,8 @@ abbrev pub stepped : Format → Bool → Value → Value → Value
 stepped F t c r = cond (not (isZero c) && same r (finite t (2 ^ F .fraction))) (subValue F c (finite t 1)) c
 
 -- d units of u with the sign t, not more than a number `top` that is still one of the format when it is scaled down
-module _ (F : Format) (wide : suc (F .fraction) ≤ low F) (t : Bool) (d : ℕ) (dr : Rep (suc (F .fraction)) 0 d) (top : ℕ) (tr : Rep (suc (F .fraction)) (suc (F .fraction)) top) (dt : d ≤ top) (tw : top < limit F) where
+module _ (F : Format) (wide : suc (F .fraction) ≤ low F) (t : Bool) (d : ℕ) (dr : Rep (suc (F .fraction)) 0 d) (top : ℕ) (tr : Rep (suc (F .fraction)) (suc (F .fraction)) top) (dt : d ≤ top)
+    (tw : top < limit F) where
   -- d scaled down, and that scaled up again
   abbrev pub small : ℕ
   small = toEven F (2 ^ (low F - suc (F .fraction)) * d)
@@ -95,7 +96,8 @@ module _ (F : Format) (wide : suc (F .fraction) ≤ low F) (t : Bool) (d : ℕ) 
                 let l : large ≡ 2 ^ K = ap (λ (z : ℕ). z * 2 ^ K) one ∙ one-mul (2 ^ K) in
                 let twice : 2 * d ≡ 2 ^ K = omega (arith, pow-succ' 2 (F .fraction)) in
                 let all : 2 * (2 ^ (low F - K) * d) ≡ 2 ^ low F =
-                mul-left-comm 2 (2 ^ (low F - K)) d ∙ ap (λ (z : ℕ). 2 ^ (low F - K) * z) twice ∙ sym (pow-add 2 (low F - K) K) ∙ ap (λ (z : ℕ). 2 ^ z) (let z : low F - K + K ≡ low F = omega arith in z)
+                mul-left-comm 2 (2 ^ (low F - K)) d ∙ ap (λ (z : ℕ). 2 ^ (low F - K) * z) twice ∙ sym (pow-add 2 (low F - K) K)
+                ∙ ap (λ (z : ℕ). 2 ^ z) (let z : low F - K + K ≡ low F = omega arith in z)
                 in
                 absurd (omega (arith, half-to-even (F .fraction) (low F) (2 ^ (low F - K) * d) all))
           ]
@@ -130,7 +132,8 @@ module _ (F : Format) (wide : suc (F .fraction) ≤ low F) (t : Bool) (d : ℕ) 
 
   result : Result (stepped F t (finite t small) gap)
   result =
-      go (eqb small 0) (eqb→eq small 0) (same gap halfPlace) (same-eq t gap halfPlace large d (2 ^ F .fraction) 0 gap-is (rel-own t (2 ^ F .fraction))) (eq-same t gap halfPlace large d (2 ^ F .fraction) 0 gap-is (rel-own t (2 ^ F .fraction)))
+      go (eqb small 0) (eqb→eq small 0) (same gap halfPlace) (same-eq t gap halfPlace large d (2 ^ F .fraction) 0 gap-is (rel-own t (2 ^ F .fraction)))
+      (eq-same t gap halfPlace large d (2 ^ F .fraction) 0 gap-is (rel-own t (2 ^ F .fraction)))
     where
       keep : ¬ ((d < large) × (2 * (large - d) ≡ 2 ^ suc (F .fraction))) → Result (finite t small)
       keep no-tie = (small, rel-own t small, rest-keep dr near no-tie)
@@ -155,5 +158,6 @@ module _ (F : Format) (wide : suc (F .fraction) ≤ low F) (t : Bool) (d : ℕ) 
     stepped-nonzero h =
         let e : r ≡ gap = r-is ∙ ap (λ (v : Value). subValue F v (finite t d)) (g-is ∙ ap (mulValue F (scale F)) scaled-down ∙ large-is) in
         let k : not (eqb small 0) && same gap halfPlace ≡ true = sym (ap₂ (λ (v w : Value). not (isZero v) && same w halfPlace) scaled-down e) ∙ h in
-        let tie = same-eq t gap halfPlace large d (2 ^ F .fraction) 0 gap-is (rel-own t (2 ^ F .fraction)) (and-both (not (eqb small 0)) (same gap halfPlace) (subst (λ (b : Bool). T b) (sym k) tt) .1) in
+        let tie = same-eq t gap halfPlace large d (2 ^ F .fraction) 0 gap-is (rel-own t (2 ^ F .fraction))
+        (and-both (not (eqb small 0)) (same gap halfPlace) (subst (λ (b : Bool). T b) (sym k) tt) .1) in
         rw (h, scaled-down) (lower-nonzero tie)

@@ -69,7 +69,8 @@ module _ (F : Format) (a b : ℕ) (ar : Rep (suc (F .fraction)) 0 a) (br : Rep (
               let x : a * b < D * D * 2 ^ k = lt-of-le-of-lt (le-of-eq product-is) (mul-lt-mul-of-pos-right product-small (pow-pos k)) in
               let y : D * D * 2 ^ k ≤ 2 ^ suc (F .fraction + F .fraction) * 2 ^ low F =
               le-trans (le-of-eq (ap (λ (z : ℕ). z * 2 ^ k) (sym (pow-add 2 (suc (F .fraction)) (suc (F .fraction)))) ∙ sym (pow-add 2 (suc (F .fraction) + suc (F .fraction)) k)))
-              (le-trans (pow-mono (let z : suc (F .fraction) + suc (F .fraction) + k ≤ suc (F .fraction + F .fraction) + low F = omega arith in z)) (le-of-eq (pow-add 2 (suc (F .fraction + F .fraction)) (low F))))
+              (le-trans (pow-mono (let z : suc (F .fraction) + suc (F .fraction) + k ≤ suc (F .fraction + F .fraction) + low F = omega arith in z))
+              (le-of-eq (pow-add 2 (suc (F .fraction + F .fraction)) (low F))))
               in
               omega arith)
         ]
@@ -86,7 +87,8 @@ module _ (F : Format) (a b : ℕ) (ar : Rep (suc (F .fraction)) 0 a) (br : Rep (
         rep-down (dist n A) (low F) (rw zero-add (subst (λ (z : ℕ). Rep (suc (F .fraction)) (low F) z) (dist-mul A n U ∙ ap (λ (z : ℕ). z * U) (let z : dist A n ≡ dist n A = omega arith in z)) r))
 
     -- RNe of the product, and what the fused step leaves
-    pub product-split : (s t : Bool) → toEven F (a * b) < limit F → Split F (unlike s t) (whole .0) (toEven F (a * b)) (fmaValue F (finite s a) (finite t b) (negate (finite (unlike s t) (toEven F (a * b)))))
+    pub product-split : (s t : Bool) → toEven F (a * b) < limit F
+        → Split F (unlike s t) (whole .0) (toEven F (a * b)) (fmaValue F (finite s a) (finite t b) (negate (finite (unlike s t) (toEven F (a * b)))))
     product-split s t fine =
         let n = whole .0 in
         let A = toEven F (a * b) in

@@ -83,7 +83,13 @@ module _ (F : Format) (room : Roomy F) (s : Bool) (n A : ℕ) (b : Value) (h : S
   choice true x y =
       let f : Z ≡ toZero F (n * 2 ^ low F) = near0-one (choose-z Z (h .near) zn (omega (arith, x tt))) (zero-at F n) in
       let d : dist n Z ≡ dist n A = omega (arith, x tt) in
-      rw (← f) (record { is = refl; near = rw f (zero-at F n); fine = lt-of-le-of-lt (z-le Z (h .near) zn) (h .fine); error = rw d (h .error); rest = is-shift s (negate b) A n n Z (is-negate s b n A (h .rest)) (omega (arith, x tt)) })
+      rw (← f) (record {
+        is = refl;
+        near = rw f (zero-at F n);
+        fine = lt-of-le-of-lt (z-le Z (h .near) zn) (h .fine);
+        error = rw d (h .error);
+        rest = is-shift s (negate b) A n n Z (is-negate s b n A (h .rest)) (omega (arith, x tt));
+      })
   choice false x y =
       let f : A ≡ toZero F (n * 2 ^ low F) = near0-one (choose-a Z (h .near) zn (λ t. y (omega arith))) (zero-at F n) in
       rw (← f) (record { is = refl; near = rw f (zero-at F n); fine = h .fine; error = h .error; rest = h .rest })

@@ -48,7 +48,8 @@ zero-finish F s N h t m e sign =
           rw q (zero-times F s (head F s N)) ∙ sym (pair-second F s N h ∙ ap₂ (λ (c : Bool) (k : ℕ). finite c k) (ap (λ (k : ℕ). cond (eqb k 0) s (unlike s (up F s N))) (sym e ∙ q)) (sym e ∙ q))
       | no z ↦
           let q : m ≢ 0 = λ (k : m ≡ 0). omega arith in
-          rw (ne-eqb m 0 q) (ap₂ (λ (c : Bool) (k : ℕ). finite c k) (sign q ∙ sym (ap (λ (b : Bool). cond b s (unlike s (up F s N))) (ap (λ (k : ℕ). eqb k 0) (sym e) ∙ ne-eqb m 0 q))) e ∙ sym (pair-second F s N h))
+          rw (ne-eqb m 0 q) (ap₂ (λ (c : Bool) (k : ℕ). finite c k) (sign q ∙ sym (ap (λ (b : Bool). cond b s (unlike s (up F s N))) (ap (λ (k : ℕ). eqb k 0) (sym e) ∙ ne-eqb m 0 q))) e
+          ∙ sym (pair-second F s N h))
     ]
 
 -- ---- the side on which the rest lies

@@ -19,7 +19,7 @@ use Rattle.rounding_spec.proofs.Rounded.{rounded-near}
 use Rattle.rounding_spec.proofs.RoundValue.{round-below, round-above}
 use Rattle.rounding_spec.proofs.Scaled.{rep-up}
 use Rattle.rounding_spec.proofs.Rescaled.{dist-mul, whole-near}
-use Rattle.rounding_spec.proofs.SumError.{sum-error, difference-error}
+use Rattle.rounding_spec.proofs.SumError as error
 use Rattle.rounding_spec.proofs.Predecessor.{upper, below-add, below-rep, below-best}
 use Rattle.rounding_spec.proofs.Predecessor as predecessor
 use Rattle.pattern_spec.specs.Exact.{negate, plus, times, finer, int}
@@ -29,7 +29,7 @@ use Rattle.augmented_spec.specs.Pairs.{rest, addsUp}
 use Rattle.augmented_spec.proofs.Distance.{int-size}
 use Rattle.errorfree_spec.specs.Comparisons.{same, lessMagnitude}
 use Rattle.errorfree_spec.specs.Constants.{psi}
-use Rattle.errorfree_spec.specs.Theorems as specs
+use Rattle.errorfree_spec.specs.Theorems.{SameMeans, LessMeans, SumError, ProductError, Fast2Sum, FusedRest, PsiPredecessor, Recomposition, Binary32Roomy, All}
 use Rattle.errorfree_spec.proofs.NoNumber.{not-both, none-zero, number-of, both-of, sum-none, finer-none, negate-none, add-none}
 use Rattle.errorfree_spec.proofs.Signed.{Is, rel-dist}
 use Rattle.errorfree_spec.proofs.Steps.{toEven, toZero, even-at, mul-finite, mul-positive}
@@ -39,7 +39,7 @@ use Rattle.errorfree_spec.proofs.AddsUp.{adds-up, up-adds}
 use Rattle.errorfree_spec.proofs.Recomposed as split
 
 -- ---- comparisons
-pub less-means : specs.LessMeans
+pub less-means : LessMeans
 unfolding lessMagnitude
 less-means = (λ s a t b. refl, nothing, λ s v. (refl, infinity s v))
   where
@@ -75,7 +75,7 @@ same-sign false false a e = refl
 same-sign true false a e = let z = eqb-true a 0 e in rw z refl
 same-sign false true a e = let z = eqb-true a 0 e in rw z refl
 
-pub same-means : specs.SameMeans
+pub same-means : SameMeans
 unfolding same
 same-means = (λ s a t b. (forth s a t b, back s a t b), nothing, λ s t. refl, λ s t b. (refl, refl))
   where
@@ -93,15 +93,16 @@ same-means = (λ s a t b. (forth s a t b, back s a t b), nothing, λ s t. refl, 
     nothing (finite s a) = (refl, refl)
 
 -- ---- errors
-pub sum-errors : specs.SumError
-sum-errors t f L x y xr yr = (sum-error xr yr (rounded-near t f L (x + y)), difference-error xr yr (rounded-near t f L (dist x y)))
+pub sum-error : SumError
+sum-error t f L x y xr yr = (error.sum-error xr yr (rounded-near t f L (x + y)), error.difference-error xr yr (rounded-near t f L (dist x y)))
 
-pub product-errors : specs.ProductError
-product-errors t F a b ar br big =
+pub product-error : ProductError
+product-error t F a b ar br big =
     let n = whole F a b ar br big in
     let U = 2 ^ low F in
     let A = rounded t (F .fraction) (low F) (a * b) in
-    let near : Near (suc (F .fraction)) 0 (n .0) A = subst (λ (z : ℕ). Near (suc (F .fraction)) 0 (n .0) (rounded t (F .fraction) (low F) z)) (sym (n .1)) (whole-near t (F .fraction) (low F) (n .0)) in
+    let near : Near (suc (F .fraction)) 0 (n .0) A = subst (λ (z : ℕ). Near (suc (F .fraction)) 0 (n .0) (rounded t (F .fraction) (low F) z)) (sym (n .1))
+    (whole-near t (F .fraction) (low F) (n .0)) in
     let e : dist (n .0) A * U ≡ dist (A * U) (a * b) = ap (λ (z : ℕ). z * U) (let z : dist (n .0) A ≡ dist A (n .0) = omega arith in z) ∙ sym (dist-mul A (n .0) U) ∙ ap (dist (A * U)) (sym (n .1)) in
     rw (← e) (rw zero-add at (rep-up (low F) (whole-error F a b ar br big A near)))
 
@@ -127,7 +128,7 @@ fast-finite F s X t Y xf yf le f =
     let split = fast-two-sum F X Y (xf .0) (yf .0) (xf .1) le s t r n (e .2) fine in
     rw (a-is, e .2) (adds-up F r n (toEven F (n * 2 ^ low F)) (subValue F (finite t Y) (subValue F (finite r (toEven F (n * 2 ^ low F))) (finite s X))) (split .rest))
 
-pub fast2sum : specs.Fast2Sum
+pub fast2sum : Fast2Sum
 unfolding lessMagnitude
 fast2sum F x y a v b xf yf l ai vi bi f = by (isFinite x && isFinite y) refl
   where
@@ -138,13 +139,15 @@ fast2sum F x y a v b xf yf l ai vi bi f = by (isFinite x && isFinite y) refl
         let p = number-of x (h .0) in
         let q = number-of y (h .1) in
         let le = ltb-false (p .1) (q .1) (sym (ap₂ lessMagnitude (p .2) (q .2)) ∙ l) in
-        let k = fast-finite F (p .0) (p .1) (q .0) (q .1) (subst (Fits F) (p .2) xf) (subst (Fits F) (q .2) yf) le (sym (ap₂ (λ (u w : Value). isFinite (addValue F u w)) (p .2) (q .2)) ∙ sym (ap isFinite ai) ∙ f) in
+        let k = fast-finite F (p .0) (p .1) (q .0) (q .1) (subst (Fits F) (p .2) xf) (subst (Fits F) (q .2) yf) le
+        (sym (ap₂ (λ (u w : Value). isFinite (addValue F u w)) (p .2) (q .2)) ∙ sym (ap isFinite ai) ∙ f) in
         rw (bi, vi, ai) (subst (λ (w : Value). addsUp F (finer F (plus x w)) (record { first = addValue F x w; second = subValue F w (subValue F (addValue F x w) x) }) ≡ true) (sym (q .2))
-        (subst (λ (u : Value). addsUp F (finer F (plus u (finite (q .0) (q .1)))) (record { first = addValue F u (finite (q .0) (q .1)); second = subValue F (finite (q .0) (q .1)) (subValue F (addValue F u (finite (q .0) (q .1))) u) }) ≡ true) (sym (p .2)) k))
+        (subst (λ (u : Value). addsUp F (finer F (plus u (finite (q .0) (q .1))))
+        (record { first = addValue F u (finite (q .0) (q .1)); second = subValue F (finite (q .0) (q .1)) (subValue F (addValue F u (finite (q .0) (q .1))) u) }) ≡ true) (sym (p .2)) k))
 
-pub fused-leaves : specs.FusedRest
+pub fused-rest : FusedRest
 unfolding Fits times
-fused-leaves F s c t d a b xf yf big ai bi f =
+fused-rest F s c t d a b xf yf big ai bi f =
     let r = unlike s t in
     let n = whole F c d (xf .0) (yf .0) big in
     let step = ai ∙ mul-finite F s c t d in
@@ -152,10 +155,14 @@ fused-leaves F s c t d a b xf yf big ai bi f =
     let a-is : a ≡ finite r (toEven F (c * d)) = step ∙ round-below ToEven F r (c * d) fine in
     let b-is : b ≡ fmaValue F (finite s c) (finite t d) (negate (finite r (toEven F (c * d)))) = bi ∙ ap (λ (v : Value). fmaValue F (finite s c) (finite t d) (negate v)) a-is in
     let split = product-split F c d (xf .0) (yf .0) big s t fine in
-    rw (a-is, b-is) (subst (λ (N : ℕ). addsUp F (finite r N) (record { first = finite r (toEven F (c * d)); second = fmaValue F (finite s c) (finite t d) (negate (finite r (toEven F (c * d)))) }) ≡ true) (sym (n .1)) (adds-up F r (n .0) (toEven F (c * d)) (fmaValue F (finite s c) (finite t d) (negate (finite r (toEven F (c * d))))) (split .rest)))
+    rw (a-is, b-is) (subst (λ (N : ℕ). addsUp F (finite r N) (record {
+      first = finite r (toEven F (c * d));
+      second = fmaValue F (finite s c) (finite t d) (negate (finite r (toEven F (c * d))));
+    }) ≡ true) (sym (n .1))
+    (adds-up F r (n .0) (toEven F (c * d)) (fmaValue F (finite s c) (finite t d) (negate (finite r (toEven F (c * d))))) (split .rest)))
 
 -- ---- the predecessor
-pub psi-predecessor : specs.PsiPredecessor
+pub psi-predecessor : PsiPredecessor
 unfolding Fits
 psi-predecessor F room s a f over =
     let u = upper (F .fraction) 0 a (f .0) (omega arith) in
@@ -184,7 +191,7 @@ addend-finite F v w b e = by (isFinite b) refl
         never true j h = h
         never false j h = refl
 
-pub recomposition : specs.Recomposition
+pub recomposition : Recomposition
 unfolding Fits round
 recomposition F room s n a b z d e ai f bf add zi di ei =
     let N = n * 2 ^ low F in
@@ -198,5 +205,8 @@ recomposition F room s n a b z d e ai f bf add zi di ei =
     let h = split.recomposed F room s n A b (record { near = even-at F n; fine = fine; error = error; rest = left }) z d e (zi ∙ ap (mulValue F (psi F)) a-is) (di ∙ ap (subValue F z) a-is) ei in
     rw a-is (h .is ∙ sym (round-below ToZero F s N (h .fine)), rw (h .is) (adds-up F s n (toZero F N) (cond (same e d) (negate b) b) (h .rest)))
 
-pub all : specs.All
-all = (same-means, less-means, sum-errors, product-errors, fast2sum, fused-leaves, psi-predecessor, recomposition, omega arith)
+pub binary32-roomy : Binary32Roomy
+binary32-roomy = omega arith
+
+pub all : All
+all = (same-means, less-means, sum-error, product-error, fast2sum, fused-rest, psi-predecessor, recomposition, binary32-roomy)

@@ -3,7 +3,8 @@ use mathlib.Core.Path.{_≡_, refl, sym, ap, ap₂, _∙_, subst}
 use mathlib.Core.Logic.{inl, inr}
 use mathlib.Core.Bool.{Bool, true, false, not, _&&_, cond}
 use Prim.Native.Nat.{ℕ, suc, _+_, _-_, _*_, _^_, _≤_, _<_}
-use native.Mathlib.Nat.{le-refl, le-trans, le-of-eq, lt-of-le-of-lt, lt-of-lt-of-le, mul-comm, mul-assoc, mul-right-comm, mul-mul-mul-comm, mul-one, one-mul, zero-mul, mul-zero, pow-succ', mul-le-mul-right, mul-le-mul-left, mul-lt-mul-of-pos-right, lt-of-mul-lt-mul-right, le-of-mul-le-mul-right, le-mul-of-pos-right, eq-zero-or-pos}
+use native.Mathlib.Nat.{le-refl, le-trans, le-of-eq, lt-of-le-of-lt, lt-of-lt-of-le, mul-comm, mul-assoc, mul-right-comm, mul-mul-mul-comm, mul-one, one-mul, zero-mul, mul-zero, pow-succ'}
+use native.Mathlib.Nat.{mul-le-mul-right, mul-le-mul-left, mul-lt-mul-of-pos-right, lt-of-mul-lt-mul-right, le-of-mul-le-mul-right, le-mul-of-pos-right, eq-zero-or-pos}
 use native.Mathlib.Omega.{arith}
 use lib.Dec.{T}
 use lib.Ieee.{unlike}
@@ -152,7 +153,8 @@ module _ (F : Format) (room : Roomy F) (a b : ℕ) (ar : Rep (suc (F .fraction))
   G-fine : E * S < limit F
   G-fine =
       lt-of-lt-of-le (mul-lt-mul-of-pos-right lo (pow-pos (K + K)))
-      (le-trans (le-of-eq (sym (pow-add 2 K (K + K)) ∙ ap (λ (z : ℕ). 2 ^ z) (let z : K + (K + K) ≡ K + K + K = omega arith in z))) (le-trans (le-mul-of-pos-right (2 ^ (K + K + K)) (pow-pos (low F))) (omega (arith, top-fine))))
+      (le-trans (le-of-eq (sym (pow-add 2 K (K + K)) ∙ ap (λ (z : ℕ). 2 ^ z) (let z : K + (K + K) ≡ K + K + K = omega arith in z)))
+      (le-trans (le-mul-of-pos-right (2 ^ (K + K + K)) (pow-pos (low F))) (omega (arith, top-fine))))
 
   G-is : E * U * S ≡ E * S * U
   G-is = mul-right-comm E U S

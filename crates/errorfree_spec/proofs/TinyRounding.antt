@@ -3,7 +3,8 @@ use mathlib.Core.Path.{_≡_, refl, sym, ap, ap₂, _∙_}
 use mathlib.Core.Logic.{inl, inr}
 use mathlib.Core.Bool.{Bool, cond}
 use Prim.Native.Nat.{ℕ, suc, _+_, _-_, _*_, _^_, _≤_, _<_}
-use native.Mathlib.Nat.{le-refl, le-trans, le-of-eq, lt-of-le-of-lt, lt-of-lt-of-le, mul-comm, mul-assoc, mul-left-comm, mul-right-comm, add-mul, one-mul, pow-succ', mul-le-mul-right, mul-le-mul-left, mul-lt-mul-of-pos-right, eq-of-mul-eq-mul-right, eq-zero-or-pos, mul-pos}
+use native.Mathlib.Nat.{le-refl, le-trans, le-of-eq, lt-of-le-of-lt, lt-of-lt-of-le, mul-comm, mul-assoc, mul-left-comm, mul-right-comm, add-mul, one-mul, pow-succ', mul-le-mul-right}
+use native.Mathlib.Nat.{mul-le-mul-left, mul-lt-mul-of-pos-right, eq-of-mul-eq-mul-right, eq-zero-or-pos, mul-pos}
 use native.Mathlib.Decide.{decLe}
 use native.Mathlib.Omega.{arith}
 use lib.Dec.{eqb}
@@ -97,7 +98,8 @@ module _ (F : Format) (N : ℕ) (pos : 0 < toEven F N) (lo : toEven F N < 2 ^ su
         | yes g ↦ omega (arith, u .low)
         | no g ↦ absurd
             (let x : 2 ^ p * 2 ^ suc (low F) < A * U =
-            lt-of-le-of-lt (mul-le-mul-left (2 ^ p) (pow-mono (let z : suc (low F) ≤ u .f = omega arith in z))) (lt-of-lt-of-le (mul-lt-mul-of-pos-right (u .above (omega arith)) (pow-pos (u .f))) (le-of-eq (sym (u .is))))
+            lt-of-le-of-lt (mul-le-mul-left (2 ^ p) (pow-mono (let z : suc (low F) ≤ u .f = omega arith in z)))
+            (lt-of-lt-of-le (mul-lt-mul-of-pos-right (u .above (omega arith)) (pow-pos (u .f))) (le-of-eq (sym (u .is))))
             in
             let y : A * U < 2 ^ suc p * U = mul-lt-mul-of-pos-right lo (pow-pos (low F)) in
             omega (arith, dbl p (low F), ap (λ (z : ℕ). 2 ^ p * z) (pow-succ' 2 (low F)), mul-left-comm (2 ^ p) 2 U))
@@ -120,7 +122,8 @@ module _ (F : Format) (N : ℕ) (pos : 0 < toEven F N) (lo : toEven F N < 2 ^ su
       let u = upper p (low F) (A * U) (rounded-near ToEven p (low F) N .rep) scaled-pos in
       let e = lowest u in
       let q : A * U - 2 ^ u .f ≡ (A - 1) * U = ap (λ (z : ℕ). A * U - 2 ^ z) e ∙ sym (sub-mul A 1 U ∙ ap (λ (z : ℕ). A * U - z) (one-mul U)) in
-      eq-of-mul-eq-mul-right U (pow-pos (low F)) (toZero F N) (A - 1) (near0-one (rounded-near0 p (low F) N) (go-down (rounded-near ToEven p (low F) N) u (t .0) (t .1 ∙ ap (λ (z : ℕ). 2 ^ z) (sym e))) ∙ q)
+      eq-of-mul-eq-mul-right U (pow-pos (low F)) (toZero F N) (A - 1)
+      (near0-one (rounded-near0 p (low F) N) (go-down (rounded-near ToEven p (low F) N) u (t .0) (t .1 ∙ ap (λ (z : ℕ). 2 ^ z) (sym e))) ∙ q)
 
   -- a tie that went up to 1 would have gone to 0
   pub tie-above-one : Tie N A U → 1 < A

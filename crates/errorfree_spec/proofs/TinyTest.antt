@@ -76,7 +76,8 @@ module _ (F : Format) (r : Bool) (T1 Q G H k : ℕ) (t2 : Value) (h : Scaled F r
   t3-is =
       let e = dist-shift (T1 + 0) (0 + G) T1 G (omega arith) in
       is-shift r t3 (T1 + 0) (0 + G) T1 G
-      (is-sub F r (finite r T1) (finite r G) T1 0 G 0 (rel-own r T1) (rel-own r G) (rw e (difference-rep k (h .near) (h .G-rep) (h .G-grid) (h .top) (h .close))) (rw e (omega (arith, h .fine, h .G-fine))))
+      (is-sub F r (finite r T1) (finite r G) T1 0 G 0 (rel-own r T1) (rel-own r G) (rw e (difference-rep k (h .near) (h .G-rep) (h .G-grid) (h .top) (h .close)))
+      (rw e (omega (arith, h .fine, h .G-fine))))
       (omega arith)
 
   Z : ℕ
@@ -95,8 +96,11 @@ module _ (F : Format) (r : Bool) (T1 Q G H k : ℕ) (t2 : Value) (h : Scaled F r
   z-is : (s : Bool) × (addValue F t2 t3 ≡ finite s Z) × Rel r s (dist Q G) Q G
   unfolding Z
   z-is =
-      let c = add-rounded F r t2 t3 Q T1 T1 G (h .rest) t3-is (rw sum-dist (omega (arith, Z-le, h .H-fine))) in
-      (c .0, c .1 ∙ ap (λ (z : ℕ). finite (c .0) (toEven F (z * 2 ^ low F))) sum-dist, is-shift r (finite (c .0) (dist Q G)) (Q + T1) (T1 + G) Q G (subst (λ (z : ℕ). Rel r (c .0) z (Q + T1) (T1 + G)) sum-dist (c .2)) (omega arith))
+      let c = add-rounded F r t2 t3 Q T1 T1 G (h .rest) t3-is (rw sum-dist (omega (arith, Z-le, h .H-fine))) in (
+        c .0,
+        c .1 ∙ ap (λ (z : ℕ). finite (c .0) (toEven F (z * 2 ^ low F))) sum-dist,
+        is-shift r (finite (c .0) (dist Q G)) (Q + T1) (T1 + G) Q G (subst (λ (z : ℕ). Rel r (c .0) z (Q + T1) (T1 + G)) sum-dist (c .2)) (omega arith),
+      )
 
   module _ (less : Q < G) where
     T1-le : T1 ≤ G
@@ -114,7 +118,8 @@ module _ (F : Format) (r : Bool) (T1 Q G H k : ℕ) (t2 : Value) (h : Scaled F r
     w-is : Is r (subValue F (finite (not r) Z) t3) (0 + G) (Z + T1)
     w-is =
         let e = w-dist Z G T1 T1-le in
-        is-sub F r (finite (not r) Z) t3 0 Z T1 G (rel-other r Z) t3-is (rw e (rounded-rest k (h .near) (h .G-rep) (h .G-grid) (h .top) (h .close) (h .error) less Z-below)) (rw e (w-bound Z G T1 H (limit F) T1-le Z-le (h .H-fine) (h .G-fine)))
+        is-sub F r (finite (not r) Z) t3 0 Z T1 G (rel-other r Z) t3-is (rw e (rounded-rest k (h .near) (h .G-rep) (h .G-grid) (h .top) (h .close) (h .error) less Z-below))
+        (rw e (w-bound Z G T1 H (limit F) T1-le Z-le (h .H-fine) (h .G-fine)))
 
     z-below : addValue F t2 t3 ≡ finite (not r) Z
     z-below = z-is .1 ∙ ap (λ (s : Bool). finite s Z) (other-side r (z-is .0) (dist Q G) Q G (z-is .2) less)

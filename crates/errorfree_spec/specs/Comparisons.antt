@@ -1,4 +1,4 @@
--- Comparisons of values (document 01, "The step sheet"): "a comparison with NaN fails; +0 equals -0".
+-- Comparisons of values (R5.4): false where NaN takes part; the two zeros are equal.
 use mathlib.Core.Bool.{Bool, true, false, Bool·beq, _&&_, _||_}
 use lib.Dec.{ltb, eqb}
 use Rattle.rounding_spec.specs.Value.{Value, nan, infinite, finite}

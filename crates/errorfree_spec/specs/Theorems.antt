@@ -1,5 +1,5 @@
 -- What is proved of error-free transformations, for a course to cite. `All`, at the end, lists the statements, and `proofs/Theorems.antt`
--- proves them. They speak of any format, two of them of any `Roomy` one (Constants), as binary32 is.
+-- has their proofs. They speak of any format, two of them of any `Roomy` one (Constants), as binary32 is.
 use mathlib.Core.Path.{_≡_}
 use mathlib.Core.Bool.{Bool, true, false, Bool·beq, cond}
 use Prim.Native.Nat.{ℕ, suc, _+_, _*_, _^_, _≤_, _<_}
@@ -19,9 +19,11 @@ use Rattle.errorfree_spec.specs.Constants.{Roomy, psi, two}
 -- finite values are the same where their numbers are, whatever the sign of zero; NaN is the same as nothing, and an infinity as itself
 abbrev pub SameMeans : Type 0
 SameMeans =
-    ((s : Bool) (a : ℕ) (t : Bool) (b : ℕ) → (same (finite s a) (finite t b) ≡ true → int s a ≡ int t b) × (int s a ≡ int t b → same (finite s a) (finite t b) ≡ true))
+    ((s : Bool) (a : ℕ) (t : Bool) (b : ℕ)
+    → (same (finite s a) (finite t b) ≡ true → int s a ≡ int t b) × (int s a ≡ int t b → same (finite s a) (finite t b) ≡ true))
     × ((v : Value) → (same nan v ≡ false) × (same v nan ≡ false))
-    × ((s t : Bool) → same (infinite s) (infinite t) ≡ Bool·beq s t) × ((s t : Bool) (b : ℕ) → (same (infinite s) (finite t b) ≡ false) × (same (finite t b) (infinite s) ≡ false))
+    × ((s t : Bool) → same (infinite s) (infinite t) ≡ Bool·beq s t)
+    × ((s t : Bool) (b : ℕ) → (same (infinite s) (finite t b) ≡ false) × (same (finite t b) (infinite s) ≡ false))
 
 -- by magnitude; NaN is neither below nor above anything
 abbrev pub LessMeans : Type 0
@@ -33,24 +35,29 @@ LessMeans =
 -- ---- errors that are numbers of the format
 -- what either tie rule leaves over of a sum, or of a difference
 abbrev pub SumError : Type 0
-SumError = (t : Ties) (f L x y : ℕ) → Rep (suc f) L x → Rep (suc f) L y → Rep (suc f) L (leftOver t f L (x + y)) × Rep (suc f) L (leftOver t f L (dist x y))
+SumError =
+    (t : Ties) (f L x y : ℕ) → Rep (suc f) L x → Rep (suc f) L y
+    → Rep (suc f) L (leftOver t f L (x + y)) × Rep (suc f) L (leftOver t f L (dist x y))
 
 -- and of a product, where it is not small: from 2 ^ (2 * fraction + 1) units of u on, 2 ^ -102 in binary32
 abbrev pub ProductError : Type 0
 ProductError =
-    (t : Ties) (F : Format) (a b : ℕ) → Rep (suc (F .fraction)) 0 a → Rep (suc (F .fraction)) 0 b → 2 ^ suc (F .fraction + F .fraction) * 2 ^ low F ≤ a * b
+    (t : Ties) (F : Format) (a b : ℕ) → Rep (suc (F .fraction)) 0 a → Rep (suc (F .fraction)) 0 b
+    → 2 ^ suc (F .fraction + F .fraction) * 2 ^ low F ≤ a * b
     → Rep (suc (F .fraction)) (low F) (leftOver t (F .fraction) (low F) (a * b))
 
 -- ---- Fast2Sum is exact: |y| is not above |x|, and a is finite
 abbrev pub Fast2Sum : Type 0
 Fast2Sum =
-    (F : Format) (x y a v b : Value) → Fits F x → Fits F y → lessMagnitude x y ≡ false → a ≡ addValue F x y → v ≡ subValue F a x → b ≡ subValue F y v → isFinite a ≡ true
+    (F : Format) (x y a v b : Value) → Fits F x → Fits F y → lessMagnitude x y ≡ false
+    → a ≡ addValue F x y → v ≡ subValue F a x → b ≡ subValue F y v → isFinite a ≡ true
     → addsUp F (finer F (plus x y)) (record { first = a; second = b }) ≡ true
 
 -- a fused step leaves all of a product that is not small
 abbrev pub FusedRest : Type 0
 FusedRest =
-    (F : Format) (s : Bool) (c : ℕ) (t : Bool) (d : ℕ) (a b : Value) → Fits F (finite s c) → Fits F (finite t d) → 2 ^ suc (F .fraction + F .fraction) * 2 ^ low F ≤ c * d
+    (F : Format) (s : Bool) (c : ℕ) (t : Bool) (d : ℕ) (a b : Value) → Fits F (finite s c) → Fits F (finite t d)
+    → 2 ^ suc (F .fraction + F .fraction) * 2 ^ low F ≤ c * d
     → a ≡ mulValue F (finite s c) (finite t d) → b ≡ fmaValue F (finite s c) (finite t d) (negate a) → isFinite a ≡ true
     → addsUp F (times (finite s c) (finite t d)) (record { first = a; second = b }) ≡ true
 
@@ -62,14 +69,16 @@ pub record Predecessor (F : Format) (a p : ℕ) : Type 0 where
 
 abbrev pub PsiPredecessor : Type 0
 PsiPredecessor =
-    (F : Format) → Roomy F → (s : Bool) (a : ℕ) → Fits F (finite s a) → 2 ^ F .fraction < a → (p : ℕ) × (mulValue F (psi F) (finite s a) ≡ finite s p) × Predecessor F a p
+    (F : Format) → Roomy F → (s : Bool) (a : ℕ) → Fits F (finite s a) → 2 ^ F .fraction < a
+    → (p : ℕ) × (mulValue F (psi F) (finite s a) ≡ finite s p) × Predecessor F a p
 
 -- ---- recomposition turns RNe into RN0
 -- of a whole number n of u with the sign s, which a and b add up to
 abbrev pub Recomposition : Type 0
 Recomposition =
     (F : Format) → Roomy F → (s : Bool) (n : ℕ) (a b z d e : Value)
-    → a ≡ RNe F (finite s (n * 2 ^ low F)) → isFinite a ≡ true → Fits F b → addsUp F (finite s (n * 2 ^ low F)) (record { first = a; second = b }) ≡ true
+    → a ≡ RNe F (finite s (n * 2 ^ low F)) → isFinite a ≡ true → Fits F b
+    → addsUp F (finite s (n * 2 ^ low F)) (record { first = a; second = b }) ≡ true
     → z ≡ mulValue F (psi F) a → d ≡ subValue F z a → e ≡ mulValue F (two F) b
     → let first = cond (same e d) z a in
     let second = cond (same e d) (negate b) b in

@@ -1,1 +1,1 @@
-// Error-free transformations of binary floating-point numbers as definitions and theorems: no function is here. The step sheet, in `emulation`, is built of them.
+// Error-free transformations of binary floating-point numbers as definitions and theorems. Step sheets are built of them.

@@ -4,8 +4,8 @@ ghost use mathlib.Core.Path.{_≡_};
 ghost use Prim.Native.Nat.{_*_, _^_};
 ghost use Rattle.rounding_spec.specs.Value.{infinite, finite};
 ghost use Rattle.pattern_spec.specs.Exact.{times};
-ghost use Rattle.pattern_spec.specs.Classes.{valueOf, Operand};
-ghost use Rattle.pattern_spec.specs.Unrounded.{Bounded, ProductIs};
+ghost use Rattle.pattern_spec.specs.Classes.{valueOf};
+ghost use Rattle.pattern_spec.specs.Inner.{Operand, Bounded, ProductIs};
 
 // The exact product, in units of 2^-298.
 pub fn times(a: Class, b: Class) -> Class

@@ -10,7 +10,7 @@ ghost use Prim.Native.Nat.{_*_, _%_, _^_, _<_};
 ghost use Rattle.rounding_spec.specs.Format.{binary32};
 ghost use Rattle.rounding_spec.specs.Value.{finite, decode};
 ghost use Rattle.pattern_spec.specs.Exact.{plusFinite, times};
-ghost use Rattle.pattern_spec.specs.Unrounded.{ProductIs};
+ghost use Rattle.pattern_spec.specs.Inner.{ProductIs};
 
 // An exact sum, whose zero has its sign already.
 pub struct Signed {

@@ -16,8 +16,8 @@ use Rattle.rounding_spec.proofs.Codec.{unsigned-finite, unsigned-infinite, unsi
 use Rattle.pattern_spec.specs.declared.Class.{Class}
 use Rattle.pattern_spec.specs.declared.Class.the-variants.{Finite, Infinite, NotANumber}
 use Rattle.pattern_spec.specs.Exact.{negate}
-use Rattle.pattern_spec.specs.Classes.{byField, classOf, valueOf, flip, Operand, Below, Descending}
-use Rattle.pattern_spec.specs.Unrounded.{Bounded}
+use Rattle.pattern_spec.specs.Classes.{byField, classOf, valueOf, flip}
+use Rattle.pattern_spec.specs.Inner.{Operand, Below, Descending, Bounded}
 
 -- ---- the four cases
 module _ (s : Bool) (m : ℕ) where

@@ -16,7 +16,7 @@ use Rattle.rounding_spec.proofs.Compare.{tri}
 use Rattle.rounding_spec.proofs.Multiple.{joined}
 use Rattle.rounding_spec.proofs.LeftOver.{left-sum, left-difference}
 use Rattle.pattern_spec.specs.Exact.{plusFinite, plus, finer}
-use Rattle.pattern_spec.specs.Unrounded.{larger, smaller}
+use Rattle.pattern_spec.specs.Inner.{larger, smaller}
 use Rattle.pattern_spec.proofs.Sums.{like?, sum-same, sum-left, sum-right, sum-none, sum-scale, finer-sum}
 use Rattle.pattern_spec.proofs.Exchanged.{plus-comm}
 
@@ -73,5 +73,6 @@ near-exact s m e t n d h k l r c q =
     let small : n * 2 ^ d * 2 ^ 149 < 2 ^ 24 * 2 ^ (d + 149) = le-trans (le-of-eq (ap suc (joined n d 149 (d + 149) refl))) (mul-lt-mul-of-pos-right k (pow-pos (d + 149))) in
     record {
       is = v;
-      left = λ w. left-lt w 23 149 s (m * 2 ^ e * 2 ^ 149) t (n * 2 ^ d * 2 ^ 149) (2 ^ 24 * 2 ^ (d + 149)) (operand-rep m e h) (operand-rep n d k) small r (c * 2 ^ (d + 149)) (sym (finer-sum binary32 s (m * 2 ^ e) t (n * 2 ^ d)) ∙ v);
+      left = λ w. left-lt w 23 149 s (m * 2 ^ e * 2 ^ 149) t (n * 2 ^ d * 2 ^ 149) (2 ^ 24 * 2 ^ (d + 149)) (operand-rep m e h) (operand-rep n d k) small r (c * 2 ^ (d + 149))
+          (sym (finer-sum binary32 s (m * 2 ^ e) t (n * 2 ^ d)) ∙ v);
     }

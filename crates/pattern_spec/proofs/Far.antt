@@ -16,7 +16,7 @@ use Rattle.rounding_spec.proofs.Rounded.{rounded-near}
 use Rattle.rounding_spec.proofs.RoundValue.{round-below}
 use Rattle.rounding_spec.proofs.Spacing.{near-spaced}
 use Rattle.pattern_spec.specs.Exact.{plus, finer}
-use Rattle.pattern_spec.specs.Classes.{Operand}
+use Rattle.pattern_spec.specs.Inner.{Operand}
 use Rattle.pattern_spec.proofs.Sums.{like?, sum-same, sum-left}
 
 -- n * 2 ^ d is below a quarter of 2 ^ e
@@ -52,7 +52,8 @@ far-below m e n d o p g =
     (le-trans (le-of-eq (sym (pow-add 2 24 d)))
     (le-trans (pow-mono (let z : 24 + d ≤ 23 + e = omega arith in z)) (le-trans (le-of-eq (pow-add 2 23 e)) (mul-le-mul-right (2 ^ e) (o .leads (omega arith))))))
 
-pub far-sum : (w : Ties) (s : Bool) (m e : ℕ) (t : Bool) (n d : ℕ) → Operand m e → Operand n d → d + 26 ≤ e → round w binary32 (finer binary32 (plus (finite s (m * 2 ^ e)) (finite t (n * 2 ^ d)))) ≡ finite s (m * 2 ^ e)
+pub far-sum : (w : Ties) (s : Bool) (m e : ℕ) (t : Bool) (n d : ℕ) → Operand m e → Operand n d → d + 26 ≤ e
+    → round w binary32 (finer binary32 (plus (finite s (m * 2 ^ e)) (finite t (n * 2 ^ d)))) ≡ finite s (m * 2 ^ e)
 unfolding round plus finer
 far-sum w s m e t n d o p g =
     let A = m * 2 ^ e in
@@ -64,5 +65,6 @@ far-sum w s m e t n d o p g =
       | inl q ↦ ap (λ (v : Value). round w binary32 (finer binary32 v)) (sum-same s A t B q)
           ∙ near-operand w m e o (omega arith) s ((A + B) * P) (le-trans (le-of-eq (ap suc (ap (dist (A * P)) (add-mul A B P) ∙ dist-plus (A * P) (B * P)))) small)
       | inr q ↦ ap (λ (v : Value). round w binary32 (finer binary32 v)) (sum-left s A t B q below)
-          ∙ near-operand w m e o (omega arith) s ((A - B) * P) (le-trans (le-of-eq (ap suc (ap (dist (A * P)) (sub-mul A B P) ∙ dist-minus (A * P) (B * P) (mul-le-mul-right P (let z : B ≤ A = omega arith in z))))) small)
+          ∙ near-operand w m e o (omega arith) s ((A - B) * P) (le-trans
+          (le-of-eq (ap suc (ap (dist (A * P)) (sub-mul A B P) ∙ dist-minus (A * P) (B * P) (mul-le-mul-right P (let z : B ≤ A = omega arith in z))))) small)
     ]

@@ -1,4 +1,5 @@
 pub mod Classified
+pub mod Shown
 pub mod Sums
 pub mod Exchanged
 pub mod Exacts

@@ -3,14 +3,14 @@ use mathlib.Core.Path.{_≡_, ap, _∙_, sym}
 use mathlib.Core.Logic.{inl, inr}
 use mathlib.Core.Bool.{true, false}
 use Prim.Native.Nat.{ℕ, suc, _+_, _-_, _*_, _%_, _^_, _≤_, _<_}
-use native.Mathlib.Nat.{zero-mul, mul-pos, pos-of-ne-zero, mul-mul-mul-comm, mul-le-mul-left, mul-le-mul-right, mul-lt-mul-of-pos-right, lt-of-le-of-lt, lt-of-lt-of-le, le-of-lt, le-of-eq, le-trans, le-mul-of-pos-right, lt-of-not-le, not-le-of-lt, mod-eq-of-lt, mul-comm, eq-zero-or-pos}
+use native.Mathlib.Nat.{zero-mul, mul-pos, pos-of-ne-zero, mul-mul-mul-comm, mul-le-mul-left, mul-le-mul-right, mul-lt-mul-of-pos-right, lt-of-le-of-lt, lt-of-lt-of-le, le-of-lt, le-of-eq, le-trans}
+use native.Mathlib.Nat.{le-mul-of-pos-right, lt-of-not-le, not-le-of-lt, mod-eq-of-lt, mul-comm, eq-zero-or-pos}
 use native.Mathlib.Omega.{arith}
 use lib.Count.{leadingZeros, leading-top}
 use lib.Dec.{eqb}
 use lib.Pow.{pow-add, pow-pos, pow-mono, shl-lt}
 use borrow.Author.Tests.{eq-eqb, ne-eqb}
-use Rattle.pattern_spec.specs.Classes.{Operand}
-use Rattle.pattern_spec.specs.Unrounded.{Product}
+use Rattle.pattern_spec.specs.Inner.{Operand, Product}
 use Rattle.rounding_spec.proofs.Multiple.{joined}
 
 -- ---- zero or not

@@ -1,4 +1,4 @@
--- Exact arithmetic on values (document 01, "Steps"): no rounding here.
+-- Exact arithmetic on values: no rounding here.
 -- The magnitudes of operands count u, those of a product u * u; a sum is in its addends' unit.
 use Prim.Native.Nat.{ℕ, _+_, _-_, _*_, _^_}
 use mathlib.Core.Bool.{Bool, true, false, not, Bool·beq, cond}
@@ -13,11 +13,13 @@ negate nan = nan
 negate (infinite s) = infinite (not s)
 negate (finite s a) = finite (not s) a
 
--- Signed addition of magnitudes. "An exact zero from add, subtract or fused takes the common sign of the two addends .. else +0."
+-- signed addition of magnitudes; an exact zero has the sign that both addends share, else plus (R2.5)
 unfoldable pub plusFinite : Bool → ℕ → Bool → ℕ → Value
-plusFinite s a t b = cond (Bool·beq s t) (finite s (a + b)) (cond (ltb b a) (finite s (a - b)) (cond (ltb a b) (finite t (b - a)) (finite false 0)))
+plusFinite s a t b =
+    cond (Bool·beq s t) (finite s (a + b))
+    (cond (ltb b a) (finite s (a - b)) (cond (ltb a b) (finite t (b - a)) (finite false 0)))
 
--- "infinities as in IEEE 754-2019": the sum of opposite infinities is NaN
+-- R2.3: the sum of opposite infinities is NaN
 unfoldable pub plus : Value → Value → Value
 unfolding plusFinite
 plus nan y = nan
@@ -28,7 +30,7 @@ plus (finite s a) nan = nan
 plus (finite s a) (infinite t) = infinite t
 plus (finite s a) (finite t b) = plusFinite s a t b
 
--- "a product zero takes the product of signs"; zero times infinity is NaN
+-- R2.6: signs are multiplied, a zero's too; R2.3: zero times infinity is NaN
 unfoldable pub times : Value → Value → Value
 times nan y = nan
 times (infinite s) nan = nan
@@ -42,6 +44,12 @@ times (finite s a) (finite t b) = finite (unlike s t) (a * b)
 abbrev pub int : Bool → ℕ → ℤ
 int false a = pos a
 int true a = negℤ (pos a)
+
+-- a finite value as a whole number; of the others no use is made
+abbrev pub whole : Value → ℤ
+whole nan = pos 0
+whole (infinite s) = pos 0
+whole (finite s a) = int s a
 
 -- the same value, counted in u * u
 unfoldable pub finer : Format → Value → Value

@@ -1,6 +1,5 @@
 pub mod Answer
 pub mod Classes
 pub mod Exact
-pub mod Unrounded
 pub mod Inner
 pub mod Theorems

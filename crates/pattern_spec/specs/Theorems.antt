@@ -9,8 +9,8 @@ use lib.IntN.{_+ℤ_, _*ℤ_}
 use Rattle.rounding_spec.specs.Format.{Format, binary32, signBit}
 use Rattle.rounding_spec.specs.Value.{finite, decode}
 use Rattle.pattern_spec.specs.Exact.{negate, plusFinite, int}
-use Rattle.pattern_spec.specs.Classes.{classOf, valueOf, flip, Operand}
-use Rattle.pattern_spec.specs.Unrounded.{larger, smaller, Bounded}
+use Rattle.pattern_spec.specs.Classes.{classOf, valueOf, flip}
+use Rattle.pattern_spec.specs.Inner.{Operand, Bounded, larger, smaller}
 
 -- the class of a pattern stands for the value that the pattern decodes to
 abbrev pub ClassDecodes : Type 0
@@ -23,10 +23,11 @@ ClassBounded = (x : ℕ) → Bounded Operand (classOf x)
 -- both operands, the larger of the bits below the sign first, a NaN's among them; where both are equal, x
 abbrev pub LargerFirst : Type 0
 LargerFirst =
-    (x y : ℕ) → (((larger x y ≡ x) × (smaller x y ≡ y)) ⊎ ((larger x y ≡ y) × (smaller x y ≡ x))) × (smaller x y % 2 ^ 31 ≤ larger x y % 2 ^ 31)
+    (x y : ℕ) → (((larger x y ≡ x) × (smaller x y ≡ y)) ⊎ ((larger x y ≡ y) × (smaller x y ≡ x)))
+    × (smaller x y % 2 ^ 31 ≤ larger x y % 2 ^ 31)
     × (x % 2 ^ 31 ≡ y % 2 ^ 31 → (larger x y ≡ x) × (smaller x y ≡ y))
 
--- "y's sign bit flipped, NaN included": the other bits stay
+-- a flip leaves the other bits as they are (R3.5)
 abbrev pub FlipBits : Type 0
 FlipBits =
     (F : Format) (x : ℕ) → x < 2 * signBit F
@@ -37,10 +38,11 @@ abbrev pub FlipNegates : Type 0
 FlipNegates = (F : Format) (x : ℕ) → x < 2 * signBit F → decode F (flip F x) ≡ negate (decode F x)
 
 -- ---- exact sums and products are those of whole numbers
--- "An exact zero .. takes the common sign of the two addends .. else +0": minus only where both are
+-- an exact zero is minus only where both addends are (R2.5)
 abbrev pub PlusExact : Type 0
 PlusExact =
-    (s : Bool) (a : ℕ) (t : Bool) (b : ℕ) → (r : Bool) × (c : ℕ) × (plusFinite s a t b ≡ finite r c) × (int r c ≡ int s a +ℤ int t b) × (c ≡ 0 → r ≡ s && t)
+    (s : Bool) (a : ℕ) (t : Bool) (b : ℕ)
+    → (r : Bool) × (c : ℕ) × (plusFinite s a t b ≡ finite r c) × (int r c ≡ int s a +ℤ int t b) × (c ≡ 0 → r ≡ s && t)
 
 abbrev pub TimesExact : Type 0
 TimesExact = (s : Bool) (a : ℕ) (t : Bool) (b : ℕ) → int (unlike s t) (a * b) ≡ int s a *ℤ int t b

@@ -2,13 +2,13 @@
 use choose::choose;
 use rounding_spec::Ties;
 ghost use mathlib.Core.Path.{_≡_};
-ghost use Prim.Native.Nat.{suc, _+_, _-_, _*_, _/_, _^_, _≤_, _<_, min, max};
+ghost use Prim.Native.Nat.{suc, _+_, _-_, _*_, _/_, _^_, _≤_, _<_, max};
 ghost use lib.Dec.{ltb};
-ghost use Rattle.rounding_spec.specs.Format.{binary32, infinity};
+ghost use Rattle.rounding_spec.specs.Format.{binary32};
 ghost use Rattle.rounding_spec.specs.Round.{keep, leftOver, roundedUp};
 ghost use Rattle.rounding_spec.specs.Nearest.{dist};
-ghost use Rattle.rounding_spec.specs.Inner.{tieBit};
-ghost use Rattle.rounding_spec.specs.Value.{signed, encode, roundFinite};
+ghost use Rattle.rounding_spec.specs.Inner.{tieBit, packed};
+ghost use Rattle.rounding_spec.specs.Value.{encode, roundFinite};
 
 const INFINITY: u64 = 0x7f80_0000;
 
@@ -35,7 +35,7 @@ pub fn round_with_rest(ties: Ties, sign: bool, sig: u64, exp: u16) -> WithRest
 {
     if sig == 0 {
         return WithRest {
-            pattern: pack(sign, 0),
+            pattern: packed(sign, 0, 0),
             rest: 0,
             up: false,
         };
@@ -48,7 +48,7 @@ pub fn round_with_rest(ties: Ties, sign: bool, sig: u64, exp: u16) -> WithRest
     let q = kept(ties, n, shift);
     let left = left_over(n, shift, q);
     WithRest {
-        pattern: pack(sign, assemble(place - 149, q)),
+        pattern: packed(sign, place - 149, q),
         rest: left.rest >> zeros,
         up: left.up,
     }
@@ -142,22 +142,12 @@ fn tie_bit(ties: Ties, q: u64) -> u64
     }
 }
 
-// Exponent field and fraction side by side. A carry out of the fraction runs into the field by itself.
-fn assemble(field: u64, q: u64) -> u32
-    requires { ⌜ (field ≤ 0x1_0000) × (q ≤ 0x100_0000) ⌝ }
-    ensures { λ r. ⌜ r ≡ min (infinity binary32) (field * 2 ^ 23 + q) ⌝ }
+// A carry out of the fraction runs into the exponent field by itself.
+pub fn packed(sign: bool, exp: u64, sig: u64) -> u32
+    requires { ⌜ (exp ≤ 0x1_0000) × (sig ≤ 0x100_0000) ⌝ }
+    ensures { λ r. ⌜ r ≡ packed sign exp sig ⌝ }
 {
-    let c = field * 0x80_0000 + q;
-    if c < INFINITY {
-        c as u32
-    } else {
-        INFINITY as u32
-    }
-}
-
-fn pack(sign: bool, c: u32) -> u32
-    requires { ⌜ c ≤ infinity binary32 ⌝ }
-    ensures { λ r. ⌜ r ≡ signed binary32 sign c ⌝ }
-{
-    if sign { 0x8000_0000 + c } else { c }
+    let bits = exp * 0x80_0000 + sig;
+    let below = choose(bits < INFINITY, bits, INFINITY) as u32;
+    if sign { 0x8000_0000 + below } else { below }
 }

@@ -63,7 +63,13 @@ mod-scale N m c p q = mod-mul (N * c) p q ∙ ap₂ (λ (x y : ℕ). x % m * c +
 pub keep-scale : (t : Ties) (k s N : ℕ) → keep t (k + s) (N * 2 ^ s) ≡ keep t k N
 unfolding keep
 keep-scale t k s N =
-    rw (pow-add 2 k s, mul-div-mul-right N (2 ^ k) (pow-pos s), mod-scale N (2 ^ k) (2 ^ s) (pow-pos k) (pow-pos s), ← mul-assoc 2 (N % 2 ^ k) (2 ^ s), cmp-scale (2 * (N % 2 ^ k)) (2 ^ k) (2 ^ s) (pow-pos s))
+    rw (
+      pow-add 2 k s,
+      mul-div-mul-right N (2 ^ k) (pow-pos s),
+      mod-scale N (2 ^ k) (2 ^ s) (pow-pos k) (pow-pos s),
+      ← mul-assoc 2 (N % 2 ^ k) (2 ^ s),
+      cmp-scale (2 * (N % 2 ^ k)) (2 ^ k) (2 ^ s) (pow-pos s),
+    )
 
 -- nothing is dropped of a multiple
 pub keep-whole : (t : Ties) (k c : ℕ) → keep t k (c * 2 ^ k) ≡ c

@@ -2,7 +2,8 @@
 use mathlib.Core.Path.{_≡_, refl, sym, ap, ap₂, _∙_}
 use mathlib.Core.Bool.{Bool, true, false, cond}
 use Prim.Native.Nat.{ℕ, suc, _+_, _-_, _*_, _/_, _%_, _^_, _≤_, _<_, max}
-use native.Mathlib.Nat.{le-trans, le-of-eq, lt-of-lt-of-le, zero-mul, one-mul, mul-one, mul-right-comm, add-mul, le-of-lt, mul-le-mul-left, eq-of-mul-eq-mul-right, suc-mul, mul-le-mul-right, mul-lt-mul-of-pos-right, mul-div-cancel, mod-eq-of-lt, mod-lt, div-eq-of-lt, div-add-mod'}
+use native.Mathlib.Nat.{le-trans, le-of-eq, lt-of-lt-of-le, zero-mul, one-mul, mul-one, mul-right-comm, add-mul, le-of-lt, mul-le-mul-left, eq-of-mul-eq-mul-right, suc-mul, mul-le-mul-right}
+use native.Mathlib.Nat.{mul-lt-mul-of-pos-right, mul-div-cancel, mod-eq-of-lt, mod-lt, div-eq-of-lt, div-add-mod'}
 use native.Mathlib.Decide.{decLe}
 use native.Mathlib.Omega.{arith}
 use lib.Count.{leadingZeros, leading-top}
@@ -181,7 +182,8 @@ module _ (t : Ties) (sig e place : ℕ) (pos : 0 < sig) (word : sig < 2 ^ 64) (i
         | yes h ↦ coarse h
         | no h ↦
             let l : shift < zeros = omega arith in
-            let w : q * 2 ^ place ≡ sig * 2 ^ e = eq-of-mul-eq-mul-right (2 ^ zeros) (pow-pos zeros) (q * 2 ^ place) (sig * 2 ^ e) (sym same ∙ ap (λ (x : ℕ). x * 2 ^ e) (fine l) ∙ mul-right-comm sig (2 ^ zeros) (2 ^ e)) in
+            let w : q * 2 ^ place ≡ sig * 2 ^ e = eq-of-mul-eq-mul-right (2 ^ zeros) (pow-pos zeros) (q * 2 ^ place) (sig * 2 ^ e)
+            (sym same ∙ ap (λ (x : ℕ). x * 2 ^ e) (fine l) ∙ mul-right-comm sig (2 ^ zeros) (2 ^ e)) in
             ap (λ (x : ℕ). x / 2 ^ zeros * 2 ^ e) (dist-none (fine l)) ∙ nothing ∙ sym (dist-none w)
       ]
       ∙ sym (ap (λ (x : ℕ). dist x (sig * 2 ^ e)) rounded-at)

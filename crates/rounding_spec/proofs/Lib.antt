@@ -10,6 +10,7 @@ pub mod Rounded
 pub mod HalfPlace
 pub mod Sticky
 pub mod Bits
+pub mod Orders
 pub mod Scaled
 pub mod Codec
 pub mod Signalling

@@ -1,7 +1,8 @@
 -- The number below A, also where A is a power of two, and the product that rounds to it.
 use mathlib.Core.Path.{_≡_, sym, ap, _∙_}
 use Prim.Native.Nat.{ℕ, suc, _+_, _-_, _*_, _/_, _^_, _≤_, _<_}
-use native.Mathlib.Nat.{le-antisymm, le-trans, le-of-eq, lt-of-lt-of-le, lt-of-le-of-lt, mul-le-mul-right, mul-lt-mul-of-pos-right, lt-of-mul-lt-mul-right, le-of-mul-le-mul-right, suc-mul, mul-comm, mul-assoc, mul-div-cancel, zero-mul, one-mul}
+use native.Mathlib.Nat.{le-antisymm, le-trans, le-of-eq, lt-of-lt-of-le, lt-of-le-of-lt, mul-le-mul-right, mul-lt-mul-of-pos-right, lt-of-mul-lt-mul-right, le-of-mul-le-mul-right, suc-mul, mul-comm}
+use native.Mathlib.Nat.{mul-assoc, mul-div-cancel, zero-mul, one-mul}
 use native.Mathlib.Decide.{decLe}
 use native.Mathlib.Omega.{arith}
 use lib.Pow.{pow-add, pow-pos}
@@ -70,7 +71,11 @@ module _ {p l A : ℕ} (u : Upper p l A) where
 
   -- the product by 1 - 2 ^ -(p + 1), in units 2 ^ (p + 1) times finer, rounds to the number below A
   pub above-always : 2 ^ p * 2 ^ l < A → 2 ^ p < u .m
-  above-always h = elim (decLe (suc l) (u .f)) [ yes g ↦ u .above g | no g ↦ let b = u .low in let e : u .f ≡ l = omega arith in lt-of-mul-lt-mul-right (2 ^ l) (lt-of-lt-of-le h (le-of-eq (u .is ∙ ap (λ (z : ℕ). u .m * 2 ^ z) e))) ]
+  above-always h = elim (decLe (suc l) (u .f)) [
+    | yes g ↦ u .above g
+    | no g ↦ let b = u .low in let e : u .f ≡ l = omega arith in
+        lt-of-mul-lt-mul-right (2 ^ l) (lt-of-lt-of-le h (le-of-eq (u .is ∙ ap (λ (z : ℕ). u .m * 2 ^ z) e)))
+  ]
 
   pub psi : 2 ^ p * 2 ^ l < A → (z : ℕ) → Near (suc p) (l + suc p) ((2 ^ suc p - 1) * A) (z * 2 ^ suc p) → z ≡ A - 2 ^ u .f
   psi over z h =

@@ -24,7 +24,8 @@ near-half {p} {l} {n} {a} k h low top =
 -- ---- a product of two significands
 pub product-error : {p l N a : ℕ} (g c : ℕ) → l ≤ g → N ≡ c * 2 ^ g → c < 2 ^ suc p * 2 ^ suc p → Near (suc p) l N a → Rep (suc p) l (dist a N)
 product-error {p} {l} {N} {a} g c low is small h =
-    let e : 2 ^ suc p * 2 ^ (g + suc p) ≡ 2 ^ suc p * 2 ^ suc p * 2 ^ g = ap (λ (z : ℕ). 2 ^ suc p * z) (pow-add 2 g (suc p) ∙ mul-comm (2 ^ g) (2 ^ suc p)) ∙ sym (mul-assoc (2 ^ suc p) (2 ^ suc p) (2 ^ g)) in
+    let e : 2 ^ suc p * 2 ^ (g + suc p) ≡ 2 ^ suc p * 2 ^ suc p * 2 ^ g = ap (λ (z : ℕ). 2 ^ suc p * z) (pow-add 2 g (suc p) ∙ mul-comm (2 ^ g) (2 ^ suc p))
+    ∙ sym (mul-assoc (2 ^ suc p) (2 ^ suc p) (2 ^ g)) in
     let top : N < 2 ^ suc p * 2 ^ (g + suc p) = lt-of-le-of-lt (le-of-eq is) (lt-of-lt-of-le (mul-lt-mul-of-pos-right small (pow-pos g)) (le-of-eq (sym e))) in
     let half = near-half (g + suc p) h (omega arith) top in
     let le : dist a N ≤ 2 ^ p * 2 ^ g = omega (arith, half, pow-add 2 g (suc p), mul-comm (2 ^ g) (2 ^ suc p), dbl p g) in

@@ -1,7 +1,8 @@
 -- Numbers of the format: how to make one, and which lie around a given number.
 use mathlib.Core.Path.{_≡_, refl, sym, ap, _∙_}
 use Prim.Native.Nat.{ℕ, zero, suc, _+_, _*_, _/_, _^_, _≤_, _<_}
-use native.Mathlib.Nat.{mul-one, mul-left-comm, pow-succ', le-refl, le-trans, le-of-eq, zero-mul, one-mul, mul-le-mul-right, mul-lt-mul-of-pos-right, lt-of-mul-lt-mul-right, lt-of-le-of-lt, lt-of-lt-of-le, le-div-iff-mul-le, div-lt-iff-lt-mul}
+use native.Mathlib.Nat.{mul-one, mul-left-comm, pow-succ', le-refl, le-trans, le-of-eq, zero-mul, one-mul, mul-le-mul-right, mul-lt-mul-of-pos-right, lt-of-mul-lt-mul-right, lt-of-le-of-lt}
+use native.Mathlib.Nat.{lt-of-lt-of-le, le-div-iff-mul-le, div-lt-iff-lt-mul}
 use native.Mathlib.Decide.{decLe}
 use native.Mathlib.Omega.{arith}
 use lib.Pow.{pow-add, pow-pos, pow-mono}

@@ -35,12 +35,17 @@ near0-up {p} {l} {n} {a} s h = record { near = near-up s (h .near); tie = go }
     go : (m : ℕ) → Rep p (l + s) m → dist m (n * 2 ^ s) ≡ dist (a * 2 ^ s) (n * 2 ^ s) → a * 2 ^ s ≤ m
     go m r e =
         let c = mult-down m (let z : s ≤ r .e = omega (arith, r .low) in z) (rep-mult r) in
-        let d : dist (c .0) n ≡ dist a n = eq-of-mul-eq-mul-right (2 ^ s) (pow-pos s) (dist (c .0) n) (dist a n) (sym (dist-mul (c .0) n (2 ^ s)) ∙ ap (λ (z : ℕ). dist z (n * 2 ^ s)) (sym (c .1)) ∙ e ∙ dist-mul a n (2 ^ s)) in
+        let d : dist (c .0) n ≡ dist a n = eq-of-mul-eq-mul-right (2 ^ s) (pow-pos s) (dist (c .0) n) (dist a n)
+        (sym (dist-mul (c .0) n (2 ^ s)) ∙ ap (λ (z : ℕ). dist z (n * 2 ^ s)) (sym (c .1)) ∙ e ∙ dist-mul a n (2 ^ s)) in
         le-trans (mul-le-mul-right (2 ^ s) (h .tie (c .0) (rep-down (c .0) s (rw (c .1) at r)) d)) (le-of-eq (sym (c .1)))
 
 pub near0-down : {p l : ℕ} (n a s : ℕ) → Near0 p (l + s) (n * 2 ^ s) (a * 2 ^ s) → Near0 p l n a
 near0-down n a s h =
-    record { near = near-down n a s (h .near); tie = λ m r e. le-of-mul-le-mul-right (h .tie (m * 2 ^ s) (rep-up s r) (dist-mul m n (2 ^ s) ∙ ap (λ (z : ℕ). z * 2 ^ s) e ∙ sym (dist-mul a n (2 ^ s)))) (pow-pos s) }
+    record {
+      near = near-down n a s (h .near);
+      tie = λ m r e. le-of-mul-le-mul-right (h .tie (m * 2 ^ s) (rep-up s r) (dist-mul m n (2 ^ s) ∙ ap (λ (z : ℕ). z * 2 ^ s) e ∙ sym (dist-mul a n (2 ^ s))))
+          (pow-pos s);
+    }
 
 -- ---- another lowest exponent, where the number is large enough
 pub near-raise : {p l n a : ℕ} (l' : ℕ) → l ≤ l' → 2 ^ p * 2 ^ l' ≤ n → Near (suc p) l n a → Near (suc p) l' n a

@@ -14,7 +14,14 @@ use Rattle.rounding_spec.proofs.Rounded.{rounded-near}
 pub rep-up : {p l n : ℕ} (s : ℕ) → Rep p l n → Rep p (l + s) (n * 2 ^ s)
 rep-up {n = n} s r =
     let b = r .low in
-    record { e = r .e + s; m = r .m; low = omega arith; small = r .small; is = ap (λ (x : ℕ). x * 2 ^ s) (r .is) ∙ mul-assoc (r .m) (2 ^ r .e) (2 ^ s) ∙ ap (λ (x : ℕ). r .m * x) (sym (pow-add 2 (r .e) s)) }
+    record {
+      e = r .e + s;
+      m = r .m;
+      low = omega arith;
+      small = r .small;
+      is = ap (λ (x : ℕ). x * 2 ^ s) (r .is) ∙ mul-assoc (r .m) (2 ^ r .e) (2 ^ s)
+          ∙ ap (λ (x : ℕ). r .m * x) (sym (pow-add 2 (r .e) s));
+    }
 
 pub rep-down : {p l : ℕ} (n s : ℕ) → Rep p (l + s) (n * 2 ^ s) → Rep p l n
 rep-down {l = l} n s r =

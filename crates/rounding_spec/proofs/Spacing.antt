@@ -38,7 +38,8 @@ near-spaced {p} {l} {n} {a} m e h full small low close =
           c .1 ∙ mult-close (c .0) (m * 2) g (le-trans (le-of-eq (ap₂ (λ (y z : ℕ). suc (dist y z)) (sym (c .1)) (sym xg))) near) ∙ sym xg
       | no k ↦
           let under : a < 2 ^ p * g = rep-under {k = suc e} (h .rep) (omega arith) in
-          let big : 2 ^ p * g + 2 ^ p * g ≤ x = le-trans (le-of-eq (let z : 2 ^ p * g + 2 ^ p * g ≡ 2 ^ p * 2 * g = omega arith in z)) (le-trans (mul-le-mul-right g (let z : 2 ^ p * 2 ≤ m * 2 = omega arith in z)) (le-of-eq (sym xg))) in
+          let big : 2 ^ p * g + 2 ^ p * g ≤ x = le-trans (le-of-eq (let z : 2 ^ p * g + 2 ^ p * g ≡ 2 ^ p * 2 * g = omega arith in z))
+          (le-trans (mul-le-mul-right g (let z : 2 ^ p * 2 ≤ m * 2 = omega arith in z)) (le-of-eq (sym xg))) in
           let one : 1 * g ≤ 2 ^ p * g = mul-le-mul-right g (pow-pos p) in
           absurd (omega arith)
     ]

@@ -28,7 +28,14 @@ rep-dist {x = x} {y = y} r s h k =
     ]
 
 pub rep-double : {p l x : ℕ} → Rep p l x → Rep p l (2 * x)
-rep-double {x = x} r = record { e = suc (r .e); m = r .m; low = omega (arith, r .low); small = r .small; is = ap (λ (z : ℕ). 2 * z) (r .is) ∙ mul-left-comm 2 (r .m) (2 ^ r .e) ∙ ap (λ (z : ℕ). r .m * z) (sym (pow-succ' 2 (r .e))) }
+rep-double {x = x} r = record {
+  e = suc (r .e);
+  m = r .m;
+  low = omega (arith, r .low);
+  small = r .small;
+  is = ap (λ (z : ℕ). 2 * z) (r .is) ∙ mul-left-comm 2 (r .m) (2 ^ r .e)
+      ∙ ap (λ (z : ℕ). r .m * z) (sym (pow-succ' 2 (r .e)));
+}
 
 -- half of a number X is a number of the format, unless X is at the lowest exponent, where every multiple below X is one
 pub half-ge : {p l X n A : ℕ} → Rep (suc p) l X → Mult l n → n ≤ X → X ≤ 2 * n → Near (suc p) l n A → X ≤ 2 * A

@@ -9,7 +9,9 @@ use Rattle.rounding_spec.specs.Format.{Format, binary32, Proper, low, li
 use Rattle.rounding_spec.specs.Round.{rounded}
 use Rattle.rounding_spec.specs.Nearest.{dist}
 use Rattle.rounding_spec.specs.Value.{finite, Fits, fields, magnitude, decode, signalling, signed, bits, encode}
-use Rattle.rounding_spec.specs.Theorems.{Binary32Numbers, Nearest, TieToZero, TieToEven, TieNeighbour, TieToZeroUnique, HalfUnit, RulesDiffer, LeftOverIs, Exact, Monotone, Scaling, RoundToOdd, OverflowRNe, OverflowRN0, NearestPattern, TieToEvenPattern, TieToZeroPattern, DecodeLandmarks, SignallingLandmarks, SignallingRange, LargestFinite, BitsOrder, DecodeEncode, EncodeDecode, DecodeFits, RoundFits, All}
+use Rattle.rounding_spec.specs.Theorems.{Binary32Numbers, Nearest, TieToZero, TieToEven, TieNeighbour, TieToZeroUnique, HalfUnit, RulesDiffer, LeftOverIs, Exact, Monotone, Scaling, RoundToOdd}
+use Rattle.rounding_spec.specs.Theorems.{OverflowRNe, OverflowRN0, NearestPattern, TieToEvenPattern, TieToZeroPattern, DecodeLandmarks, SignallingLandmarks, SignallingRange, LargestFinite}
+use Rattle.rounding_spec.specs.Theorems.{BitsOrder, DecodeEncode, EncodeDecode, DecodeFits, RoundFits, All}
 use Rattle.rounding_spec.specs.declared.Ties.the-variants.{ToEven, ToZero}
 use Rattle.rounding_spec.proofs.Rounded.{rounded-near, rounded-near0, rounded-half, rounded-differ, rounded-exact, rounded-mono, rounded-scale}
 use Rattle.rounding_spec.proofs.Even.{rounded-even, neighbour-odd}
@@ -87,7 +89,8 @@ pub tie-to-even-pattern : TieToEvenPattern
 unfolding encode
 tie-to-even-pattern F ok s N a e x r b d ne eq =
     let is = values.round-finite ToEven F s N s a e in
-    let far : b * 2 ^ low F ≡ rounded ToEven (F .fraction) (low F) N * 2 ^ low F → ⊥ = λ z. ne (eq-of-mul-eq-mul-right (2 ^ low F) (pow-pos (low F)) b (rounded ToEven (F .fraction) (low F) N) z ∙ sym is) in
+    let far : b * 2 ^ low F ≡ rounded ToEven (F .fraction) (low F) N * 2 ^ low F
+    → ⊥ = λ z. ne (eq-of-mul-eq-mul-right (2 ^ low F) (pow-pos (low F)) b (rounded ToEven (F .fraction) (low F) N) z ∙ sym is) in
     let even = rounded-even (F .fraction) (low F) N (b * 2 ^ low F) (ok .0) (codec.pattern-rep F (ok .0) x r b d) far (eq ∙ ap (λ (y : ℕ). dist (y * 2 ^ low F) N) is) in
     signed-even F ok s (bits (F .fraction) a) (ap (λ (y : ℕ). bits (F .fraction) y % 2) is ∙ even)
 

@@ -38,7 +38,14 @@ module _ {p l t A : ℕ} (h : Near (suc p) l t A) where
 
   module _ (u : Upper p l A) (less : t < A) where
     pub keep-below : 2 * (A - t) ≢ 2 ^ u .f → Near0 (suc p) l t A
-    keep-below ne = record { near = h; tie = λ m r e. elim (decLe A m) [ yes g ↦ g | no g ↦ absurd (ne (is-tie A (A - 2 ^ u .f) (2 ^ u .f) t m (below-add u) (pow-pos (u .f)) less (h .best (A - 2 ^ u .f) (below-rep u)) (below-best u m r (omega arith)) e)) ] }
+    keep-below ne = record {
+      near = h;
+      tie = λ m r e. elim (decLe A m) [
+        | yes g ↦ g
+        | no g ↦
+            absurd (ne (is-tie A (A - 2 ^ u .f) (2 ^ u .f) t m (below-add u) (pow-pos (u .f)) less (h .best (A - 2 ^ u .f) (below-rep u)) (below-best u m r (omega arith)) e))
+      ];
+    }
 
     pub go-down : 2 * (A - t) ≡ 2 ^ u .f → Near0 (suc p) l t (A - 2 ^ u .f)
     go-down eq =

@@ -1,5 +1,5 @@
 -- Binary formats: the numbers that fix one, and its patterns' landmarks.
--- u is a format's smallest positive value: 2 ^ -149 in binary32 (document 01, "With u = 2^-149").
+-- u is a format's smallest positive value: 2 ^ -149 in binary32 (R1.4).
 use Prim.Native.Nat.{ℕ, suc, _+_, _-_, _*_, _^_, _<_}
 
 -- `fraction` bits are stored, so the precision is `suc fraction`. Exponents go from 1 - emax to emax.
@@ -11,7 +11,7 @@ pub record Format : Type 0 where
 abbrev pub Proper : Format → Type 0
 Proper F = (0 < F .fraction) × (0 < F .emax)
 
--- document 01: "A pattern has 1 sign bit, 8 exponent bits, 23 fraction bits." The exponent field goes up to 2 * 127 + 1.
+-- R1.1: 23 fraction bits, and an exponent field of 8, which goes up to 2 * 127 + 1
 abbrev pub binary32 : Format
 binary32 = record { fraction = 23; emax = 127 }
 
@@ -23,7 +23,8 @@ low F = F .emax + F .fraction - 1
 unfoldable pub limit : Format → ℕ
 limit F = 2 ^ (suc (F .emax) + low F)
 
--- The edge of overflow, 2 ^ (emax + 1) - 2 ^ (emax - precision), in units of u * u: document 01's 2 ^ 128 - 2 ^ 103.
+-- The edge of overflow, 2 ^ (emax + 1) - 2 ^ (emax - precision), in units of u * u: 2 ^ 128 - 2 ^ 103 in
+-- binary32 (R1.6, R1.7).
 unfoldable pub edge : Format → ℕ
 edge F = 2 ^ (suc (F .emax) + 2 * low F) - 2 ^ (F .emax + 2 * low F - suc (F .fraction))
 

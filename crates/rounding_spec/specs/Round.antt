@@ -1,4 +1,4 @@
--- Rounding to nearest (document 01, "Patterns and rounding"), with no upper bound on the exponent.
+-- Rounding to nearest (R1.6, R1.7), with no upper bound on the exponent.
 -- f fraction bits are kept behind the leading one. A magnitude N is a whole number of some unit, in which u is 2 ^ L:
 -- L is 0 where N counts u, and 149 where N counts 2 ^ -298, the unit of products and totals, in binary32.
 use Prim.Native.Nat.{ℕ, suc, _+_, _-_, _*_, _/_, _%_, _^_, max, compare, Ordering, Ordering·lt, Ordering·eq, Ordering·gt}
@@ -9,7 +9,7 @@ use Rattle.rounding_spec.specs.declared.Ties.{Ties}
 use Rattle.rounding_spec.specs.declared.Ties.the-variants.{ToEven, ToZero}
 use Rattle.rounding_spec.specs.Nearest.{dist}
 
--- Halfway between q and suc q. RNe: "ties to the even last bit"; RN0: "ties to the smaller magnitude".
+-- halfway between q and suc q: RNe takes the one that is even (R1.6), RN0 the smaller (R1.7)
 abbrev pub tied : Ties → ℕ → ℕ
 tied ToEven q = q + q % 2
 tied ToZero q = q

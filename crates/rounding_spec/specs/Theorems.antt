@@ -10,12 +10,15 @@ use Rattle.rounding_spec.specs.declared.Ties.the-variants.{ToEven, ToZer
 use Rattle.rounding_spec.specs.Format.{Format, binary32, Proper, low, limit, edge, infinity, signBit}
 use Rattle.rounding_spec.specs.Round.{lastPlace, rounded, leftOver, roundedUp}
 use Rattle.rounding_spec.specs.Nearest.{dist, Rep, Near, Near0}
-use Rattle.rounding_spec.specs.Value.{Value, nan, infinite, finite, Fits, magnitude, decode, signalling, nanOf, bits, encode, roundFinite, round}
+use Rattle.rounding_spec.specs.Value.{Value, nan, infinite, finite, Fits, magnitude, decode, signalling}
+use Rattle.rounding_spec.specs.Value.{nanOf, bits, encode, roundFinite, round}
 
--- ---- document 01's numbers of binary32: u = 2 ^ -149, +infinity, the sign bit, the NaN, 2 ^ 128, and the edge 2 ^ 128 - 2 ^ 103; and what is asked of a format
+-- ---- the numbers of binary32 (R1): u = 2 ^ -149, +infinity, the sign bit, the NaN, 2 ^ 128, and the edge 2 ^ 128 - 2 ^ 103; and what is
+-- asked of a format
 abbrev pub Binary32Numbers : Type 0
 Binary32Numbers =
-    (low binary32 ≡ 149) × (infinity binary32 ≡ 0x7f80_0000) × (signBit binary32 ≡ 0x8000_0000) × ((operands : List ℕ) → nanOf binary32 operands ≡ 0x7fc0_0000)
+    (low binary32 ≡ 149) × (infinity binary32 ≡ 0x7f80_0000) × (signBit binary32 ≡ 0x8000_0000)
+    × ((operands : List ℕ) → nanOf binary32 operands ≡ 0x7fc0_0000)
     × (limit binary32 ≡ 2 ^ 128 * 2 ^ 149) × (edge binary32 ≡ (2 ^ 128 - 2 ^ 103) * 2 ^ 298) × Proper binary32
 
 -- ---- nearest, for every precision and every lowest exponent
@@ -36,7 +39,8 @@ TieToEven =
 -- and that other number's last bit is 1, so that RNe is fixed by the two
 abbrev pub TieNeighbour : Type 0
 TieNeighbour =
-    (f L N m : ℕ) → 0 < f → Rep (suc f) L (m * 2 ^ L) → m ≢ rounded ToEven f L N → dist (m * 2 ^ L) N ≡ dist (rounded ToEven f L N * 2 ^ L) N → bits f m % 2 ≡ 1
+    (f L N m : ℕ) → 0 < f → Rep (suc f) L (m * 2 ^ L) → m ≢ rounded ToEven f L N
+    → dist (m * 2 ^ L) N ≡ dist (rounded ToEven f L N * 2 ^ L) N → bits f m % 2 ≡ 1
 
 -- RN0 is fixed by being nearest with ties to the smaller magnitude
 abbrev pub TieToZeroUnique : Type 0
@@ -52,7 +56,7 @@ RulesDiffer =
     (f L N : ℕ) → (rounded ToEven f L N ≡ rounded ToZero f L N)
     ⊎ ((N < rounded ToEven f L N * 2 ^ L) × (rounded ToZero f L N * 2 ^ L + rounded ToEven f L N * 2 ^ L ≡ 2 * N))
 
--- "the exact rest": what is left over goes from the rounded number to N, downward and not 0 where N was rounded up, else upward
+-- what is left over goes from the rounded number to N, downward and not 0 where N was rounded up, else upward
 abbrev pub LeftOverIs : Type 0
 LeftOverIs =
     (t : Ties) (f L N : ℕ) → (roundedUp t f L N ≡ true → (rounded t f L N * 2 ^ L ≡ N + leftOver t f L N) × (0 < leftOver t f L N))
@@ -71,56 +75,69 @@ Scaling = (t : Ties) (f L s N : ℕ) → rounded t f (L + s) (N * 2 ^ s) ≡ rou
 -- a number that lies inside the unit 2 ^ suc h above A units rounds as the odd number of half units in its middle
 abbrev pub RoundToOdd : Type 0
 RoundToOdd =
-    (t : Ties) (f L h A N : ℕ) → 2 ^ suc f ≤ A → A * 2 ^ suc h < N → N < A * 2 ^ suc h + 2 ^ suc h → rounded t f L N ≡ rounded t f L ((2 * A + 1) * 2 ^ h)
+    (t : Ties) (f L h A N : ℕ) → 2 ^ suc f ≤ A → A * 2 ^ suc h < N → N < A * 2 ^ suc h + 2 ^ suc h
+    → rounded t f L N ≡ rounded t f L ((2 * A + 1) * 2 ^ h)
 
 -- ---- overflow: from the edge on for RNe, strictly above it for RN0
 abbrev pub OverflowRNe : Type 0
 OverflowRNe =
     (F : Format) → Proper F → (s : Bool) (N : ℕ)
-    → (edge F ≤ N → roundFinite ToEven F s N ≡ infinite s) × (N < edge F → roundFinite ToEven F s N ≡ finite s (rounded ToEven (F .fraction) (low F) N))
+    → (edge F ≤ N → roundFinite ToEven F s N ≡ infinite s)
+    × (N < edge F → roundFinite ToEven F s N ≡ finite s (rounded ToEven (F .fraction) (low F) N))
 
 abbrev pub OverflowRN0 : Type 0
 OverflowRN0 =
     (F : Format) → Proper F → (s : Bool) (N : ℕ)
-    → (edge F < N → roundFinite ToZero F s N ≡ infinite s) × (N ≤ edge F → roundFinite ToZero F s N ≡ finite s (rounded ToZero (F .fraction) (low F) N))
+    → (edge F < N → roundFinite ToZero F s N ≡ infinite s)
+    × (N ≤ edge F → roundFinite ToZero F s N ≡ finite s (rounded ToZero (F .fraction) (low F) N))
 
--- ---- the same over all patterns: no finite pattern is nearer; of two that are equally near RNe gives the one whose last bit is 0, RN0 the smaller
+-- ---- the same over all patterns: no finite pattern is nearer; of two that are equally near RNe gives the one whose last bit is 0, RN0
+-- the smaller
 abbrev pub NearestPattern : Type 0
 NearestPattern =
-    (t : Ties) (F : Format) → Proper F → (s : Bool) (N a : ℕ) → roundFinite t F s N ≡ finite s a → (x : ℕ) (r : Bool) (b : ℕ) → decode F x ≡ finite r b
+    (t : Ties) (F : Format) → Proper F → (s : Bool) (N a : ℕ) → roundFinite t F s N ≡ finite s a
+    → (x : ℕ) (r : Bool) (b : ℕ) → decode F x ≡ finite r b
     → dist (a * 2 ^ low F) N ≤ dist (b * 2 ^ low F) N
 
 abbrev pub TieToEvenPattern : Type 0
 TieToEvenPattern =
-    (F : Format) → Proper F → (s : Bool) (N a : ℕ) → roundFinite ToEven F s N ≡ finite s a → (x : ℕ) (r : Bool) (b : ℕ) → decode F x ≡ finite r b → b ≢ a
+    (F : Format) → Proper F → (s : Bool) (N a : ℕ) → roundFinite ToEven F s N ≡ finite s a
+    → (x : ℕ) (r : Bool) (b : ℕ) → decode F x ≡ finite r b → b ≢ a
     → dist (b * 2 ^ low F) N ≡ dist (a * 2 ^ low F) N → encode F (finite s a) % 2 ≡ 0
 
 abbrev pub TieToZeroPattern : Type 0
 TieToZeroPattern =
-    (F : Format) → Proper F → (s : Bool) (N a : ℕ) → roundFinite ToZero F s N ≡ finite s a → (x : ℕ) (r : Bool) (b : ℕ) → decode F x ≡ finite r b
+    (F : Format) → Proper F → (s : Bool) (N a : ℕ) → roundFinite ToZero F s N ≡ finite s a
+    → (x : ℕ) (r : Bool) (b : ℕ) → decode F x ≡ finite r b
     → dist (b * 2 ^ low F) N ≡ dist (a * 2 ^ low F) N → a ≤ b
 
 -- ---- patterns and values
 -- landmarks: the smallest and largest subnormal, the smallest normal, 1, -0, Ω, infinities, NaN of both kinds
 abbrev pub DecodeLandmarks : Type 0
 DecodeLandmarks =
-    (decode binary32 0x0000_0001 ≡ finite false 1) × (decode binary32 0x007f_ffff ≡ finite false (2 ^ 23 - 1)) × (decode binary32 0x0080_0000 ≡ finite false (2 ^ 23))
-    × (decode binary32 0x3f80_0000 ≡ finite false (2 ^ 149)) × (decode binary32 0x8000_0000 ≡ finite true 0) × (decode binary32 0x7f7f_ffff ≡ finite false ((2 ^ 128 - 2 ^ 104) * 2 ^ 149))
-    × (decode binary32 0x7f80_0000 ≡ infinite false) × (decode binary32 0xff80_0000 ≡ infinite true) × (decode binary32 0x7f80_0001 ≡ nan) × (decode binary32 0x7fc0_0000 ≡ nan)
+    (decode binary32 0x0000_0001 ≡ finite false 1) × (decode binary32 0x007f_ffff ≡ finite false (2 ^ 23 - 1))
+    × (decode binary32 0x0080_0000 ≡ finite false (2 ^ 23)) × (decode binary32 0x3f80_0000 ≡ finite false (2 ^ 149))
+    × (decode binary32 0x8000_0000 ≡ finite true 0) × (decode binary32 0x7f7f_ffff ≡ finite false ((2 ^ 128 - 2 ^ 104) * 2 ^ 149))
+    × (decode binary32 0x7f80_0000 ≡ infinite false) × (decode binary32 0xff80_0000 ≡ infinite true)
+    × (decode binary32 0x7f80_0001 ≡ nan) × (decode binary32 0x7fc0_0000 ≡ nan)
 
 -- the first and the last signalling pattern of either sign, and two between them; quiet ones beside them, and what is no NaN
 abbrev pub SignallingLandmarks : Type 0
 SignallingLandmarks =
-    (signalling binary32 0x7f80_0001 ≡ true) × (signalling binary32 0x7fbf_ffff ≡ true) × (signalling binary32 0xff80_0001 ≡ true) × (signalling binary32 0xffbf_ffff ≡ true)
-    × (signalling binary32 0x7f80_0002 ≡ true) × (signalling binary32 0x7fa0_0000 ≡ true) × (signalling binary32 0x7fc0_0001 ≡ false) × (signalling binary32 0xffc0_0000 ≡ false)
-    × (signalling binary32 0x7fc0_0000 ≡ false) × (signalling binary32 0xffff_ffff ≡ false) × (signalling binary32 0x7f80_0000 ≡ false) × (signalling binary32 0x3f80_0000 ≡ false)
+    (signalling binary32 0x7f80_0001 ≡ true) × (signalling binary32 0x7fbf_ffff ≡ true)
+    × (signalling binary32 0xff80_0001 ≡ true) × (signalling binary32 0xffbf_ffff ≡ true)
+    × (signalling binary32 0x7f80_0002 ≡ true) × (signalling binary32 0x7fa0_0000 ≡ true)
+    × (signalling binary32 0x7fc0_0001 ≡ false) × (signalling binary32 0xffc0_0000 ≡ false)
+    × (signalling binary32 0x7fc0_0000 ≡ false) × (signalling binary32 0xffff_ffff ≡ false)
+    × (signalling binary32 0x7f80_0000 ≡ false) × (signalling binary32 0x3f80_0000 ≡ false)
 
--- "A NaN is signalling when fraction bit 22 is 0": the patterns of either sign above the infinity's and below its sum with that bit
+-- the signalling patterns (R1.3) are those of either sign above the infinity's and below its sum with that bit
 abbrev pub SignallingRange : Type 0
 SignallingRange =
-    (F : Format) → Proper F → (x : ℕ) → signalling F x ≡ ltb (infinity F) (x % signBit F) && ltb (x % signBit F) (infinity F + 2 ^ (F .fraction - 1))
+    (F : Format) → Proper F → (x : ℕ)
+    → signalling F x ≡ ltb (infinity F) (x % signBit F) && ltb (x % signBit F) (infinity F + 2 ^ (F .fraction - 1))
 
--- document 01: "Ω = 7F7FFFFF"; no finite magnitude is above it
+-- no finite magnitude is above that of Ω (R1.8)
 abbrev pub LargestFinite : Type 0
 LargestFinite = (x : ℕ) (s : Bool) (a : ℕ) → decode binary32 x ≡ finite s a → a ≤ (2 ^ 128 - 2 ^ 104) * 2 ^ 149
 
@@ -146,5 +163,7 @@ RoundFits = (t : Ties) (F : Format) (v : Value) → Fits F (round t F v)
 -- ---- all of them: `proofs/Theorems.antt` proves this
 abbrev pub All : Type 0
 All =
-    Binary32Numbers × Nearest × TieToZero × TieToEven × TieNeighbour × TieToZeroUnique × HalfUnit × RulesDiffer × LeftOverIs × Exact × Monotone × Scaling × RoundToOdd
-    × OverflowRNe × OverflowRN0 × NearestPattern × TieToEvenPattern × TieToZeroPattern × DecodeLandmarks × SignallingLandmarks × SignallingRange × LargestFinite × BitsOrder × DecodeEncode × EncodeDecode × DecodeFits × RoundFits
+    Binary32Numbers × Nearest × TieToZero × TieToEven × TieNeighbour × TieToZeroUnique × HalfUnit × RulesDiffer × LeftOverIs × Exact
+    × Monotone × Scaling × RoundToOdd × OverflowRNe × OverflowRN0 × NearestPattern × TieToEvenPattern × TieToZeroPattern
+    × DecodeLandmarks × SignallingLandmarks × SignallingRange × LargestFinite × BitsOrder × DecodeEncode × EncodeDecode × DecodeFits
+    × RoundFits

@@ -1,4 +1,4 @@
--- Patterns, the values that they stand for, and the rounding of an exact result to a value (document 01, "Patterns and rounding").
+-- Patterns, the values that they stand for, and the rounding of an exact result to a value (R1).
 use Prim.Native.Nat.{ℕ, zero, suc, _+_, _-_, _*_, _/_, _%_, _^_, _<_}
 use mathlib.Core.Bool.{Bool, true, false, cond, _&&_}
 use mathlib.Core.List.{List, []}
@@ -16,7 +16,8 @@ pub data Value : Type 0 where
   infinite : Bool → Value
   finite : Bool → ℕ → Value
 
--- the values that the format has: multiples of u with a significand of at most `suc fraction` digits, below 2 ^ (emax + 1); infinities and NaN
+-- the values that the format has: multiples of u with a significand of at most `suc fraction` digits, below 2 ^ (emax + 1); infinities
+-- and NaN
 unfoldable pub Fits : Format → Value → Type 0
 unfolding limit
 Fits F nan = Unit {0}
@@ -35,7 +36,7 @@ unfoldable pub magnitude : ℕ → ℕ → ℕ
 unfolding fields
 magnitude f c = fields f (c / 2 ^ f) (c % 2 ^ f)
 
--- of the bits below the sign: "Exponent field 0 is zero or subnormal, 1 to 254 normal, 255 infinite or NaN."
+-- R1.2: of the bits below the sign, which are finite below infinity's, and NaN above
 unfoldable pub unsigned : Format → Bool → ℕ → Value
 unfolding magnitude
 unsigned F s c = cond (ltb c (infinity F)) (finite s (magnitude (F .fraction) c)) (cond (eqb c (infinity F)) (infinite s) nan)
@@ -65,14 +66,14 @@ isZero nan = false
 isZero (infinite s) = false
 isZero (finite s a) = eqb a 0
 
--- "A NaN is signalling when fraction bit 22 is 0": the highest of the fraction's bits.
+-- R1.3: a NaN whose highest fraction bit is 0
 unfoldable pub signalling : Format → ℕ → Bool
 unfolding decode
 signalling F x = isNaN (decode F x) && eqb (x / 2 ^ (F .fraction - 1) % 2) 0
 
 -- ---- from a value to its pattern
 
--- "Every NaN result is 7FC00000": the one place that fixes it. The operands do not matter.
+-- R2.4, R3.7: the pattern of a NaN result, fixed here alone; the operands do not matter
 abbrev pub nanOf : Format → List ℕ → ℕ
 nanOf F operands = infinity F + 2 ^ (F .fraction - 1)
 
@@ -92,7 +93,7 @@ encode F (finite s a) = signed F s (bits (F .fraction) a)
 -- ---- rounding an exact result
 
 -- RNe and RN0 of the magnitude N, in units of u * u, with the sign s: a value in units of u.
--- "A result rounded to zero keeps the sign of the exact value."
+-- A result that is rounded to zero keeps its sign (R2.7).
 unfoldable pub roundFinite : Ties → Format → Bool → ℕ → Value
 unfolding rounded limit
 roundFinite t F s N = let a = rounded t (F .fraction) (low F) N in cond (ltb a (limit F)) (finite s a) (infinite s)
@@ -103,10 +104,10 @@ round t F nan = nan
 round t F (infinite s) = infinite s
 round t F (finite s N) = roundFinite t F s N
 
--- "RNe is nearest, ties to the even last bit; magnitudes of 2^128 - 2^103 and above become infinite."
+-- R1.6
 abbrev pub RNe : Format → Value → Value
 RNe = round ToEven
 
--- "RN0 is nearest, ties to the smaller magnitude; only magnitudes strictly above 2^128 - 2^103 become infinite (source document 002)."
+-- R1.7
 abbrev pub RN0 : Format → Value → Value
 RN0 = round ToZero

@@ -30,14 +30,6 @@ use Rattle.sheet_line.specs.Answers.{Writes, Answers}
 use Rattle.sheet_line.specs.Inner.{halfTerms}
 
 -- ---- the total
-pub both-finite : (a b c d : Bool) → c ≡ a → c ≡ true → d ≡ b → d ≡ a && b
-both-finite true b c d e t f = f
-both-finite false b c d e t f = absurd (true≢false (sym t ∙ e))
-
-pub first-infinite : (a b c : Bool) → c ≡ a → c ≡ false → c ≡ a && b
-first-infinite true b c e f = absurd (true≢false (sym e ∙ f))
-first-infinite false b c e f = f
-
 module _ (total : List ℕ) (first second : ℕ) (finite : Bool) (are : finite ≡ isFinite (decode binary32 first) && isFinite (decode binary32 second)) where
   pub both-added : (t₁ t₂ : List ℕ) → finite ≡ true → t₁ ≡ afterAdding total (ofPattern first) → t₂ ≡ afterAdding t₁ (ofPattern second) → t₂ ≡ column total (halfTerms first second)
   unfolding column

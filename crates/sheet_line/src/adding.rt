@@ -1,8 +1,6 @@
 // A question's pair, added to the total.
+use pattern::both_finite;
 ghost use mathlib.Core.Path.{_≡_};
-ghost use mathlib.Core.Bool.{_&&_};
-ghost use Rattle.rounding_spec.specs.Format.{binary32};
-ghost use Rattle.rounding_spec.specs.Value.{decode, isFinite};
 ghost use Rattle.accumulator_spec.specs.Columns.{column};
 ghost use Rattle.sheet_line.specs.Inner.{halfTerms};
 
@@ -10,20 +8,8 @@ ghost use Rattle.sheet_line.specs.Inner.{halfTerms};
 pub fn halves(total: &mut [u32], first: u32, second: u32)
     ensures { λ _. ⌜ now (total .exit) ≡ column (now (total .entry)) (halfTerms first second) ⌝ }
 {
-    if are_finite(first, second) {
+    if both_finite(first, second) {
         accumulator::add_pattern(total, first);
         accumulator::add_pattern(total, second);
     }
-}
-
-fn are_finite(x: u32, y: u32) -> bool
-    ensures { λ r. ⌜ r ≡ isFinite (decode binary32 x) && isFinite (decode binary32 y) ⌝ }
-{
-    is_finite(x) && is_finite(y)
-}
-
-fn is_finite(x: u32) -> bool
-    ensures { λ r. ⌜ r ≡ isFinite (decode binary32 x) ⌝ }
-{
-    x % 0x8000_0000 < 0x7f80_0000
 }

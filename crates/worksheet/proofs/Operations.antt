@@ -10,11 +10,11 @@ use Rattle.worksheet_spec.specs.Lines.{minus}
 use Rattle.worksheet_spec.specs.Sheets.{sumSheet, productSheet, sheetOf}
 use Rattle.worksheet_lines.specs.Inner.{Follows}
 use Rattle.worksheet_lines.specs.declared.Foot.{Foot}
-use Rattle.worksheet_lines.proofs.Placed.{Places}
+use Rattle.worksheet_lines.proofs.Rows.{Rows}
 
 module _ (o x y : ℕ) where
   -- ---- the sheet
-  module _ {start end : Places} {foot : Foot} where
+  module _ {start end : Rows} {foot : Foot} where
     pub sum-sheet : o ≡ 1 → Follows start end 0 (sumSheet x y) foot → Follows start end 0 (sheetOf (operationOf o) x y) foot
     unfolding sheetOf
     sum-sheet e f = rw e f

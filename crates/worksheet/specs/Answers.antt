@@ -1,4 +1,4 @@
--- The answers of the code's call: document 01's number and values for each case of its enum.
+-- The answers of `fill`: number and values of each case of its enum (R8.5, R8.6, R11.4).
 use Rattle.pattern_spec.specs.Answer.{Answer, refused}
 use Rattle.worksheet_spec.specs.Filling.{FilledSheet, filled}
 use Rattle.worksheet.specs.declared.Filled.{Filled}

@@ -1,16 +1,25 @@
-// The step sheet of a question in 65 lent words. Each result on a line is a rounding step's.
+// The step sheet of a question in lent words. Each result on a line is a rounding step's.
+use augmented_spec::DIFFERENCE;
 use augmented_spec::Flags;
+use augmented_spec::PRODUCT;
 use augmented_spec::Pair;
+use augmented_spec::SUM;
 use pattern::flipped;
 use worksheet_lines::Foot;
-use worksheet_lines::Places;
+use worksheet_lines::Rows;
+use worksheet_rules::products;
+use worksheet_rules::sums;
+use worksheet_spec::LINE_SIZE;
+use worksheet_spec::MOST_LINES;
+use worksheet_spec::SHEET_SIZE;
 ghost use mathlib.Core.Path.{_≡_};
 ghost use Prim.Native.Nat.{_≤_};
 ghost use lib.ListN.{length};
 ghost use Rattle.rounding_spec.specs.Format.{binary32};
 ghost use Rattle.augmented_spec.specs.Direct.{directPair, operationOf};
+ghost use Rattle.worksheet_spec.specs.Lines.{mostLines, sheetSize};
 ghost use Rattle.worksheet_spec.specs.Sheets.{sheetOf};
-ghost use Rattle.worksheet_spec.specs.Filling.{filling, afterFilling, HasDirectPair};
+ghost use Rattle.worksheet_spec.specs.Filling.{Fills};
 ghost use Rattle.worksheet.specs.Answers.{answerFilled};
 ghost use Rattle.worksheet_lines.specs.Inner.{Follows};
 
@@ -22,26 +31,26 @@ pub enum Filled {
 
 // The pair is the one that the lines reach. The flags are the direct pair's.
 pub fn fill(operation: u32, x: u32, y: u32, words: &mut [u32]) -> Filled
-    ensures { λ r. ⌜ (answerFilled r ≡ filling operation x y (now (words .entry))) × (now (words .exit) ≡ afterFilling operation x y (now (words .entry))) × HasDirectPair operation x y (answerFilled r) ⌝ }
+    ensures { λ r. ⌜ Fills operation x y (answerFilled r) (now (words .entry)) (now (words .exit)) ⌝ }
 {
-    if operation == 0 {
+    if operation < SUM {
         return Filled::Operation;
     }
-    if operation > 3 {
+    if operation > PRODUCT {
         return Filled::Operation;
     }
-    if words.len() < 65 {
+    if words.len() < SHEET_SIZE {
         return Filled::Words;
     }
     written(operation, x, y, words)
 }
 
-// The lines are made in places of their own, and copied when they are all there.
+// The lines are made in rows of their own, and copied when they are all there.
 fn written(operation: u32, x: u32, y: u32, words: &mut [u32]) -> Filled
-    requires { ⌜ (1 ≤ operation) × (operation ≤ 3) × (65 ≤ length (now words)) ⌝ }
-    ensures { λ r. ⌜ (answerFilled r ≡ filling operation x y (now (words .entry))) × (now (words .exit) ≡ afterFilling operation x y (now (words .entry))) × HasDirectPair operation x y (answerFilled r) ⌝ }
+    requires { ⌜ (1 ≤ operation) × (operation ≤ 3) × (sheetSize ≤ length (now words)) ⌝ }
+    ensures { λ r. ⌜ Fills operation x y (answerFilled r) (now (words .entry)) (now (words .exit)) ⌝ }
 {
-    let mut lines = [[0u32; 5]; 13];
+    let mut lines = [[0u32; LINE_SIZE]; MOST_LINES];
     let foot = sheet(&mut lines, operation, x, y);
     worksheet_lines::copy_out(lines, words);
     let pair = Pair {
@@ -55,22 +64,22 @@ fn written(operation: u32, x: u32, y: u32, words: &mut [u32]) -> Filled
     }
 }
 
-// A sheet has at most 13 lines.
+// So few lines fit a u32.
 fn counted(next: usize) -> u32
-    requires { ⌜ next ≤ 13 ⌝ }
+    requires { ⌜ next ≤ mostLines ⌝ }
     ensures { λ r. ⌜ r ≡ next ⌝ }
 {
     next as u32
 }
 
-fn sheet(lines: &mut Places, operation: u32, x: u32, y: u32) -> Foot
+fn sheet(lines: &mut Rows, operation: u32, x: u32, y: u32) -> Foot
     ensures { λ r. ⌜ Follows (now (lines .entry)) (now (lines .exit)) 0 (sheetOf (operationOf operation) x y) r ⌝ }
 {
     match operation {
-        1 => worksheet_sum::sum(lines, x, y),
-        2 => worksheet_sum::sum(lines, x, flipped(y)),
-        // 3
-        _ => worksheet_product::product(lines, x, y),
+        SUM => sums::sum(lines, x, y),
+        DIFFERENCE => sums::sum(lines, x, flipped(y)),
+        // PRODUCT
+        _ => products::product(lines, x, y),
     }
 }
 
@@ -78,15 +87,15 @@ fn flags(operation: u32, x: u32, y: u32) -> Flags
     ensures { λ r. ⌜ r ≡ directPair (operationOf operation) binary32 x y .flags ⌝ }
 {
     match operation {
-        1 => {
+        SUM => {
             let direct = augmented::sum(x, y);
             direct.flags
         }
-        2 => {
+        DIFFERENCE => {
             let direct = augmented::difference(x, y);
             direct.flags
         }
-        // 3
+        // PRODUCT
         _ => {
             let direct = augmented::product(x, y);
             direct.flags

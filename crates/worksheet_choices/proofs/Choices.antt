@@ -7,7 +7,7 @@ use native.Mathlib.Omega.{arith}
 use lib.Dec.{leb, eqb}
 use borrow.Author.Tests.{le-leb, lt-leb}
 use Rattle.rounding_spec.specs.Value.{isInfinite}
-use Rattle.augmented_spec.proofs.Patterns.{chosen-and}
+use Rattle.pattern_spec.proofs.Shown.{chosen-and}
 use Rattle.worksheet_spec.specs.Constants.{twoTo127, twoTo102, twoToMinus102, twoToMinus126}
 use Rattle.worksheet_spec.specs.Lines.{value, minus, equal, copySign, zero}
 use Rattle.worksheet_spec.specs.Sheets.{atEdge, overflows, tinyTie, restTie}

@@ -13,7 +13,7 @@ use Rattle.rounding_spec.proofs.Compare.{tri}
 use Rattle.rounding_spec.proofs.Codec.{unsigned-finite, unsigned-infinite, unsigned-nan}
 use Rattle.errorfree_spec.specs.Comparisons.{same}
 use Rattle.worksheet_spec.specs.Lines.{equal}
-use Rattle.worksheet_choices.proofs.Orders.{magnitude-none, magnitude-eqb}
+use Rattle.rounding_spec.proofs.Orders.{magnitude-none, magnitude-eqb}
 
 own-sign : (s : Bool) → Bool·beq s s ≡ true
 own-sign true = refl

@@ -1,4 +1,3 @@
-pub mod Orders
 pub mod Magnitudes
 pub mod ProductBranches
 pub mod Equality

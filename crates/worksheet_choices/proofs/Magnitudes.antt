@@ -1,4 +1,4 @@
--- What the bits below the sign show: zero, and the smaller of two magnitudes.
+-- What the bits below the sign show: the smaller of two magnitudes.
 use mathlib.Core.Path.{_≡_, sym, ap, _∙_}
 use mathlib.Core.Logic.{inl, inr}
 use mathlib.Core.Bool.{Bool, false, cond}
@@ -6,33 +6,16 @@ use Prim.Native.Nat.{ℕ, _%_, _^_, _≤_, _<_}
 use native.Mathlib.Nat.{le-of-lt, le-of-eq}
 use native.Mathlib.Decide.{decLe}
 use native.Mathlib.Omega.{arith}
-use lib.Dec.{ltb, leb, eqb}
-use borrow.Author.Tests.{lt-ltb, le-ltb, le-leb, lt-leb, ne-eqb}
+use lib.Dec.{ltb, leb}
+use borrow.Author.Tests.{lt-ltb, le-ltb, le-leb, lt-leb}
 use Rattle.rounding_spec.specs.Format.{binary32, infinity}
-use Rattle.rounding_spec.specs.Value.{Value, finite, magnitude, unsigned, decode, isZero}
+use Rattle.rounding_spec.specs.Value.{Value, finite, magnitude, unsigned, decode}
 use Rattle.rounding_spec.proofs.Compare.{tri}
 use Rattle.rounding_spec.proofs.Codec.{unsigned-finite, unsigned-infinite, unsigned-nan}
 use Rattle.errorfree_spec.specs.Comparisons.{lessMagnitude}
-use Rattle.worksheet_spec.specs.Lines.{zero}
 use Rattle.worksheet_spec.specs.Sheets.{swaps}
-use Rattle.worksheet_choices.proofs.Orders.{magnitude-none, magnitude-ltb}
+use Rattle.rounding_spec.proofs.Orders.{magnitude-ltb}
 
--- ---- +0 or -0
-zero-unsigned : (s : Bool) (c : ℕ) → eqb c 0 ≡ isZero (unsigned binary32 s c)
-zero-unsigned s c =
-    elim (tri c (infinity binary32)) [
-      | inl h ↦ magnitude-none c ∙ sym (ap isZero (unsigned-finite binary32 s c h))
-      | inr o ↦ elim o [
-        | inl e ↦ ne-eqb c 0 (λ (z : c ≡ 0). omega arith) ∙ sym (ap isZero (unsigned-infinite binary32 s c e))
-        | inr h ↦ ne-eqb c 0 (λ (z : c ≡ 0). omega arith) ∙ sym (ap isZero (unsigned-nan binary32 s c h))
-      ]
-    ]
-
-pub zero-is : (x : ℕ) → eqb (x % 2 ^ 31) 0 ≡ zero x
-unfolding decode
-zero-is x = zero-unsigned (leb (2 ^ 31) x) (x % 2 ^ 31)
-
--- ---- |x| < |y|
 -- infinities, and NaN, whose bits are above theirs, are below nothing
 ordered-below : (c d : ℕ) → infinity binary32 ≤ c → cond (leb d 0x7f80_0000) (ltb c d) false ≡ false
 ordered-below c d h =

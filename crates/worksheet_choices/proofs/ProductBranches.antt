@@ -11,7 +11,7 @@ use Rattle.rounding_spec.specs.Value.{magnitude, unsigned, decode}
 use Rattle.rounding_spec.proofs.Codec.{unsigned-finite, unsigned-infinite, unsigned-nan}
 use Rattle.worksheet_spec.specs.Lines.{value}
 use Rattle.worksheet_spec.specs.Sheets.{Branch, whenInfinite, whenZero, whenTiny, whenMiddle, otherwise, branchOf}
-use Rattle.worksheet_choices.proofs.Orders.{magnitude-none, magnitude-leb, magnitude-ltb}
+use Rattle.rounding_spec.proofs.Orders.{magnitude-none, magnitude-leb, magnitude-ltb}
 
 -- ---- the bounds, in units of u
 tiny-bound : magnitude 23 0x0100_0000 ≡ 2 ^ 24

@@ -1,9 +1,9 @@
--- The branches of a product (document 01, "Product": "Line a = x·y, then by a") for the cases of the code's enum.
+-- The branches of a product for the cases of the code's enum (R5.12 to R5.19).
 use Rattle.worksheet_spec.specs.Sheets as sheet
 use Rattle.worksheet_choices.specs.declared.Branch.{Branch}
 use Rattle.worksheet_choices.specs.declared.Branch.the-variants.{Infinite, Zero, Tiny, Middle, Other}
 
--- "infinite", "zero", "0 < |a| < 2^-125", "2^-125 ≤ |a| ≤ 2^-102", "otherwise (NaN too)"
+-- in the order of the rules: a is infinite, zero, tiny, between, or any other, NaN among them
 abbrev pub branchCase : Branch → sheet.Branch
 branchCase Infinite = sheet.whenInfinite
 branchCase Zero = sheet.whenZero

@@ -1,10 +1,11 @@
 // Comparisons and choices of the step sheet on binary32 patterns. They make no line. A comparison with NaN fails, and +0 equals -0.
-use choose::choose_pattern;
 use choose::choose_sign;
+use pattern::copy_sign;
 use pattern::flipped;
+use pattern::is_infinite;
+use pattern::is_zero;
 ghost use mathlib.Core.Path.{_≡_};
-ghost use Rattle.rounding_spec.specs.Value.{isInfinite};
-ghost use Rattle.worksheet_spec.specs.Lines.{value, equal, copySign, zero};
+ghost use Rattle.worksheet_spec.specs.Lines.{value, equal};
 ghost use Rattle.worksheet_spec.specs.Sheets.{swaps, atEdge, overflows, tinyTie, restTie, branchOf};
 ghost use Rattle.worksheet_choices.specs.Branches.{branchCase};
 
@@ -33,25 +34,6 @@ pub fn equal(x: u32, y: u32) -> bool
     let size = x % 0x8000_0000;
     let other = y % 0x8000_0000;
     choose_sign(x == y, size <= 0x7f80_0000, size + other == 0)
-}
-
-pub fn is_zero(x: u32) -> bool
-    ensures { λ r. ⌜ r ≡ zero x ⌝ }
-{
-    x % 0x8000_0000 == 0
-}
-
-pub fn is_infinite(a: u32) -> bool
-    ensures { λ r. ⌜ r ≡ isInfinite (value a) ⌝ }
-{
-    a % 0x8000_0000 == 0x7f80_0000
-}
-
-// The positive constant c with the sign of a.
-pub fn copy_sign(c: u32, a: u32) -> u32
-    ensures { λ r. ⌜ r ≡ copySign c a ⌝ }
-{
-    choose_pattern(a >= 0x8000_0000, flipped(c), c)
 }
 
 // |y| > |x|. The bits of a NaN x are above those of every y that is no NaN, so that x needs no test of its own.

@@ -1,3 +1,3 @@
 pub mod Copied
-pub mod Placed
+pub mod Rows
 pub mod SharedLines

@@ -1,18 +1,19 @@
 // What the lines of sums and products share.
 use crate::Foot;
-use crate::Places;
+use crate::Rows;
 use crate::constants::KAPPA;
 use crate::constants::MINUS_TWO;
 use crate::constants::PLUS_ZERO;
 use crate::constants::PSI;
 use crate::constants::TWO;
 use pattern::flipped;
-ghost use Prim.Native.Nat.{_<_, _≤_};
+ghost use Prim.Native.Nat.{_+_, _<_, _≤_};
+ghost use Rattle.worksheet_spec.specs.Lines.{mostLines};
 ghost use Rattle.worksheet_spec.specs.Sheets.{recomposition, zeroFinish, recomposedFinished, edgeFinish};
 ghost use Rattle.worksheet_lines.specs.Inner.{Follows};
 
-pub fn recomposition(lines: &mut Places, n: usize, a: u32, b: u32) -> Foot
-    requires { ⌜ n ≤ 10 ⌝ }
+pub fn recomposition(lines: &mut Rows, n: usize, a: u32, b: u32) -> Foot
+    requires { ⌜ n + 3 ≤ mostLines ⌝ }
     ensures { λ r. ⌜ Follows (now (lines .entry)) (now (lines .exit)) n (recomposition a b) r ⌝ }
 {
     let z = crate::mul(lines, n, PSI, a);
@@ -33,11 +34,11 @@ pub fn recomposition(lines: &mut Places, n: usize, a: u32, b: u32) -> Foot
 }
 
 // A zero second takes first's sign.
-pub fn zero_finish(lines: &mut Places, n: usize, first: u32, second: u32) -> Foot
-    requires { ⌜ n < 13 ⌝ }
+pub fn zero_finish(lines: &mut Rows, n: usize, first: u32, second: u32) -> Foot
+    requires { ⌜ n < mostLines ⌝ }
     ensures { λ r. ⌜ Follows (now (lines .entry)) (now (lines .exit)) n (zeroFinish first second) r ⌝ }
 {
-    if worksheet_choices::is_zero(second) {
+    if pattern::is_zero(second) {
         let nought = crate::mul(lines, n, PLUS_ZERO, first);
         return Foot {
             first,
@@ -52,8 +53,8 @@ pub fn zero_finish(lines: &mut Places, n: usize, first: u32, second: u32) -> Foo
     }
 }
 
-pub fn recomposed_finished(lines: &mut Places, n: usize, a: u32, b: u32) -> Foot
-    requires { ⌜ n < 10 ⌝ }
+pub fn recomposed_finished(lines: &mut Rows, n: usize, a: u32, b: u32) -> Foot
+    requires { ⌜ n + 3 < mostLines ⌝ }
     ensures { λ r. ⌜ Follows (now (lines .entry)) (now (lines .exit)) n (recomposedFinished a b) r ⌝ }
 {
     let pair = recomposition(lines, n, a, b);
@@ -61,8 +62,8 @@ pub fn recomposed_finished(lines: &mut Places, n: usize, a: u32, b: u32) -> Foot
 }
 
 // An infinite a stands for a pair at the edge, or for itself twice.
-pub fn edge_finish(lines: &mut Places, n: usize, a: u32, half: u32, rest: u32) -> Foot
-    requires { ⌜ n < 12 ⌝ }
+pub fn edge_finish(lines: &mut Rows, n: usize, a: u32, half: u32, rest: u32) -> Foot
+    requires { ⌜ n + 1 < mostLines ⌝ }
     ensures { λ r. ⌜ Follows (now (lines .entry)) (now (lines .exit)) n (edgeFinish a half rest) r ⌝ }
 {
     if worksheet_choices::at_edge(half, rest) {

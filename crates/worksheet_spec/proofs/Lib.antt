@@ -9,8 +9,8 @@ pub mod ProductSheet
 pub mod EachLine
 pub mod Derivation
 pub mod Derived
-pub mod Operations
-pub mod ProductOperations
+pub mod SumSteps
+pub mod ProductSteps
 pub mod FootIsPair
 pub mod Filling
 pub mod Theorems

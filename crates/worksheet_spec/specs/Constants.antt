@@ -1,8 +1,7 @@
--- Document 01, "The step sheet": "Constants: ψ 3F7FFFFF (1 - 2^-24), 2 40000000, -2 C0000000, 1/2 3F000000, κ 3FFFFFFF (2 - 2^-23),
--- 2^24 4B800000, 2^48 57800000, 2^-24 33800000, +0, u 00000001 and -u 80000001." `ConstantPatterns` of Theorems says what they are.
+-- The constants of the step sheet, by pattern (R5.1). `ConstantPatterns` of Theorems says which numbers they are.
 use Prim.Native.Nat.{ℕ}
 
--- ---- factors: "A constant stands as the first operand of a multiplication."
+-- ---- factors: in a multiplication the constant is the first operand (R5.2)
 abbrev pub psi : ℕ
 psi = 0x3f7f_ffff
 
@@ -30,11 +29,11 @@ twoToMinus24 = 0x3380_0000
 abbrev pub plusZero : ℕ
 plusZero = 0x0000_0000
 
--- ---- u, which stands with a sign as the second operand of a subtraction: -u is its flip
+-- ---- u, which stands with a sign as the second operand of a subtraction (R5.8): -u is its flip
 abbrev pub smallest : ℕ
 smallest = 0x0000_0001
 
--- ---- what results are compared with: 2^127, 2^102, 2^-102 and 2^-126
+-- ---- what results are compared with (R5.7, R5.16, R5.18): 2^127, 2^102, 2^-102 and 2^-126
 abbrev pub twoTo127 : ℕ
 twoTo127 = 0x7f00_0000
 

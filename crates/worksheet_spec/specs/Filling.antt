@@ -1,4 +1,4 @@
--- Filling a sheet (document 01, "Where a call says no", and "Demand 3, word by word").
+-- Filling a sheet: what a call answers, and the lent words as they end (R7.2 to R7.4, R8.5, R8.6).
 use Prim.Native.Nat.{ℕ, _*_, _-_}
 use mathlib.Core.Path.{_≡_}
 use mathlib.Core.Bool.{not, cond}
@@ -8,25 +8,23 @@ use lib.ListN.{length, drop, replicate}
 use Rattle.rounding_spec.specs.Format.{binary32}
 use Rattle.pattern_spec.specs.Answer.{Answer, refused, done, isDone}
 use Rattle.augmented_spec.specs.declared.Pair.{Pair}
-use Rattle.augmented_spec.specs.Direct.{Operation, sum, difference, product, directPair, isOperation, operationOf}
-use Rattle.worksheet_spec.specs.Lines.{stepNumber, Line}
+use Rattle.augmented_spec.specs.Direct.{Operation, directPair, isOperation, operationOf}
+use Rattle.worksheet_spec.specs.Lines.{lineSize, sheetSize, stepNumber, Line}
 use Rattle.worksheet_spec.specs.Sheets.{sheetOf}
 
--- ---- words: "A sheet has at most 13 lines of five words each: operation (1 add, 2 subtract, 3 multiply, 4 fused), three operands
--- (third 0 if unused), result."
+-- ---- words: of a line (R5.22), of lines one after the other, and of a sheet, whose unused words are 0 (R8.6)
 abbrev pub lineWords : Line → List ℕ
-lineWords l = stepNumber (l .operation) ∷ l .x ∷ l .y ∷ l .z ∷ l .result ∷ []
+lineWords l = stepNumber (l .step) ∷ l .x ∷ l .y ∷ l .z ∷ l .result ∷ []
 
-unfoldable pub wordsOf : List Line → List ℕ
-wordsOf [] = []
-wordsOf (l ∷ ls) = lineWords l ++ wordsOf ls
+unfoldable pub linesWords : List Line → List ℕ
+linesWords [] = []
+linesWords (l ∷ ls) = lineWords l ++ linesWords ls
 
--- "unused words among the first 65 become 0"
 unfoldable pub sheetWords : List Line → List ℕ
-unfolding wordsOf
-sheetWords ls = wordsOf ls ++ replicate (65 - 5 * length ls) 0
+unfolding linesWords
+sheetWords ls = linesWords ls ++ replicate (sheetSize - lineSize * length ls) 0
 
--- ---- what filling answers where it is not refused: the line count and the pair at the sheet's foot, with its flags
+-- ---- what filling answers where it is not refused (R8.6): the line count and the pair at the sheet's foot, with its flags
 pub record FilledSheet : Type 0 where
   pub lines : ℕ
   pub pair : Pair
@@ -34,26 +32,30 @@ pub record FilledSheet : Type 0 where
 abbrev pub filled : ℕ → Pair → Answer FilledSheet
 filled lines pair = done (record { lines = lines; pair = pair })
 
--- "the line count, the flags and the pair that these rules reach come back": "the flags that come back are those of Flags"
-unfoldable pub answerOf : Operation → ℕ → ℕ → Answer FilledSheet
-answerOf o x y =
+-- the sheet's own count and foot, and the direct pair's flags (R7.4)
+unfoldable pub sheetAnswer : Operation → ℕ → ℕ → Answer FilledSheet
+sheetAnswer o x y =
     let s = sheetOf o x y in
     filled (length (s .lines)) (record { first = s .first; second = s .second; flags = directPair o binary32 x y .flags })
 
--- "10 operation number outside 1 to 3 ..; 9 fewer than 65 words lent. Otherwise ..", tried in this order
+-- refused by 10, an unknown operation number, or 9, too few lent words, in this order (R8.5), or carried out
 unfoldable pub filling : ℕ → ℕ → ℕ → List ℕ → Answer FilledSheet
 filling operation x y words =
     cond (not (isOperation operation)) (refused 10)
-    (cond (ltb (length words) 65) (refused 9)
-    (answerOf (operationOf operation) x y))
+    (cond (ltb (length words) sheetSize) (refused 9)
+    (sheetAnswer (operationOf operation) x y))
 
--- the words as they end: "unused words among the first 65 become 0, later ones keep their values"; "every lent word .. is unchanged" where it is
--- refused
+-- The words as they end: the sheet's, and those after them as they were (R8.6). A refused call changes none (R8.1).
 unfoldable pub afterFilling : ℕ → ℕ → ℕ → List ℕ → List ℕ
 afterFilling operation x y words =
-    cond (isDone (filling operation x y words)) (sheetWords (sheetOf (operationOf operation) x y .lines) ++ drop 65 words) words
+    cond (isDone (filling operation x y words)) (sheetWords (sheetOf (operationOf operation) x y .lines) ++ drop sheetSize words) words
 
--- ---- "The foot equals the direct pair in every bit, and the flags that come back are those of Flags."
+-- the pair that comes back is the direct pair, with its flags (R7.4)
 abbrev pub HasDirectPair : ℕ → ℕ → ℕ → Answer FilledSheet → Type 0
 HasDirectPair operation x y (refused n) = Unit {0}
 HasDirectPair operation x y (done s) = s .pair ≡ directPair (operationOf operation) binary32 x y
+
+-- ---- a call of filling: its answer, and the lent words before and after it
+abbrev pub Fills : ℕ → ℕ → ℕ → Answer FilledSheet → List ℕ → List ℕ → Type 0
+Fills operation x y answer words after =
+    (answer ≡ filling operation x y words) × (after ≡ afterFilling operation x y words) × HasDirectPair operation x y answer

@@ -1,14 +1,16 @@
--- The lines of a sheet, the sheet, and what makes no line (document 01, "The step sheet").
+-- The lines of a sheet, the sheet, and what makes no line (R5.3, R5.4, R5.21, R5.22).
 use Prim.Native.Nat.{ℕ, _*_}
-use mathlib.Core.Bool.{Bool, cond}
+use mathlib.Core.Path.{_≡_}
+use mathlib.Core.Bool.{Bool}
 use mathlib.Core.List.{List, [], _++_}
-use lib.Dec.{leb}
-use Rattle.rounding_spec.specs.Format.{binary32, signBit}
+use Rattle.rounding_spec.specs.Format.{binary32}
 use Rattle.rounding_spec.specs.Value.{Value, decode, isZero}
 use Rattle.pattern_spec.specs.Classes.{flip}
+pub use Rattle.pattern_spec.specs.Classes.{copySign}
+use Rattle.binary32_spec.specs.Steps.{addStep, subStep, mulStep, fmaStep}
 use Rattle.errorfree_spec.specs.Comparisons.{same}
 
--- ---- sizes (R5.21, R5.22): words of a line, most lines, and words of a sheet
+-- ---- sizes: words of a line (R5.22), most lines (R5.21), and words of a sheet (R8.5)
 abbrev pub lineSize : ℕ
 lineSize = 5
 
@@ -19,22 +21,22 @@ abbrev pub sheetSize : ℕ
 sheetSize = mostLines * lineSize
 
 -- ---- a line
--- "operation (1 add, 2 subtract, 3 multiply, 4 fused)"
 pub data Step : Type 0 where
   add : Step
   subtract : Step
   multiply : Step
   fused : Step
 
+-- step numbers (R5.22)
 abbrev pub stepNumber : Step → ℕ
 stepNumber add = 1
 stepNumber subtract = 2
 stepNumber multiply = 3
 stepNumber fused = 4
 
--- "five words each: operation .., three operands (third 0 if unused), result"
+-- a step, its three operands (an unused third is 0) and its result (R5.22)
 pub record Line : Type 0 where
-  pub operation : Step
+  pub step : Step
   pub x : ℕ
   pub y : ℕ
   pub z : ℕ
@@ -42,10 +44,17 @@ pub record Line : Type 0 where
 
 -- lines of two operands, and of three
 abbrev pub line : Step → ℕ → ℕ → ℕ → Line
-line o x y r = record { operation = o; x = x; y = y; z = 0; result = r }
+line o x y r = record { step = o; x = x; y = y; z = 0; result = r }
 
 abbrev pub fusedLine : ℕ → ℕ → ℕ → ℕ → Line
-fusedLine x y z r = record { operation = fused; x = x; y = y; z = z; result = r }
+fusedLine x y z r = record { step = fused; x = x; y = y; z = z; result = r }
+
+-- the result is the step's on the line's operands, and an unused third is 0 (R7.3, R5.22)
+abbrev pub Gives : Step → ℕ → ℕ → ℕ → ℕ → Type 0
+Gives add x y z r = (r ≡ addStep x y) × (z ≡ 0)
+Gives subtract x y z r = (r ≡ subStep x y) × (z ≡ 0)
+Gives multiply x y z r = (r ≡ mulStep x y) × (z ≡ 0)
+Gives fused x y z r = r ≡ fmaStep x y z
 
 -- ---- a sheet: its lines, and its foot, the pair that they reach
 pub record Sheet : Type 0 where
@@ -61,7 +70,7 @@ before ls s = record { lines = ls ++ s .lines; first = s .first; second = s .sec
 abbrev pub ends : ℕ → ℕ → Sheet
 ends x y = record { lines = []; first = x; second = y }
 
--- ---- "Sign flips, comparisons and choices make no line; a comparison with NaN fails; +0 equals -0."
+-- ---- flips, comparisons and choices, which make no line (R5.3): a comparison with NaN is false, and the two zeros are equal (R5.4)
 abbrev pub value : ℕ → Value
 value x = decode binary32 x
 
@@ -72,10 +81,6 @@ minus x = flip binary32 x
 -- x = y
 abbrev pub equal : ℕ → ℕ → Bool
 equal x y = same (value x) (value y)
-
--- the positive constant c with the sign of a: IEEE 754's copySign
-abbrev pub copySign : ℕ → ℕ → ℕ
-copySign c a = cond (leb (signBit binary32) a) (minus c) c
 
 -- +0 or -0
 abbrev pub zero : ℕ → Bool

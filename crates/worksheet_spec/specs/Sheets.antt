@@ -1,5 +1,5 @@
--- The step sheet of a question (document 01, "The step sheet"), in that section's order.
--- Each `let` is the result of a line, by the name that the rules give it. The lines repeat its operation and operands; `EachLine` of Theorems
+-- The step sheet of a question (R5), in the order of its rules.
+-- Each `let` is the result of a line, by the name that the rules give it. The lines repeat its step and operands; `EachLine` of Theorems
 -- says that they agree.
 use Prim.Native.Nat.{ℕ, _^_}
 use mathlib.Core.Bool.{Bool, not, cond, _&&_}
@@ -9,10 +9,12 @@ use Rattle.rounding_spec.specs.Value.{Value, nan, infinite, finite, isInfinite}
 use Rattle.binary32_spec.specs.Steps.{addStep, subStep, mulStep, fmaStep}
 use Rattle.augmented_spec.specs.Direct.{Operation, sum, difference, product}
 use Rattle.errorfree_spec.specs.Comparisons.{lessMagnitude}
-use Rattle.worksheet_spec.specs.Constants.{psi, two, minusTwo, half, kappa, twoTo24, twoTo48, twoToMinus24, plusZero, smallest, twoTo127, twoTo102, twoToMinus102, twoToMinus126}
-use Rattle.worksheet_spec.specs.Lines.{add, subtract, multiply, Line, line, fusedLine, Sheet, before, ends, value, minus, equal, copySign, zero}
+use Rattle.worksheet_spec.specs.Constants.{psi, two, minusTwo, half, kappa, twoTo24, twoTo48, twoToMinus24, plusZero, smallest}
+use Rattle.worksheet_spec.specs.Constants.{twoTo127, twoTo102, twoToMinus102, twoToMinus126}
+use Rattle.worksheet_spec.specs.Lines.{add, subtract, multiply, Line, line, fusedLine, Sheet, before, ends}
+use Rattle.worksheet_spec.specs.Lines.{value, minus, equal, copySign, zero}
 
--- "Recomposition of (a, b), three lines: z = ψ·a; d = z - a; e = 2·b. If e = d the pair is (z, -b), otherwise (a, b)."
+-- recomposition of (a, b) (R5.5): three lines, z = ψ·a, d = z - a and e = 2·b; it gives (z, -b) where e = d, else (a, b)
 unfoldable pub recomposition : ℕ → ℕ → Sheet
 recomposition a b =
     let z = mulStep psi a in
@@ -21,21 +23,21 @@ recomposition a b =
     before (line multiply psi a z ∷ line subtract z a d ∷ line multiply two b e ∷ [])
     (ends (cond (equal e d) z a) (cond (equal e d) (minus b) b))
 
--- "Zero finish: where second is zero, one line second = (+0)·first."
+-- zero finish (R5.6): a zero second is replaced by one line's result, (+0)·first
 unfoldable pub zeroFinish : ℕ → ℕ → Sheet
 zeroFinish first second =
     let nought = mulStep plusZero first in
     cond (zero second) (before (line multiply plusZero first nought ∷ []) (ends first nought)) (ends first second)
 
--- "recompose; zero finish"
+-- recomposition and zero finish, as they follow each other in R5.10 and R5.19
 unfoldable pub recomposedFinished : ℕ → ℕ → Sheet
 recomposedFinished a b = let r = recomposition a b in before (r .lines) (zeroFinish (r .first) (r .second))
 
--- "a' = ±2^127 and b' is 2^102 with the other sign"; "Its algorithm 9 prints the edge remainder as 2^(emax-p+1); 2^102 .. is right."
+-- the edge (R5.7): a' is 2^127 of either sign, and b' is 2^102 of the opposite one (R5.20)
 unfoldable pub atEdge : ℕ → ℕ → Bool
 atEdge a' b' = equal a' (copySign twoTo127 a') && equal b' (minus (copySign twoTo102 a'))
 
--- "If ..: first = κ·a', second = (-2)·b'. Otherwise both are a."
+-- there two lines, first = κ·a' and second = (-2)·b'; elsewhere both halves are a (R5.7)
 unfoldable pub edgeFinish : ℕ → ℕ → ℕ → Sheet
 edgeFinish a a' b' =
     let first = mulStep kappa a' in
@@ -44,8 +46,8 @@ edgeFinish a a' b' =
     (before (line multiply kappa a' first ∷ line multiply minusTwo b' second ∷ []) (ends first second))
     (ends a a)
 
--- ---- "Sum"
--- "x' = ½·x; y' = ½·y; a' = x' + y'; v' = a' - x'; b' = y' - v'", and the edge
+-- ---- sums
+-- with half the operands (R5.11): x' = ½·x, y' = ½·y, a' = x' + y', v' = a' - x', b' = y' - v', and the edge
 unfoldable pub halvedSum : ℕ → ℕ → ℕ → Sheet
 halvedSum x y a =
     let x' = mulStep half x in
@@ -56,11 +58,11 @@ halvedSum x y a =
     before (line multiply half x x' ∷ line multiply half y y' ∷ line add x' y' a' ∷ line subtract a' x' v' ∷ line subtract y' v' b' ∷ [])
     (edgeFinish a a' b')
 
--- "second is not zero and a is infinite": a NaN second is not zero, so that an infinite operand leads here too
+-- where it is made (R5.11): a is infinite and second not zero; a NaN is not zero, so that an infinite operand leads here too
 unfoldable pub overflows : ℕ → ℕ → Bool
 overflows second a = not (zero second) && isInfinite (value a)
 
--- "Lines a = x + y; v = a - x; b = y - v; recompose; zero finish. If second is not zero and a is infinite: .."
+-- the lines a = x + y, v = a - x and b = y - v, recomposition and zero finish (R5.10), and what may follow (R5.11)
 unfoldable pub sumInOrder : ℕ → ℕ → Sheet
 sumInOrder x y =
     let a = addStep x y in
@@ -70,15 +72,15 @@ sumInOrder x y =
     before (line add x y a ∷ line subtract a x v ∷ line subtract y v b ∷ r .lines)
     (cond (overflows (r .second) a) (halvedSum x y a) (ends (r .first) (r .second)))
 
--- "Swap if |y| > |x|."
+-- x and y change places where |y| > |x| (R5.9)
 unfoldable pub swaps : ℕ → ℕ → Bool
 swaps x y = lessMagnitude (value x) (value y)
 
 unfoldable pub sumSheet : ℕ → ℕ → Sheet
 sumSheet x y = cond (swaps x y) (sumInOrder y x) (sumInOrder x y)
 
--- ---- "Product": "Line a = x·y, then by a"
--- "infinite: h = ½·x; a' = h·y; b' = fused(h, y, -a'); the same edge test on a' and b', the same two lines, or both are a"
+-- ---- products: the line a = x·y, and by its value one of five branches (R5.12)
+-- a is infinite (R5.13): h = ½·x, a' = h·y, b' = fused(h, y, -a'), and the edge
 unfoldable pub infiniteProduct : ℕ → ℕ → ℕ → Sheet
 infiniteProduct x y a =
     let h = mulStep half x in
@@ -86,20 +88,20 @@ infiniteProduct x y a =
     let b' = fmaStep h y (minus a') in
     before (line multiply half x h ∷ line multiply h y a' ∷ fusedLine h y (minus a') b' ∷ []) (edgeFinish a a' b')
 
--- "a minus u with a's sign, one line": the next smaller magnitude
+-- a less the u that has its sign (R5.8): the next smaller magnitude
 unfoldable pub lowered : ℕ → ℕ
 lowered a = subStep a (copySign smallest a)
 
+-- the line that it makes
 unfoldable pub lowering : ℕ → Line
 unfolding lowered
 lowering a = line subtract a (copySign smallest a) (lowered a)
 
--- "z is 2^-102 with the sign opposite to a, and w = t2"
+-- where a tiny product's first is lowered (R5.16): z is 2^-102 with the sign opposite to a's, and w = t2
 unfoldable pub tinyTie : ℕ → ℕ → ℕ → ℕ → Bool
 tinyTie a z w t2 = equal z (minus (copySign twoToMinus102 a)) && equal w t2
 
--- "m = 2^24·x; n = 2^24·y; t1 = m·n; t2 = fused(m, n, -t1); g = 2^48·a; t3 = t1 - g; z = t2 + t3; w = z - t3. If ..:
--- first = a minus u with a's sign, one line. Otherwise first = a. Then second = (+0)·first"
+-- 0 < |a| < 2^-125: eight lines (R5.15), first is a or a lowered, and second = (+0)·first (R5.16)
 unfoldable pub tinyProduct : ℕ → ℕ → ℕ → Sheet
 tinyProduct x y a =
     let m = mulStep twoTo24 x in
@@ -118,11 +120,11 @@ tinyProduct x y a =
     ∷ line multiply twoTo48 a g ∷ line subtract t1 g t3 ∷ line add t2 t3 z ∷ line subtract z t3 w ∷ [])
     (before (cond tie (lowering a ∷ []) []) (before (line multiply plusZero first second ∷ []) (ends first second)))
 
--- "β is not zero and r is 2^-126 with β's sign"
+-- where the rest of a middle product is lowered (R5.18): β is not zero, and r is 2^-126 with β's sign
 unfoldable pub restTie : ℕ → ℕ → Bool
 restTie β r = not (zero β) && equal r (copySign twoToMinus126 β)
 
--- "first = 2^-24·A; β = 2^-24·B; g = 2^24·β; r = g - B. If ..: β becomes β minus u with β's sign, one line. Second is β; zero finish"
+-- its last lines: first = 2^-24·A, β = 2^-24·B, g = 2^24·β and r = g - B (R5.17); second is β or β lowered, and zero finish (R5.18)
 unfoldable pub scaledDown : ℕ → ℕ → Sheet
 scaledDown A B =
     let first = mulStep twoToMinus24 A in
@@ -133,22 +135,23 @@ scaledDown A B =
     before (line multiply twoToMinus24 A first ∷ line multiply twoToMinus24 B β ∷ line multiply twoTo24 β g ∷ line subtract g B r ∷ [])
     (before (cond tie (lowering β ∷ []) []) (zeroFinish first (cond tie (lowered β) β)))
 
--- "m = 2^24·x; a' = m·y; b' = fused(m, y, -a'); recompose into (A, B)", and so on
+-- 2^-125 ≤ |a| ≤ 2^-102: m = 2^24·x, a' = m·y, b' = fused(m, y, -a'), recomposition into (A, B), and its last lines (R5.17, R5.18)
 unfoldable pub middleProduct : ℕ → ℕ → Sheet
 middleProduct x y =
     let m = mulStep twoTo24 x in
     let a' = mulStep m y in
     let b' = fmaStep m y (minus a') in
     let r = recomposition a' b' in
-    before (line multiply twoTo24 x m ∷ line multiply m y a' ∷ fusedLine m y (minus a') b' ∷ r .lines) (scaledDown (r .first) (r .second))
+    before (line multiply twoTo24 x m ∷ line multiply m y a' ∷ fusedLine m y (minus a') b' ∷ r .lines)
+    (scaledDown (r .first) (r .second))
 
--- "b = fused(x, y, -a); recompose; zero finish"; of a NaN a the sign bit is flipped too
+-- any other a: b = fused(x, y, -a), recomposition and zero finish (R5.19); of a NaN a the sign bit is flipped too
 unfoldable pub otherProduct : ℕ → ℕ → ℕ → Sheet
 otherProduct x y a =
     let b = fmaStep x y (minus a) in
     before (fusedLine x y (minus a) b ∷ []) (recomposedFinished a b)
 
--- the five branches
+-- the five branches (R5.12)
 pub data Branch : Type 0 where
   whenInfinite : Branch
   whenZero : Branch
@@ -156,7 +159,7 @@ pub data Branch : Type 0 where
   whenMiddle : Branch
   otherwise : Branch
 
--- Magnitudes count u: 2^-125 is 2 ^ 24 of them, and 2^-102 is 2 ^ 47. "0 < |a| < 2^-125", "2^-125 ≤ |a| ≤ 2^-102", "otherwise (NaN too)".
+-- Magnitudes count u: 2^-125 is 2 ^ 24 of them, and 2^-102 is 2 ^ 47. A NaN goes by the last branch.
 unfoldable pub branchOf : Value → Branch
 branchOf nan = otherwise
 branchOf (infinite s) = whenInfinite
@@ -164,7 +167,7 @@ branchOf (finite s a) = cond (eqb a 0) whenZero (cond (ltb a (2 ^ 24)) whenTiny 
 
 unfoldable pub productBy : Branch → ℕ → ℕ → ℕ → Sheet
 productBy whenInfinite x y a = infiniteProduct x y a
--- "zero: both are a"
+-- both halves are a, without a line (R5.14)
 productBy whenZero x y a = ends a a
 productBy whenTiny x y a = tinyProduct x y a
 productBy whenMiddle x y a = middleProduct x y
@@ -173,7 +176,7 @@ productBy otherwise x y a = otherProduct x y a
 unfoldable pub productSheet : ℕ → ℕ → Sheet
 productSheet x y = let a = mulStep x y in before (line multiply x y a ∷ []) (productBy (branchOf (value a)) x y a)
 
--- ---- of a question: "(for a difference, after y's flip)"
+-- ---- of a question: a difference is the sum of x and the flipped y (R5.9)
 unfoldable pub sheetOf : Operation → ℕ → ℕ → Sheet
 sheetOf sum x y = sumSheet x y
 sheetOf difference x y = sumSheet x (minus y)

@@ -8,34 +8,41 @@ use lib.ListN.{length, take, drop, replicate}
 use Rattle.pattern_spec.specs.Answer.{refused}
 use Rattle.rounding_spec.specs.Format.{binary32}
 use Rattle.rounding_spec.specs.Value.{Value, nan, infinite, finite, isFinite, encode}
-use Rattle.binary32_spec.specs.Steps.{addStep, subStep, mulStep, fmaStep}
+use Rattle.binary32_spec.specs.Steps.{addStep, mulStep}
 use Rattle.augmented_spec.specs.Direct.{Operation, sum, difference, product, directPair, operationNumber, operationOf}
 use Rattle.errorfree_spec.specs.Comparisons.{lessMagnitude}
-use Rattle.worksheet_spec.specs.Constants.{psi, two, minusTwo, half, kappa, twoTo24, twoTo48, twoToMinus24, plusZero, smallest, twoTo127, twoTo102, twoToMinus102, twoToMinus126}
-use Rattle.worksheet_spec.specs.Lines.{Step, add, subtract, multiply, fused, stepNumber, Line, line, value, minus, equal, zero}
+use Rattle.worksheet_spec.specs.Constants.{psi, two, minusTwo, half, kappa, twoTo24, twoTo48, twoToMinus24, plusZero, smallest}
+use Rattle.worksheet_spec.specs.Constants.{twoTo127, twoTo102, twoToMinus102, twoToMinus126}
+use Rattle.worksheet_spec.specs.Lines.{lineSize, mostLines, sheetSize, Step, add, subtract, multiply, fused, stepNumber}
+use Rattle.worksheet_spec.specs.Lines.{Line, line, Gives, value, minus, equal, zero}
 use Rattle.worksheet_spec.specs.Sheets.{sheetOf}
 use Rattle.worksheet_spec.specs.Filling.{filled, filling, afterFilling, HasDirectPair}
 
--- ---- the constants: each is the pattern of its number. Magnitudes count u = 2^-149, so 1 is 2 ^ 149 of them.
-abbrev pub patternOf : ℕ → ℕ
-patternOf m = encode binary32 (finite false m)
+-- ---- the constants (R5.1): each is the pattern of its number. Magnitudes count u = 2^-149, so 1 is 2 ^ 149 of them.
+abbrev pub positivePattern : ℕ → ℕ
+positivePattern m = encode binary32 (finite false m)
 
 abbrev pub ConstantPatterns : Type 0
 ConstantPatterns =
-    (psi ≡ patternOf (2 ^ 149 - 2 ^ 125)) × (two ≡ patternOf (2 ^ 150)) × (minusTwo ≡ minus two) × (half ≡ patternOf (2 ^ 148)) × (kappa ≡ patternOf (2 ^ 150 - 2 ^ 126))
-    × (twoTo24 ≡ patternOf (2 ^ 24 * 2 ^ 149)) × (twoTo48 ≡ patternOf (2 ^ 48 * 2 ^ 149)) × (twoToMinus24 ≡ patternOf (2 ^ 125)) × (plusZero ≡ patternOf 0) × (smallest ≡ patternOf 1)
-    × (minus smallest ≡ 0x8000_0001) × (twoTo127 ≡ patternOf (2 ^ 127 * 2 ^ 149)) × (twoTo102 ≡ patternOf (2 ^ 102 * 2 ^ 149)) × (twoToMinus102 ≡ patternOf (2 ^ 47)) × (twoToMinus126 ≡ patternOf (2 ^ 23))
+    (psi ≡ positivePattern (2 ^ 149 - 2 ^ 125)) × (two ≡ positivePattern (2 ^ 150)) × (minusTwo ≡ minus two)
+    × (half ≡ positivePattern (2 ^ 148)) × (kappa ≡ positivePattern (2 ^ 150 - 2 ^ 126))
+    × (twoTo24 ≡ positivePattern (2 ^ 24 * 2 ^ 149)) × (twoTo48 ≡ positivePattern (2 ^ 48 * 2 ^ 149))
+    × (twoToMinus24 ≡ positivePattern (2 ^ 125)) × (plusZero ≡ positivePattern 0)
+    × (smallest ≡ positivePattern 1) × (minus smallest ≡ 0x8000_0001)
+    × (twoTo127 ≡ positivePattern (2 ^ 127 * 2 ^ 149)) × (twoTo102 ≡ positivePattern (2 ^ 102 * 2 ^ 149))
+    × (twoToMinus102 ≡ positivePattern (2 ^ 47)) × (twoToMinus126 ≡ positivePattern (2 ^ 23))
 
--- ---- each line by itself: "each result being what Steps gives for the operation and operands on its line", "third 0 if unused"
-abbrev pub Gives : Step → ℕ → ℕ → ℕ → ℕ → Type 0
-Gives add x y z r = (r ≡ addStep x y) × (z ≡ 0)
-Gives subtract x y z r = (r ≡ subStep x y) × (z ≡ 0)
-Gives multiply x y z r = (r ≡ mulStep x y) × (z ≡ 0)
-Gives fused x y z r = r ≡ fmaStep x y z
+-- ---- the numbers of steps (R5.22), and the sizes (R5.21, R5.22, R8.5)
+abbrev pub StepNumbers : Type 0
+StepNumbers = (stepNumber add ≡ 1) × (stepNumber subtract ≡ 2) × (stepNumber multiply ≡ 3) × (stepNumber fused ≡ 4)
 
+abbrev pub SheetSizes : Type 0
+SheetSizes = (lineSize ≡ 5) × (mostLines ≡ 13) × (sheetSize ≡ 65)
+
+-- ---- each line by itself: its result is the step's on its operands (R7.3)
 unfoldable pub Each : List Line → Type 0
 Each [] = Unit {0}
-Each (l ∷ ls) = Gives (l .operation) (l .x) (l .y) (l .z) (l .result) × Each ls
+Each (l ∷ ls) = Gives (l .step) (l .x) (l .y) (l .z) (l .result) × Each ls
 
 abbrev pub EachLine : Type 0
 EachLine = (o : Operation) (x y : ℕ) → Each (sheetOf o x y .lines)
@@ -53,8 +60,8 @@ Member p (k ∷ ks) = (p ≡ k) ⊎ Member p ks
 abbrev pub factors : List ℕ
 factors = psi ∷ two ∷ minusTwo ∷ half ∷ kappa ∷ twoTo24 ∷ twoTo48 ∷ twoToMinus24 ∷ plusZero ∷ []
 
--- Operands are among what is known, ks, but for "A constant stands as the first operand of a multiplication", and u with a sign as the second of
--- a subtraction.
+-- Operands are among what is known, ks, but for a constant as the first operand of a multiplication (R5.2), and u with a sign as the second
+-- of a subtraction (R5.8).
 abbrev pub Drawn : List ℕ → Step → ℕ → ℕ → ℕ → Type 0
 Drawn ks add x y z = Among x ks × Among y ks
 Drawn ks subtract x y z = Among x ks × (Among y ks ⊎ Among y (smallest ∷ []))
@@ -64,7 +71,7 @@ Drawn ks fused x y z = Among x ks × Among y ks × Among z ks
 -- a line's result is known after it
 unfoldable pub Known : List ℕ → List Line → Type 0
 Known ks [] = Unit {0}
-Known ks (l ∷ ls) = Drawn ks (l .operation) (l .x) (l .y) (l .z) × Known (l .result ∷ ks) ls
+Known ks (l ∷ ls) = Drawn ks (l .step) (l .x) (l .y) (l .z) × Known (l .result ∷ ks) ls
 
 abbrev pub results : List Line → List ℕ
 results [] = []
@@ -76,7 +83,7 @@ Derived =
     (o : Operation) (x y : ℕ) → let s = sheetOf o x y in
     Known (x ∷ y ∷ []) (s .lines) × Among (s .first) (results (s .lines)) × Among (s .second) (results (s .lines))
 
--- the first line: "Swap if |y| > |x|" and a = x + y, "for a difference, after y's flip"; a = x·y
+-- the first line: a = x + y in the order of magnitudes, after y's flip where it is a difference (R5.9, R5.10), or a = x·y (R5.12)
 abbrev pub FirstLine : Type 0
 FirstLine =
     ((x y : ℕ) → lessMagnitude (value x) (value y) ≡ true → take 1 (sheetOf sum x y .lines) ≡ line add y x (addStep y x) ∷ [])
@@ -84,69 +91,104 @@ FirstLine =
     × ((x y : ℕ) → sheetOf difference x y ≡ sheetOf sum x (minus y))
     × ((x y : ℕ) → take 1 (sheetOf product x y .lines) ≡ line multiply x y (mulStep x y) ∷ [])
 
--- ---- the operations of all lines, in order, by their numbers: which lines there are, and how many
-abbrev pub operations : List Line → List ℕ
-operations [] = []
-operations (l ∷ ls) = stepNumber (l .operation) ∷ operations ls
+-- ---- the steps of all lines, in order: which lines there are, and how many (R5.21, R7.3)
+abbrev pub stepsOf : List Line → List Step
+stepsOf [] = []
+stepsOf (l ∷ ls) = l .step ∷ stepsOf ls
+
+-- of recomposition (R5.5), of zero finish (R5.6) and of the edge (R5.7)
+abbrev pub recompositionSteps : List Step
+recompositionSteps = multiply ∷ subtract ∷ multiply ∷ []
+
+abbrev pub finishStep : List Step
+finishStep = multiply ∷ []
+
+abbrev pub edgeSteps : List Step
+edgeSteps = multiply ∷ multiply ∷ []
+
+-- of every sum (R5.10), and of half the operands (R5.11)
+abbrev pub openingSteps : List Step
+openingSteps = add ∷ subtract ∷ subtract ∷ recompositionSteps
+
+abbrev pub halvedSteps : List Step
+halvedSteps = multiply ∷ multiply ∷ add ∷ subtract ∷ subtract ∷ []
 
 -- of a sum, by the value of a and the foot's halves: 6 or 7 lines, 6 where a is NaN, 11 or 13 where it is infinite
-abbrev pub sumOperations : Value → ℕ → ℕ → List ℕ
-sumOperations nan first second = 1 ∷ 2 ∷ 2 ∷ 3 ∷ 2 ∷ 3 ∷ []
-sumOperations (finite s m) first second = 1 ∷ 2 ∷ 2 ∷ 3 ∷ 2 ∷ 3 ∷ cond (zero second) (3 ∷ []) []
-sumOperations (infinite s) first second = 1 ∷ 2 ∷ 2 ∷ 3 ∷ 2 ∷ 3 ∷ 3 ∷ 3 ∷ 1 ∷ 2 ∷ 2 ∷ cond (isFinite (value first)) (3 ∷ 3 ∷ []) []
+abbrev pub sumSteps : Value → ℕ → ℕ → List Step
+sumSteps nan first second = openingSteps
+sumSteps (finite s m) first second = openingSteps ++ cond (zero second) finishStep []
+sumSteps (infinite s) first second = openingSteps ++ halvedSteps ++ cond (isFinite (value first)) edgeSteps []
 
--- Of a product: 4 or 6 lines where a is infinite; else by its magnitude, which counts u, 1, 10 or 11, 11 or 12, 5 or 6. 2^-125 is 2 ^ 24 u, and
--- 2^-102 is 2 ^ 47 u. In the third branch a zero second has the line of zero finish, and any other may have that of a correction.
-abbrev pub ProductOperations : ℕ → Value → ℕ → ℕ → List ℕ → Type 0
-ProductOperations a nan first second ops = ops ≡ 3 ∷ 4 ∷ 3 ∷ 2 ∷ 3 ∷ []
-ProductOperations a (infinite s) first second ops = ops ≡ 3 ∷ 3 ∷ 3 ∷ 4 ∷ cond (isFinite (value first)) (3 ∷ 3 ∷ []) []
-ProductOperations a (finite s m) first second ops =
-    (m ≡ 0 → ops ≡ 3 ∷ [])
-    × (0 < m → m < 2 ^ 24 → ops ≡ 3 ∷ 3 ∷ 3 ∷ 3 ∷ 4 ∷ 3 ∷ 2 ∷ 1 ∷ 2 ∷ cond (equal first a) (3 ∷ []) (2 ∷ 3 ∷ []))
-    × (2 ^ 24 ≤ m → m ≤ 2 ^ 47 → let lines : List ℕ = 3 ∷ 3 ∷ 3 ∷ 4 ∷ 3 ∷ 2 ∷ 3 ∷ 3 ∷ 3 ∷ 3 ∷ 2 ∷ [] in
-    (zero second ≡ true → ops ≡ lines ++ 3 ∷ []) × (zero second ≡ false → (ops ≡ lines) ⊎ (ops ≡ lines ++ 2 ∷ [])))
-    × (2 ^ 47 < m → ops ≡ 3 ∷ 4 ∷ 3 ∷ 2 ∷ 3 ∷ cond (zero second) (3 ∷ []) [])
+-- of a tiny product (R5.15) and of a middle one (R5.17), behind the line of a
+abbrev pub tinySteps : List Step
+tinySteps = multiply ∷ multiply ∷ multiply ∷ fused ∷ multiply ∷ subtract ∷ add ∷ subtract ∷ []
+
+abbrev pub middleSteps : List Step
+middleSteps = multiply ∷ multiply ∷ fused ∷ recompositionSteps ++ (multiply ∷ multiply ∷ multiply ∷ subtract ∷ [])
+
+-- Of a product: 4 or 6 lines where a is infinite; else by its magnitude, which counts u, 1, 10 or 11, 11 or 12, 5 or 6. 2^-125 is 2 ^ 24 u,
+-- and 2^-102 is 2 ^ 47 u. In the third branch a zero second has the line of zero finish, and any other may have that of a correction.
+abbrev pub ProductSteps : ℕ → Value → ℕ → ℕ → List Step → Type 0
+ProductSteps a nan first second steps = steps ≡ multiply ∷ fused ∷ recompositionSteps
+ProductSteps a (infinite s) first second steps =
+    steps ≡ multiply ∷ multiply ∷ multiply ∷ fused ∷ cond (isFinite (value first)) edgeSteps []
+ProductSteps a (finite s m) first second steps =
+    (m ≡ 0 → steps ≡ multiply ∷ [])
+    × (0 < m → m < 2 ^ 24 → steps ≡ multiply ∷ tinySteps ++ cond (equal first a) finishStep (subtract ∷ finishStep))
+    × (2 ^ 24 ≤ m → m ≤ 2 ^ 47
+    → (zero second ≡ true → steps ≡ multiply ∷ middleSteps ++ finishStep)
+    × (zero second ≡ false → (steps ≡ multiply ∷ middleSteps) ⊎ (steps ≡ multiply ∷ middleSteps ++ (subtract ∷ []))))
+    × (2 ^ 47 < m → steps ≡ multiply ∷ fused ∷ recompositionSteps ++ cond (zero second) finishStep [])
 
 abbrev pub InOrder : Type 0
 InOrder =
-    ((x y : ℕ) → let s = sheetOf sum x y in operations (s .lines) ≡ sumOperations (value (addStep x y)) (s .first) (s .second))
-    × ((x y : ℕ) → let s = sheetOf product x y in ProductOperations (mulStep x y) (value (mulStep x y)) (s .first) (s .second) (operations (s .lines)))
+    ((x y : ℕ) → let s = sheetOf sum x y in stepsOf (s .lines) ≡ sumSteps (value (addStep x y)) (s .first) (s .second))
+    × ((x y : ℕ) → let s = sheetOf product x y in
+    ProductSteps (mulStep x y) (value (mulStep x y)) (s .first) (s .second) (stepsOf (s .lines)))
 
--- "at most 13 lines", and at least one
-abbrev pub AtMost13 : Type 0
-AtMost13 = (o : Operation) (x y : ℕ) → (1 ≤ length (sheetOf o x y .lines)) × (length (sheetOf o x y .lines) ≤ 13)
+-- at most `mostLines` (R5.21), and at least one
+abbrev pub LineCount : Type 0
+LineCount = (o : Operation) (x y : ℕ) → (1 ≤ length (sheetOf o x y .lines)) × (length (sheetOf o x y .lines) ≤ mostLines)
 
--- ---- "The foot equals the direct pair in every bit". (The flags that come back with a sheet are the direct pair's: said where a sheet is filled.)
+-- ---- the foot is the direct pair, bit for bit (R7.4). (The flags that come back are the direct pair's: said where a sheet is filled.)
 abbrev pub FootIsPair : Type 0
-FootIsPair = (o : Operation) (x y : ℕ) → (sheetOf o x y .first ≡ directPair o binary32 x y .first) × (sheetOf o x y .second ≡ directPair o binary32 x y .second)
+FootIsPair =
+    (o : Operation) (x y : ℕ) → let s = sheetOf o x y in let p = directPair o binary32 x y in
+    (s .first ≡ p .first) × (s .second ≡ p .second)
 
 -- ---- filling
--- "(sum, difference, product)": 1, 2 and 3
+-- the numbers of operations (R8.5)
 abbrev pub OperationNumbers : Type 0
 OperationNumbers =
-    (operationOf 1 ≡ sum) × (operationOf 2 ≡ difference) × (operationOf 3 ≡ product) × (operationNumber sum ≡ 1) × (operationNumber difference ≡ 2) × (operationNumber product ≡ 3)
+    (operationOf 1 ≡ sum) × (operationOf 2 ≡ difference) × (operationOf 3 ≡ product)
+    × (operationNumber sum ≡ 1) × (operationNumber difference ≡ 2) × (operationNumber product ≡ 3)
 
--- "10 operation number outside 1 to 3 (sum, difference, product); 9 fewer than 65 words lent", in this order; "every lent word .. is unchanged"
+-- its refusals, in their order (R8.2, R8.5); they leave the words as they were (R8.1)
 abbrev pub FillingRefused : Type 0
 FillingRefused =
     (o x y : ℕ) (words : List ℕ)
     → ((o ≡ 0) ⊎ (3 < o) → (filling o x y words ≡ refused 10) × (afterFilling o x y words ≡ words))
-    × (1 ≤ o → o ≤ 3 → length words < 65 → (filling o x y words ≡ refused 9) × (afterFilling o x y words ≡ words))
+    × (1 ≤ o → o ≤ 3 → length words < sheetSize → (filling o x y words ≡ refused 9) × (afterFilling o x y words ≡ words))
 
--- 1 is a sum, 2 a difference, 3 a product. "Its model sheet is what filling gives when it is not refused": the line count, and the words
+-- the answer and the words where it is carried out (R8.6): each line stands in its own words, unused ones are 0, those after them stay
 abbrev pub SheetFilled : Type 0
 SheetFilled =
-    (o : Operation) (x y : ℕ) (words : List ℕ) → 65 ≤ length words → let n = operationNumber o in let ls = sheetOf o x y .lines in
+    (o : Operation) (x y : ℕ) (words : List ℕ) → sheetSize ≤ length words
+    → let n = operationNumber o in let ls = sheetOf o x y .lines in let after = afterFilling n x y words in
+    let unused = sheetSize - lineSize * length ls in
     (filling n x y words ≡ filled (length ls) (directPair o binary32 x y))
-    × (length (afterFilling n x y words) ≡ length words)
-    × ((k : ℕ) (before after : List Line) (l : Line) → ls ≡ before ++ (l ∷ after) → k ≡ length before → take 5 (drop (5 * k) (afterFilling n x y words)) ≡ stepNumber (l .operation) ∷ l .x ∷ l .y ∷ l .z ∷ l .result ∷ [])
-    × (take (65 - 5 * length ls) (drop (5 * length ls) (afterFilling n x y words)) ≡ replicate (65 - 5 * length ls) 0)
-    × (drop 65 (afterFilling n x y words) ≡ drop 65 words)
+    × (length after ≡ length words)
+    × ((k : ℕ) (earlier later : List Line) (l : Line) → ls ≡ earlier ++ (l ∷ later) → k ≡ length earlier
+    → take lineSize (drop (lineSize * k) after) ≡ stepNumber (l .step) ∷ l .x ∷ l .y ∷ l .z ∷ l .result ∷ [])
+    × (take unused (drop (lineSize * length ls) after) ≡ replicate unused 0)
+    × (drop sheetSize after ≡ drop sheetSize words)
 
--- "The foot equals the direct pair in every bit, and the flags that come back are those of Flags.": of every answer
+-- the pair that comes back is the direct pair, with its flags (R7.4): of every answer
 abbrev pub FilledPair : Type 0
 FilledPair = (o x y : ℕ) (words : List ℕ) → HasDirectPair o x y (filling o x y words)
 
 -- ---- all of them
 abbrev pub All : Type 0
-All = ConstantPatterns × EachLine × Derived × FirstLine × InOrder × AtMost13 × FootIsPair × OperationNumbers × FillingRefused × SheetFilled × FilledPair
+All =
+    ConstantPatterns × StepNumbers × SheetSizes × EachLine × Derived × FirstLine × InOrder × LineCount × FootIsPair × OperationNumbers
+    × FillingRefused × SheetFilled × FilledPair

@@ -1,6 +1,6 @@
 //! Faults in filling a sheet.
 use crate::lists::fills::{before, Shape};
-use crate::lists::model::{operation, Sheet, WORDS};
+use crate::lists::model::{operation, Filled, WORDS};
 use crate::lists::subject::{Arrays, Lents, Subject, TESTED};
 use crate::pairs::pair::Flags;
 use crate::totals::subject::Lent;
@@ -55,16 +55,16 @@ pub const FAULTS: [(Fault, Shape, &str); 22] = [
 ];
 
 impl Fault {
-    fn fill(self, number: u32, x: u32, y: u32, lent: &mut Lent) -> Sheet {
+    fn fill(self, number: u32, x: u32, y: u32, lent: &mut Lent) -> Filled {
         let length = lent.words().len();
         let known = operation(number).is_some();
         match self {
-            Fault::NineBeforeTen if length < WORDS => return Sheet::refused(9),
-            Fault::NineToAll if known => return Sheet::refused(9),
-            Fault::RefusesMore if length > WORDS => return Sheet::refused(9),
+            Fault::NineBeforeTen if length < WORDS => return Filled::refused(9),
+            Fault::NineToAll if known => return Filled::refused(9),
+            Fault::RefusesMore if length > WORDS => return Filled::refused(9),
             Fault::Takes0AsSum if number == 0 => return TESTED.fill(1, x, y, lent),
             Fault::Takes4AsProduct if number == 4 => return TESTED.fill(3, x, y, lent),
-            Fault::Takes64 if length == 64 && known => return Sheet { lines: 6, ..Sheet::refused(0) },
+            Fault::Takes64 if length == 64 && known => return Filled { lines: 6, ..Filled::refused(0) },
             _ => {}
         }
         let mut sheet = TESTED.fill(number, x, y, lent);
@@ -76,7 +76,7 @@ impl Fault {
         sheet
     }
 
-    fn spoil(self, sheet: &mut Sheet, words: &mut [u32]) {
+    fn spoil(self, sheet: &mut Filled, words: &mut [u32]) {
         let last = 5 * sheet.lines as usize;
         match self {
             Fault::Touches66th if words.len() > WORDS => words[WORDS] = 0,
@@ -94,7 +94,7 @@ impl Fault {
         }
     }
 
-    fn spoil_refused(self, sheet: &mut Sheet, words: &mut [u32]) {
+    fn spoil_refused(self, sheet: &mut Filled, words: &mut [u32]) {
         match self {
             Fault::RefusedWrites => words.iter_mut().take(1).for_each(|word| *word = 0),
             Fault::RefusedAnswers => sheet.lines = 1,
@@ -107,7 +107,7 @@ impl Fault {
 pub struct Planted(pub Fault);
 
 impl Subject for Planted {
-    fn fill(&self, operation: u32, x: u32, y: u32, lent: &mut Lent) -> Sheet {
+    fn fill(&self, operation: u32, x: u32, y: u32, lent: &mut Lent) -> Filled {
         self.0.fill(operation, x, y, lent)
     }
 

@@ -1,7 +1,7 @@
 //! Faults in lists: in what enters, in what the totals are given, and in what a replay refuses.
 use crate::lists::book::enters;
 use crate::lists::events::Shape;
-use crate::lists::model::Sheet;
+use crate::lists::model::Filled;
 use crate::lists::subject::{enter, Arrays, Lents, Question, Subject, TESTED};
 use crate::lists::trial::Source;
 use crate::pattern::{is_finite, SIGN};
@@ -51,14 +51,14 @@ pub const FAULTS: [(Fault, Source, &str); 24] = [
     (Fault::ReplayTakesFewer, Source::Replayed(Shape::Long), "32,768 questions refused"),
     (Fault::ReplayTakesUncleared, Source::RefusedReplays, "a total that is not cleared taken"),
     (Fault::ReplayTakesLong, Source::RefusedReplays, "a count above the words taken"),
-    (Fault::ReplayOrder, Source::RefusedReplays, "24 before 23"),
+    (Fault::ReplayOrder, Source::RefusedReplays, "104 before 103"),
     (Fault::ReplayRefusalWrites, Source::RefusedReplays, "a refused replay that writes"),
     (Fault::InexactEnters, Source::Replayed(Shape::Random), "a product with X added"),
 ];
 
 impl Fault {
     /// What a wrong caller or replay gives the totals.
-    fn give(self, q: Question, sheet: &Sheet, first: &mut [u32], second: &mut [u32]) -> u32 {
+    fn give(self, q: Question, sheet: &Filled, first: &mut [u32], second: &mut [u32]) -> u32 {
         let entering = match self {
             Fault::RefusedEnters => sheet.refusal != 0 && is_finite(q.x) && is_finite(q.y) || enters(sheet),
             Fault::InexactEnters => sheet.refusal == 0 && is_finite(sheet.first),
@@ -92,12 +92,12 @@ impl Fault {
         let uncleared = lents.first.words() != [0; 21] || lents.second.words() != [0; 21];
         let long = arrays.counts.iter().any(|&count| count as usize > lents.words.words().len());
         match self {
-            Fault::ReplayTakesFewer if count == 32_768 => return 22,
+            Fault::ReplayTakesFewer if count == 32_768 => return 102,
             Fault::ReplayTakesUnequal if !arrays.are_equal() => return 0,
             Fault::ReplayTakesMore if arrays.are_equal() && count > 32_768 => return 0,
             Fault::ReplayTakesUncleared if arrays.are_equal() && uncleared => return 0,
             Fault::ReplayTakesLong if arrays.are_equal() && long => return 0,
-            Fault::ReplayOrder if arrays.are_equal() && count <= 32_768 && long => return 24,
+            Fault::ReplayOrder if arrays.are_equal() && count <= 32_768 && long => return 104,
             _ => {}
         }
         self.given(arrays, lents)
@@ -134,7 +134,7 @@ impl Fault {
 pub struct Planted(pub Fault);
 
 impl Subject for Planted {
-    fn fill(&self, operation: u32, x: u32, y: u32, lent: &mut Lent) -> Sheet {
+    fn fill(&self, operation: u32, x: u32, y: u32, lent: &mut Lent) -> Filled {
         TESTED.fill(operation, x, y, lent)
     }
 
@@ -142,7 +142,7 @@ impl Subject for Planted {
         self.0.replay(arrays, lents)
     }
 
-    fn give(&self, q: Question, sheet: &Sheet, totals: &mut [Lent; 2]) -> u32 {
+    fn give(&self, q: Question, sheet: &Filled, totals: &mut [Lent; 2]) -> u32 {
         let [first, second] = totals;
         self.0.give(q, sheet, first.words_mut(), second.words_mut())
     }

@@ -3,16 +3,17 @@ use Prim.Native.Nat.{ℕ, _-_, _≤_}
 use native.Mathlib.Omega.{arith}
 use lib.ListN.{length, take, replicate, length-set}
 use lib.Seq.{take-all}
+use Rattle.accumulator_spec.specs.Totals.{totalSize}
 use Rattle.accumulator_spec.proofs.Answers.{clearing-length, clearing-done}
 use Rattle.accumulator_spec.proofs.Zeros.{clear-more}
 use Rattle.accumulator.proofs.clear.Statement.{statement}
 use Rattle.accumulator.proofs.clear.Tie as tie
 
 abbrev Inv-loop : tie.InvT-loop
-Inv-loop total₀ i₀ total i = (i ≤ 21) × (length total ≡ 21) × (take i total ≡ replicate i 0)
+Inv-loop total₀ i₀ total i = (i ≤ totalSize) × (length total ≡ totalSize) × (take i total ≡ replicate i 0)
 
 abbrev μ-loop : tie.MeasureT-loop
-μ-loop total₀ i₀ total i = 21 - i
+μ-loop total₀ i₀ total i = totalSize - i
 
 returns : tie.Need-returns Inv-loop μ-loop
 returns c = clearing-length (c .before .args .total .now) (c .if1 .taken)
@@ -43,8 +44,8 @@ returns-2 : tie.Need-returns-2 Inv-loop μ-loop
 returns-2 c =
     let l = c .before .loop in
     let k = clearing-done (c .before .before .before .args .total .now) (c .before .before .if1 .left) in
-    let e : l .i ≡ 21 = omega (arith, c .loop-test .left) in
-    let all : l .total ≡ replicate 21 0 = sym (take-all 21 (l .total) (omega arith)) ∙ ap (λ (i : ℕ). take i (l .total)) (sym e) ∙ l .inv .2 ∙ ap (λ (i : ℕ). replicate i 0) e in
+    let e : l .i ≡ totalSize = omega (arith, c .loop-test .left) in
+    let all : l .total ≡ replicate totalSize 0 = sym (take-all totalSize (l .total) (omega arith)) ∙ ap (λ (i : ℕ). take i (l .total)) (sym e) ∙ l .inv .2 ∙ ap (λ (i : ℕ). replicate i 0) e in
     (k .0, all ∙ k .1)
 
 pub clear-spec : {M : Type 1} → statement M

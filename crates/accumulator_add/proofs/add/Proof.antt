@@ -2,6 +2,7 @@ use borrow.Author.Needs.{needs}
 use mathlib.Core.Path.{refl}
 use borrow.Author.Tests.{eq-eqb, ne-eqb}
 use lib.ListN.{getD}
+use Rattle.accumulator_spec.specs.Totals.{numberSize, mostTerms}
 use Rattle.accumulator_spec.proofs.Placed.{total-placed}
 use Rattle.accumulator_add.proofs.add.Statement.{statement}
 use Rattle.accumulator_add.proofs.add.Tie as tie
@@ -10,7 +11,7 @@ slice-read-n : tie.Need-slice-read-n
 slice-read-n c = search needs
 
 returns : tie.Need-returns
-returns c = rw (eq-eqb _ 65536 (c .if1 .taken)) (refl, refl)
+returns c = rw (eq-eqb _ mostTerms (c .if1 .taken)) (refl, refl)
 
 cast-w : tie.Need-cast-w
 cast-w c = search needs
@@ -44,8 +45,8 @@ returns-2 c =
     let b = c .before .before .before .before .before .before .before in
     let a = b .args in
     let t = a .total .now in
-    rw (ne-eqb (getD t 20 0) 65536 (c .before .before .before .before .if1 .left))
-    (refl, total-placed t (λ i. c .before .before .before .before .before .before .slice-known .given i .fits) (a .minus) (a .sig) (a .exp) (b .pre .2) (c .before .before .add .last .0) (c .before .before .add .ensures) (b .pre .0) (getD t 20 0))
+    rw (ne-eqb (getD t numberSize 0) mostTerms (c .before .before .before .before .if1 .left))
+    (refl, total-placed t (λ i. c .before .before .before .before .before .before .slice-known .given i .fits) (a .minus) (a .sig) (a .exp) (b .pre .2) (c .before .before .add .last .0) (c .before .before .add .ensures) (b .pre .0) (getD t numberSize 0))
 
 pub add-spec : {M : Type 1} → statement M
 add-spec =

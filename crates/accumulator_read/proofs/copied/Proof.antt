@@ -5,14 +5,15 @@ use native.Mathlib.Numerals.{add-one}
 use native.Mathlib.Omega.{arith}
 use lib.ListN.{length, take, getD, length-set}
 use lib.Seq.{take-all, take-suc, take-suc-set}
+use Rattle.accumulator_spec.specs.Totals.{numberSize}
 use Rattle.accumulator_read.proofs.copied.Statement.{statement}
 use Rattle.accumulator_read.proofs.copied.Tie as tie
 
 abbrev Inv-loop : tie.InvT-loop
-Inv-loop total number₀ i₀ number i = (i ≤ 20) × (length number ≡ 20) × (take i number ≡ take i total)
+Inv-loop total number₀ i₀ number i = (i ≤ numberSize) × (length number ≡ numberSize) × (take i number ≡ take i total)
 
 abbrev μ-loop : tie.MeasureT-loop
-μ-loop total number₀ i₀ number i = 20 - i
+μ-loop total number₀ i₀ number i = numberSize - i
 
 loop-holds : tie.Need-loop-holds Inv-loop μ-loop
 loop-holds c = search needs
@@ -49,8 +50,8 @@ loop-again c =
 returns : tie.Need-returns Inv-loop μ-loop
 returns c =
     let l = c .before .loop in
-    let e : l .i ≡ 20 = omega arith in
-    sym (take-all 20 (l .number) (omega arith)) ∙ subst (λ (i : ℕ). take i (l .number) ≡ take i (c .before .before .args .total .now)) e (l .inv .2)
+    let e : l .i ≡ numberSize = omega arith in
+    sym (take-all numberSize (l .number) (omega arith)) ∙ subst (λ (i : ℕ). take i (l .number) ≡ take i (c .before .before .args .total .now)) e (l .inv .2)
 
 pub copied-spec : {M : Type 1} → statement M
 copied-spec =

@@ -1,4 +1,5 @@
 use borrow.Author.Needs.{needs}
+use Rattle.accumulator_spec.specs.Totals.{numberSize}
 use Rattle.accumulator_read.proofs.Arrays.{array-length, array-words}
 use Rattle.accumulator_spec.proofs.Placed.{all-placed}
 use Rattle.accumulator_read.proofs.moved.Statement.{statement}
@@ -26,7 +27,7 @@ returns : tie.Need-returns
 returns c =
     let b = c .before .before .before in
     let a = b .args in
-    all-placed (a .number) (array-words 20 (a .number) _ (b .good .0)) (a .minus) (a .sig) (a .exp) (b .pre) (c .before .add .last .0) (c .before .add .ensures) (array-length 20 (a .number) _ (b .good .0))
+    all-placed (a .number) (array-words numberSize (a .number) _ (b .good .0)) (a .minus) (a .sig) (a .exp) (b .pre) (c .before .add .last .0) (c .before .add .ensures) (array-length numberSize (a .number) _ (b .good .0))
 
 pub moved-spec : {M : Type 1} → statement M
 moved-spec =

@@ -6,7 +6,7 @@ use lib.IntN.{natAbs}
 use Rattle.rounding_spec.specs.Format.{binary32}
 use Rattle.augmented_spec.specs.Pairs.{pairOf}
 use Rattle.accumulator_spec.specs.Words.{integer}
-use Rattle.accumulator_spec.specs.Totals.{number, count, exact, pairAnswer}
+use Rattle.accumulator_spec.specs.Totals.{number, count, exactNumber, pairAnswer}
 use Rattle.accumulator_spec.proofs.Adding.{fit-bounds, sum-room}
 use Rattle.accumulator_spec.proofs.Answers.{reading-pair}
 use Rattle.accumulator_fit.proofs.Lent.{sound}
@@ -37,7 +37,7 @@ returns-2 : tie.Need-returns-2
 returns-2 c =
     let t = c .before .before .before .before .before .args .total .now in
     let s = sound t (sym (c .before .before .before .refusal .ensures) ∙ c .before .before .if1 .left) in
-    c .of-number .ensures ∙ ap (λ (ws : List ℕ). pairAnswer (pairOf binary32 (exact (integer ws)))) (c .before .copied .ensures) ∙ sym (reading-pair t (s .0) (s .1))
+    c .of-number .ensures ∙ ap (λ (ws : List ℕ). pairAnswer (pairOf binary32 (exactNumber (integer ws)))) (c .before .copied .ensures) ∙ sym (reading-pair t (s .0) (s .1))
 
 pub read-spec : {M : Type 1} → statement M
 read-spec =

@@ -8,7 +8,7 @@ use Rattle.rounding_spec.specs.declared.Ties.the-variants.{ToZero}
 use Rattle.rounding_spec.specs.Format.{binary32}
 use Rattle.rounding_spec.specs.Value.{finite, encode, round, roundFinite}
 use Rattle.accumulator_spec.specs.Words.{natural, integer}
-use Rattle.accumulator_spec.specs.Totals.{exact}
+use Rattle.accumulator_spec.specs.Totals.{numberSize, exactNumber}
 use Rattle.accumulator_read.proofs.Arrays.{array-length, array-words}
 use Rattle.accumulator_spec.proofs.LeadingDigits.{leading-rounds}
 use Rattle.accumulator_spec.proofs.Top.{exact-top}
@@ -34,7 +34,7 @@ returns c =
     let ws = b .args .t1 in
     let minus = leb (2 ^ 31) (getD ws 19 0) in
     let d = c .before .first-digits in
-    let e : exact (integer ws) ≡ finite minus (natAbs (integer ws)) = exact-top 19 ws (array-length 20 ws _ (b .good .0)) (array-words 20 ws _ (b .good .0)) minus refl in
+    let e : exactNumber (integer ws) ≡ finite minus (natAbs (integer ws)) = exact-top 19 ws (array-length numberSize ws _ (b .good .0)) (array-words numberSize ws _ (b .good .0)) minus refl in
     c .round .ensures
     ∙ ap (encode binary32)
     (leading-rounds ToZero minus (natural (c .before .before .magnitude .result)) (d .result .sig) (d .result .exp) (d .ensures) ∙ ap (roundFinite ToZero binary32 minus) (c .before .before .magnitude .ensures)

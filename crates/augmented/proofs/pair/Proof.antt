@@ -1,6 +1,5 @@
 use borrow.Author.Needs.{needs}
 use mathlib.Core.Path.{sym, _∙_}
-use Rattle.augmented_spec.proofs.Patterns.{finite-is}
 use Rattle.augmented.proofs.pair.Statement.{statement}
 use Rattle.augmented.proofs.pair.Tie as tie
 
@@ -8,7 +7,7 @@ is-finite-requires : tie.Need-is-finite-requires
 is-finite-requires c κs = search needs
 
 returns : tie.Need-returns
-returns c = let b = c .before .before in rw (b .pre (sym (finite-is (b .args .first)) ∙ sym (c .before .is-finite .ensures) ∙ c .if1 .taken))
+returns c = let b = c .before .before in rw (b .pre (sym (c .before .is-finite .ensures) ∙ c .if1 .taken))
 
 of-special-requires : tie.Need-of-special-requires
 of-special-requires c κs = search needs

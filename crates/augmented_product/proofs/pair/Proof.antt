@@ -1,5 +1,5 @@
 use borrow.Author.Needs.{needs}
-use Rattle.augmented_spec.proofs.Patterns.{chosen-or}
+use Rattle.pattern_spec.proofs.Shown.{chosen-or}
 use Rattle.augmented_product.proofs.pair.Statement.{statement}
 use Rattle.augmented_product.proofs.pair.Tie as tie
 

@@ -17,11 +17,12 @@ sub-choose-exponent c = search needs
 choose-exponent-requires : tie.Need-choose-exponent-requires
 choose-exponent-requires c κs = search needs
 
-packed-requires : tie.Need-packed-requires
-packed-requires c κs =
+rest-pattern-requires : tie.Need-rest-pattern-requires
+rest-pattern-requires c κs =
     let f = c .before .before in
     let b = f .before in
-    rest-fits (b .args .sign) (b .args .sig) (b .args .exp) (b .pre) _ (f .round-with-rest .ensures .1 .0) _ _ (f .round-with-rest .ensures .0) (c .before .is-infinite .ensures) _ (c .choose-exponent .ensures)
+    rest-fits (b .args .sign) (b .args .sig) (b .args .exp) (b .pre) _ (f .round-with-rest .ensures .1 .0) _ _ (f .round-with-rest .ensures .0) (c .before .is-infinite .ensures) _
+    (c .choose-exponent .ensures)
 
 choose-pattern-requires : tie.Need-choose-pattern-requires
 choose-pattern-requires c κs = search needs
@@ -35,7 +36,8 @@ returns c =
     let u = p .before in
     let f = u .before .before in
     let b = f .before in
-    let halves = with-rest-is (b .args .sign) (b .args .sig) (b .args .exp) (b .pre) _ (f .round-with-rest .ensures .1 .0) _ _ (f .round-with-rest .ensures .0) (u .before .is-infinite .ensures) _ (u .choose-exponent .ensures) _ (f .round-with-rest .ensures .1 .1) _ _ (p .packed .ensures) (c .before .choose-pattern .ensures) in
+    let halves = with-rest-is (b .args .sign) (b .args .sig) (b .args .exp) (b .pre) _ (f .round-with-rest .ensures .1 .0) _ _ (f .round-with-rest .ensures .0) (u .before .is-infinite .ensures) _
+    (u .choose-exponent .ensures) _ (f .round-with-rest .ensures .1 .1) _ _ (p .rest-pattern .ensures) (c .before .choose-pattern .ensures) in
     c .joined .ensures ∙ halved-word (b .args .sign) (b .args .sig * 2 ^ b .args .exp) halves
 
 pub near-spec : {M : Type 1} → statement M
@@ -46,7 +48,7 @@ near-spec =
     is-infinite-requires
     sub-choose-exponent
     choose-exponent-requires
-    packed-requires
+    rest-pattern-requires
     choose-pattern-requires
     joined-requires
     returns)

@@ -4,8 +4,8 @@ use Prim.Native.Nat.{ℕ}
 use Rattle.rounding_spec.specs.Format.{binary32}
 use Rattle.rounding_spec.specs.Value.{Value}
 use Rattle.pattern_spec.specs.Exact.{finer}
-use Rattle.pattern_spec.specs.Classes.{classOf, valueOf, Descending}
-use Rattle.pattern_spec.specs.Unrounded.{larger, smaller}
+use Rattle.pattern_spec.specs.Classes.{classOf, valueOf}
+use Rattle.pattern_spec.specs.Inner.{Descending, larger, smaller}
 use Rattle.pattern_spec.proofs.Classified.{chosen-descending}
 use Rattle.pattern_spec.proofs.Exacts.{ordered-sum}
 use Rattle.augmented_spec.specs.Pairs.{pairOf, exactSum}

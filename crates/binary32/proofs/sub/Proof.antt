@@ -19,7 +19,8 @@ unfolding subValue
 returns c =
     let b = c .before .before in
     c .of-patterns .ensures
-    ∙ ap (λ (v : Value). encode binary32 (addValue binary32 (decode binary32 (b .args .x)) v)) (ap (decode binary32) (c .before .flipped .ensures) ∙ decode-flip binary32 (b .args .y) (b .fits .y .fits))
+    ∙ ap (λ (v : Value). encode binary32 (addValue binary32 (decode binary32 (b .args .x)) v))
+    (ap (decode binary32) (c .before .flipped .ensures) ∙ decode-flip binary32 (b .args .y) (b .fits .y .fits))
     ∙ sym (sub-step _ _)
 
 pub sub-spec : {M : Type 1} → statement M

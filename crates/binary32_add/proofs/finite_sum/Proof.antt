@@ -7,7 +7,7 @@ use Rattle.rounding_spec.specs.Format.{binary32}
 use Rattle.binary32_spec.specs.Steps.{addValue}
 use Rattle.rounding_spec.specs.Value.{encode}
 use Rattle.pattern_spec.proofs.Moved.{moved}
-use Rattle.binary32_spec.proofs.Near.{near-sum}
+use Rattle.binary32_spec.proofs.Near.{near-sum, operand-packed}
 use Rattle.pattern_spec.proofs.Far.{far-sum}
 use Rattle.binary32_add.proofs.finite_sum.Statement.{statement}
 use Rattle.binary32_add.proofs.finite_sum.Tie as tie
@@ -16,13 +16,14 @@ sub-gap : tie.Need-sub-gap
 sub-gap c = search needs
 
 packed-requires : tie.Need-packed-requires
-packed-requires c κs = search needs
+packed-requires c κs = let o = c .before .pre .1 .0 in omega (arith, o .sig, o .exp)
 
 returns : tie.Need-returns
 unfolding addValue
 returns c =
     let b = c .before .before in
-    c .packed .ensures ∙ ap (encode binary32) (sym (far-sum ToEven _ (b .args .m) (b .args .e) _ (b .args .n) (b .args .d) (b .pre .1 .0) (b .pre .1 .1) (omega arith)))
+    c .packed .ensures ∙ operand-packed (b .args .s) (b .args .m) (b .args .e) (b .pre .1 .0)
+    ∙ ap (encode binary32) (sym (far-sum ToEven (b .args .s) (b .args .m) (b .args .e) (b .args .t) (b .args .n) (b .args .d) (b .pre .1 .0) (b .pre .1 .1) (omega arith)))
 
 cast-round-sum : tie.Need-cast-round-sum
 cast-round-sum c = search needs

@@ -6,7 +6,7 @@ use Rattle.rounding_spec.specs.Format.{binary32}
 use Rattle.rounding_spec.specs.Value.{Value, encode}
 use Rattle.binary32_spec.specs.Steps.{addValue}
 use Rattle.pattern_spec.specs.Classes.{classOf}
-use Rattle.pattern_spec.specs.Unrounded.{larger, smaller}
+use Rattle.pattern_spec.specs.Inner.{larger, smaller}
 use Rattle.pattern_spec.proofs.Classified.{class-value, class-operand, chosen-descending}
 use Rattle.binary32_spec.proofs.Near.{add-chosen}
 use Rattle.binary32_add.proofs.of_patterns.Statement.{statement}

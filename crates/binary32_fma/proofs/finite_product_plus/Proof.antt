@@ -2,7 +2,8 @@ use borrow.Author.Needs.{needs}
 use Rattle.rounding_spec.specs.Format.{binary32}
 use Rattle.rounding_spec.specs.Value.{encode, round}
 use Rattle.pattern_spec.specs.Exact.{plusFinite, plus, finer}
-use Rattle.pattern_spec.specs.Classes.{valueOf, Operand}
+use Rattle.pattern_spec.specs.Classes.{valueOf}
+use Rattle.pattern_spec.specs.Inner.{Operand}
 use mathlib.Core.Path.{refl, sym, ap, _∙_}
 use Prim.Native.Nat.{ℕ, _+_, _*_, _^_}
 use native.Mathlib.Omega.{arith}

@@ -34,7 +34,8 @@ aligned-requires c κs =
     ordered-reaches _ (b .args .p) (b .args .i) _ _ _ _ (c .ordered .ensures) (b .pre .0) (omega arith) (z .low) (z .high)
 
 returns-3 : tie.Need-returns-3
-returns-3 c = rw (← c .before .before .normalised .ensures .value) (c .aligned .ensures ∙ ap (λ (v : Value). encode binary32 (round ToEven binary32 v)) (ordered-sum _ _ _ _ _ _ _ (c .before .ordered .ensures)))
+returns-3 c = rw (← c .before .before .normalised .ensures .value)
+    (c .aligned .ensures ∙ ap (λ (v : Value). encode binary32 (round ToEven binary32 v)) (ordered-sum _ _ _ _ _ _ _ (c .before .ordered .ensures)))
 
 pub fused-sum-spec : {M : Type 1} → statement M
 fused-sum-spec =

@@ -27,7 +27,8 @@ choose-exponent-requires-3 c κs = search needs
 returns : tie.Need-returns
 returns c =
     let b = c .before .before .before .before .before .before in
-    ordered-is _ _ _ _ _ _ _ (b .choose-sign .ensures) (c .before .before .before .before .before .choose .ensures) (c .before .before .before .before .choose-exponent .ensures) (c .before .before .before .choose-sign2 .ensures)
+    ordered-is _ _ _ _ _ _ _ (b .choose-sign .ensures) (c .before .before .before .before .before .choose .ensures) (c .before .before .before .before .choose-exponent .ensures)
+    (c .before .before .before .choose-sign2 .ensures)
     (c .before .before .choose2 .ensures) (c .before .choose-exponent2 .ensures) (c .choose-exponent3 .ensures)
 
 pub ordered-spec : {M : Type 1} → statement M

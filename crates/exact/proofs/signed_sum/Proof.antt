@@ -44,7 +44,8 @@ returns c =
     let b = c .before .before .before .before .before in
     let a = b .before .args in
     sum-chosen (a .s) (a .a) (a .t) (a .b)
-    ∙ sym (ap₂ finite (c .before .choose-sign3 .ensures ∙ ap (λ (x : Bool). cond (ltb (a .b) (a .a)) (a .s) x) (c .before .before .choose-sign2 .ensures ∙ ap (λ (x : Bool). cond (ltb (a .a) (a .b)) (a .t) x) (c .before .before .before .choose-sign .ensures)))
+    ∙ sym (ap₂ finite (c .before .choose-sign3 .ensures ∙ ap (λ (x : Bool). cond (ltb (a .b) (a .a)) (a .s) x)
+    (c .before .before .choose-sign2 .ensures ∙ ap (λ (x : Bool). cond (ltb (a .a) (a .b)) (a .t) x) (c .before .before .before .choose-sign .ensures)))
     (c .choose3 .ensures ∙ ap₂ (λ (h l : ℕ). cond (Bool·beq (a .s) (a .t)) (h + l) (h - l)) (b .choose .ensures) (c .before .before .before .before .choose2 .ensures)))
 
 pub signed-sum-spec : {M : Type 1} → statement M

@@ -1,24 +1,22 @@
 use borrow.Author.Needs.{needs}
-use mathlib.Core.Path.{sym, ap, _∙_}
+use mathlib.Core.Path.{sym, _∙_}
 use Prim.Native.Nat.{_-_, _*_, _%_, _^_, _+_}
 use native.Mathlib.Omega.{arith}
 use lib.Count.{leading-le, leadingZeros}
-use Rattle.rounding_spec.specs.Format.{binary32}
-use Rattle.rounding_spec.specs.Value.{signed}
 use Rattle.rounding_spec.proofs.Keep.{kept}
 use Rattle.rounding_spec.proofs.Normalised.{round-zero, zeros-lt, kept-small, round-is}
 use Rattle.rounding_spec.proofs.LeftOver.{moved-pos, up-is, rest-is, nothing-left}
 use Rattle.rounding.proofs.round_with_rest.Statement.{statement}
 use Rattle.rounding.proofs.round_with_rest.Tie as tie
 
-pack-requires : tie.Need-pack-requires
-pack-requires c κs = search needs
+packed-requires : tie.Need-packed-requires
+packed-requires c κs = search needs
 
 returns : tie.Need-returns
 returns c =
     let b = c .before .before in
     let z = nothing-left (b .args .ties) (b .args .exp) in
-    rw (c .before .if1 .taken) (c .pack .ensures ∙ sym (round-zero _ _ _), (z .0, z .1))
+    rw (c .before .if1 .taken) (c .packed .ensures ∙ sym (round-zero _ _ _), (z .0, z .1))
 
 cast-zeros : tie.Need-cast-zeros
 cast-zeros c = omega (arith, leading-le 64 (c .before .args .sig))
@@ -53,30 +51,27 @@ left-over-requires c κs =
     rw (c .kept .ensures)
     ((k .low, k .high), (moved-pos (b .args .ties) (b .args .sig) (b .args .exp) _ (omega arith) (b .fits .sig .fits) (c .before .last-place .ensures) _ (c .kept .ensures), k .above))
 
-sub-assemble : tie.Need-sub-assemble
-sub-assemble c = search needs
+sub-packed : tie.Need-sub-packed
+sub-packed c = search needs
 
-assemble-requires : tie.Need-assemble-requires
-assemble-requires c κs =
+packed-requires-2 : tie.Need-packed-requires-2
+packed-requires-2 c κs =
     let b = c .before .before .before .before in
     let q = kept-small (b .args .ties) (b .args .sig) (b .args .exp) _ (omega arith) (b .fits .sig .fits) (c .before .before .last-place .ensures) _ (c .before .kept .ensures) in
     omega (arith, leading-le 64 (b .args .sig), c .before .before .last-place .ensures)
 
-pack-requires-2 : tie.Need-pack-requires-2
-pack-requires-2 c κs = search needs
-
 shr-t16 : tie.Need-shr-t16
 shr-t16 c =
-    let b = c .before .before .before .before .before .before .before in
-    zeros-lt (b .args .ties) (b .args .sig) (b .args .exp) _ (omega arith) (b .fits .sig .fits) (c .before .before .before .before .before .last-place .ensures)
+    let b = c .before .before .before .before .before .before in
+    zeros-lt (b .args .ties) (b .args .sig) (b .args .exp) _ (omega arith) (b .fits .sig .fits) (c .before .before .before .before .last-place .ensures)
 
 returns-2 : tie.Need-returns-2
 returns-2 c =
-    let k = c .before .before .before .before in
+    let k = c .before .before .before in
     let b = k .before .before .before in
     let place = k .before .last-place .ensures in
-    let left = c .before .before .before .left-over .ensures in (
-      c .before .pack2 .ensures ∙ ap (signed binary32 (b .args .sign)) (c .before .before .assemble .ensures)
+    let left = c .before .before .left-over .ensures in (
+      c .before .packed2 .ensures
           ∙ sym (round-is (b .args .ties) (b .args .sig) (b .args .exp) _ (omega arith) (b .fits .sig .fits) place _ (k .kept .ensures) (b .args .sign)),
       (
         rest-is (b .args .ties) (b .args .sig) (b .args .exp) _ (omega arith) (b .fits .sig .fits) place _ (k .kept .ensures) _ (left .0),
@@ -88,7 +83,7 @@ pub round-with-rest-spec : {M : Type 1} → statement M
 round-with-rest-spec =
     tie.close
     (tie.spec
-    pack-requires
+    packed-requires
     returns
     cast-zeros
     add-digits
@@ -99,8 +94,7 @@ round-with-rest-spec =
     sub-shift
     kept-requires
     left-over-requires
-    sub-assemble
-    assemble-requires
-    pack-requires-2
+    sub-packed
+    packed-requires-2
     shr-t16
     returns-2)

@@ -6,7 +6,7 @@ use Rattle.worksheet.proofs.fill.Statement.{statement}
 use Rattle.worksheet.proofs.fill.Tie as tie
 
 returns : tie.Need-returns
-returns c = not-an-operation _ _ _ _ (inl (c .if1 .taken))
+returns c = not-an-operation _ _ _ _ (inl (omega arith))
 
 returns-2 : tie.Need-returns-2
 returns-2 c = not-an-operation _ _ _ _ (inr (c .if2 .taken))

@@ -1,6 +1,6 @@
 use borrow.Author.Needs.{needs}
 use native.Mathlib.Omega.{arith}
-use Rattle.worksheet.proofs.SheetWords.{lines-at-most-13, fills-words}
+use Rattle.worksheet.proofs.SheetWords.{lines-counted, fills-words}
 use Rattle.worksheet.proofs.written.Statement.{statement}
 use Rattle.worksheet.proofs.written.Tie as tie
 
@@ -14,7 +14,7 @@ flags-requires : tie.Need-flags-requires
 flags-requires c κs = search needs
 
 counted-requires : tie.Need-counted-requires
-counted-requires c κs = omega (arith, lines-at-most-13 _ _ _ (c .before .before .before .before .before .sheet .ensures))
+counted-requires c κs = omega (arith, lines-counted _ _ _ (c .before .before .before .before .before .sheet .ensures))
 
 same-length : tie.Need-same-length
 same-length c = search needs

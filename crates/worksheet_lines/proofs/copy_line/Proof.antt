@@ -2,7 +2,8 @@ use borrow.Author.Needs.{needs}
 use mathlib.Core.Path.{_≡_}
 use native.Mathlib.Omega.{arith}
 use lib.ListN.{length, length-set}
-use Rattle.worksheet_lines.proofs.Copied.{five}
+use Rattle.worksheet_spec.specs.Lines.{lineSize}
+use Rattle.worksheet_lines.proofs.Copied.{line-copied}
 use Rattle.worksheet_lines.proofs.copy_line.Statement.{statement}
 use Rattle.worksheet_lines.proofs.copy_line.Tie as tie
 
@@ -42,8 +43,8 @@ same-length c = search needs
 returns : tie.Need-returns
 returns c =
     let l = c .args .t1 in
-    let q : length l ≡ 5 = search needs in
-    five (c .args .words .now) l (c .pre) q
+    let q : length l ≡ lineSize = search needs in
+    line-copied (c .args .words .now) l (c .pre) q
 
 pub copy-line-spec : {M : Type 1} → statement M
 copy-line-spec =

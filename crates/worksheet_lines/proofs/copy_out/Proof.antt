@@ -6,16 +6,17 @@ use Prim.Native.Nat.{_+_, _*_, _-_, _≤_}
 use native.Mathlib.Omega.{arith}
 use lib.ListN.{length, take, drop, length-take, length-drop}
 use lib.Seq.{take-all}
+use Rattle.worksheet_spec.specs.Lines.{lineSize, mostLines}
 use Rattle.worksheet_lines.specs.Inner.{flat}
 use Rattle.worksheet_lines.proofs.Copied.{one-more}
 use Rattle.worksheet_lines.proofs.copy_out.Statement.{statement}
 use Rattle.worksheet_lines.proofs.copy_out.Tie as tie
 
 abbrev Inv-loop : tie.InvT-loop
-Inv-loop words₀ lines i₀ words i = (i ≤ 13) × (length words ≡ length words₀) × (words ≡ flat (take i lines) ++ drop (i * 5) words₀) × (length (flat (take i lines)) ≡ i * 5)
+Inv-loop words₀ lines i₀ words i = (i ≤ mostLines) × (length words ≡ length words₀) × (words ≡ flat (take i lines) ++ drop (i * lineSize) words₀) × (length (flat (take i lines)) ≡ i * lineSize)
 
 abbrev μ-loop : tie.MeasureT-loop
-μ-loop words₀ lines i₀ words i = 13 - i
+μ-loop words₀ lines i₀ words i = mostLines - i
 
 loop-holds : tie.Need-loop-holds Inv-loop μ-loop
 unfolding flat
@@ -59,12 +60,12 @@ loop-again c =
     let l = c .before .before .before .before .before .before .loop in
     let start = c .before .before .before .before .before .before .before .before .args in
     let i = l .i in
-    let many : length (start .t1) ≡ 13 = search needs in
+    let many : length (start .t1) ≡ mostLines = search needs in
     let line = c .before .before .copy-line .last .1 .0 in
     let kept = c .before .before .copy-line .kept .1 .0 in
-    let long : length line ≡ 5 = kept ∙ simp (length-take, length-drop) (omega arith) in
+    let long : length line ≡ lineSize = kept ∙ simp (length-take, length-drop) (omega arith) in
     let more = one-more (start .words .now) (l .words) (start .t1) i line (omega arith) (c .before .before .copy-line .ensures) long (l .inv .2) (l .inv .3) in
-    (omega arith, same-len-mid (i * 5) (i * 5 + 5 - i * 5) (l .words) line kept ∙ l .inv .1, more .0, more .1)
+    (omega arith, same-len-mid (i * lineSize) (i * lineSize + lineSize - i * lineSize) (l .words) line kept ∙ l .inv .1, more .0, more .1)
 
 same-length : tie.Need-same-length Inv-loop μ-loop
 same-length c = c .before .loop .inv .1
@@ -73,9 +74,9 @@ returns : tie.Need-returns Inv-loop μ-loop
 returns c =
     let l = c .before .loop in
     let lines = c .before .before .before .args .t1 in
-    let many : length lines ≡ 13 = search needs in
-    let all : l .i ≡ 13 = omega arith in
-    let whole : take 13 lines ≡ lines = take-all 13 lines (omega arith) in
+    let many : length lines ≡ mostLines = search needs in
+    let all : l .i ≡ mostLines = omega arith in
+    let whole : take mostLines lines ≡ lines = take-all mostLines lines (omega arith) in
     rw (all, whole) at (l .inv .2)
 
 pub copy-out-spec : {M : Type 1} → statement M

@@ -4,6 +4,7 @@ use Prim.Native.Nat.{ℕ, _^_, _≤_, _<_}
 use native.Mathlib.Omega.{arith}
 use lib.ListN.{drop, drop-of-length-le}
 use Rattle.accumulator_spec.specs.Words.{natural}
+use Rattle.accumulator_spec.specs.Totals.{numberSize}
 use Rattle.accumulator_read.proofs.Arrays.{array-length, array-words}
 use Rattle.accumulator_spec.proofs.LeadingDigits.{Digits, sticky-half, taken-in, all-exp, made-sticky, leading-digits}
 use Rattle.accumulator_spec.proofs.LeadingDigits.Digits.{all}
@@ -11,7 +12,7 @@ use Rattle.accumulator_read.proofs.leading.first_digits.Statement.{stat
 use Rattle.accumulator_read.proofs.leading.first_digits.Tie as tie
 
 abbrev Inv-loop : tie.InvT-loop
-Inv-loop words sig₀ exp₀ i₀ sig exp i = (i ≤ 20) × (sig < 2 ^ 64) × Digits (natural (drop i words)) i sig exp
+Inv-loop words sig₀ exp₀ i₀ sig exp i = (i ≤ numberSize) × (sig < 2 ^ 64) × Digits (natural (drop i words)) i sig exp
 
 abbrev μ-loop : tie.MeasureT-loop
 μ-loop words sig₀ exp₀ i₀ sig exp i = i
@@ -19,8 +20,8 @@ abbrev μ-loop : tie.MeasureT-loop
 loop-holds : tie.Need-loop-holds Inv-loop μ-loop
 unfolding natural
 loop-holds c =
-    let e = array-length 20 (c .args .t1) _ (c .good .0) in
-    let z : natural (drop 20 (c .args .t1)) ≡ 0 = ap natural (drop-of-length-le (c .args .t1) {i = 20} (omega arith)) in
+    let e = array-length numberSize (c .args .t1) _ (c .good .0) in
+    let z : natural (drop numberSize (c .args .t1)) ≡ 0 = ap natural (drop-of-length-le (c .args .t1) {i = numberSize} (omega arith)) in
     (omega arith, omega arith, all (omega arith) refl (sym z))
 
 sub-i : tie.Need-sub-i Inv-loop μ-loop
@@ -38,7 +39,7 @@ wide-requires c κs = search needs
 word-lt : (c : tie.After-wide Inv-loop μ-loop) → c .wide .result < 2 ^ 32
 word-lt c =
     let a = c .before .before .before in
-    rw (c .wide .ensures) (array-words 20 (a .args .t1) _ (a .good .0) _)
+    rw (c .wide .ensures) (array-words numberSize (a .args .t1) _ (a .good .0) _)
 
 mul-sig : tie.Need-mul-sig Inv-loop μ-loop
 mul-sig c = search needs
@@ -58,11 +59,11 @@ loop-again : tie.Need-loop-again Inv-loop μ-loop
 loop-again c =
     let l = c .before .before .before .loop in
     let a = c .before .before .before .before in
-    let e = array-length 20 (a .args .t1) _ (a .good .0) in
+    let e = array-length numberSize (a .args .t1) _ (a .good .0) in
     let w = word-lt (c .before) in (
       omega arith,
       omega arith,
-      taken-in (a .args .t1) (l .i) (c .before .wide .result) (omega arith) (omega arith) (c .before .wide .ensures) (array-words 20 (a .args .t1) _ (a .good .0)) (l .sig) (l .exp) (c .if1 .taken) (l .inv .2),
+      taken-in (a .args .t1) (l .i) (c .before .wide .result) (omega arith) (omega arith) (c .before .wide .ensures) (array-words numberSize (a .args .t1) _ (a .good .0)) (l .sig) (l .exp) (c .if1 .taken) (l .inv .2),
     )
 
 sub-choose : tie.Need-sub-choose Inv-loop μ-loop
@@ -82,11 +83,11 @@ loop-again-2 c =
     let l = c .before .before .before .before .loop in
     let a = c .before .before .before .before .before in
     let w = c .before .before .wide in
-    let e = array-length 20 (a .args .t1) _ (a .good .0) in (
+    let e = array-length numberSize (a .args .t1) _ (a .good .0) in (
       omega arith,
       rw (c .choose .ensures) (omega (arith, sticky-half (w .result) (l .sig))),
       rw (c .choose .ensures)
-          (made-sticky (a .args .t1) (l .i) (w .result) (omega arith) (omega arith) (w .ensures) (array-words 20 (a .args .t1) _ (a .good .0)) (l .sig) (l .exp) (c .before .if1 .left) (l .inv .2)),
+          (made-sticky (a .args .t1) (l .i) (w .result) (omega arith) (omega arith) (w .ensures) (array-words numberSize (a .args .t1) _ (a .good .0)) (l .sig) (l .exp) (c .before .if1 .left) (l .inv .2)),
     )
 
 returns : tie.Need-returns Inv-loop μ-loop

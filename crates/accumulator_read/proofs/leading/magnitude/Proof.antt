@@ -8,7 +8,8 @@ use native.Mathlib.Omega.{arith}
 use lib.Dec.{leb}
 use lib.ListN.{length, take, getD, drop-of-length-le}
 use lib.Seq.{take-all}
-use Rattle.accumulator_spec.specs.Words.{natural, wordsOf, wordsOfInteger, complement}
+use Rattle.accumulator_spec.specs.Words.{natural, wordsOfNatural, wordsOfInteger, complement}
+use Rattle.accumulator_spec.specs.Totals.{numberSize}
 use Rattle.accumulator_read.proofs.Arrays.{array-length, array-words}
 use Rattle.accumulator_spec.proofs.Top.{magnitude-top}
 use Rattle.accumulator_read.proofs.leading.magnitude.Statement.{statement}
@@ -43,14 +44,14 @@ returns c =
     let minus = leb (2 ^ 31) (getD ws 19 0) in
     let t = c .before .before .before .before .turned in
     let ts = t .result in
-    let n = array-length 20 ws _ (b .good .0) in
-    let m = array-length 20 ts _ (t .ok) in
+    let n = array-length numberSize ws _ (b .good .0) in
+    let m = array-length numberSize ts _ (t .ok) in
     let s : natural ts ≡ natural (cond minus (map complement ws) ws) = ap natural (t .ensures) in
-    let f : take 20 ts ≡ ts = take-all 20 ts (omega arith) in
-    let e : c .before .add .last .0 ≡ wordsOf (length ws) (natural (cond minus (map complement ws) ws) + cond minus 1 0) =
-    c .before .add .ensures ∙ ap₂ (λ (k x : ℕ). wordsOf k x) (ap length f ∙ m ∙ sym n) (ap₂ (λ (x y : ℕ). x + y) (ap natural f ∙ s) (mul-one _ ∙ c .before .before .choose .ensures))
+    let f : take numberSize ts ≡ ts = take-all numberSize ts (omega arith) in
+    let e : c .before .add .last .0 ≡ wordsOfNatural (length ws) (natural (cond minus (map complement ws) ws) + cond minus 1 0) =
+    c .before .add .ensures ∙ ap₂ (λ (k x : ℕ). wordsOfNatural k x) (ap length f ∙ m ∙ sym n) (ap₂ (λ (x y : ℕ). x + y) (ap natural f ∙ s) (mul-one _ ∙ c .before .before .choose .ensures))
     in
-    ap natural (ap₂ (λ (xs ys : List ℕ). xs ++ ys) e (drop-of-length-le ts {i = 20} (omega arith)) ∙ append-nil _) ∙ magnitude-top 19 ws n (array-words 20 ws _ (b .good .0)) minus refl
+    ap natural (ap₂ (λ (xs ys : List ℕ). xs ++ ys) e (drop-of-length-le ts {i = numberSize} (omega arith)) ∙ append-nil _) ∙ magnitude-top 19 ws n (array-words numberSize ws _ (b .good .0)) minus refl
 
 pub magnitude-spec : {M : Type 1} → statement M
 magnitude-spec =

@@ -2,16 +2,17 @@ use borrow.Author.Needs.{needs}
 use mathlib.Core.Path.{_≡_, _∙_}
 use Prim.Native.Nat.{_-_, _≤_}
 use native.Mathlib.Omega.{arith}
+use Rattle.accumulator_spec.specs.Totals.{numberSize}
 use Rattle.accumulator_read.proofs.Arrays.{array-length, array-words}
 use Rattle.accumulator_read.proofs.TurnedWords.{upto, next, whole}
 use Rattle.accumulator_read.proofs.leading.turned.Statement.{statement}
 use Rattle.accumulator_read.proofs.leading.turned.Tie as tie
 
 abbrev Inv-loop : tie.InvT-loop
-Inv-loop minus mask words₀ i₀ words i = (i ≤ 20) × (words ≡ upto minus words₀ i)
+Inv-loop minus mask words₀ i₀ words i = (i ≤ numberSize) × (words ≡ upto minus words₀ i)
 
 abbrev μ-loop : tie.MeasureT-loop
-μ-loop minus mask words₀ i₀ words i = 20 - i
+μ-loop minus mask words₀ i₀ words i = numberSize - i
 
 choose-pattern-requires : tie.Need-choose-pattern-requires Inv-loop μ-loop
 choose-pattern-requires c κs = search needs
@@ -42,14 +43,14 @@ loop-again c =
     let l = c .before .loop in
     let s = c .before .before .before in
     let k = s .good .0 in
-    let e = array-length 20 (s .args .number) _ k in
-    (omega arith, next (s .args .minus) (s .args .number) (l .i) (omega arith) (l .words) _ (array-words 20 (s .args .number) _ k) (c .before .before .choose-pattern .ensures) (l .inv .1))
+    let e = array-length numberSize (s .args .number) _ k in
+    (omega arith, next (s .args .minus) (s .args .number) (l .i) (omega arith) (l .words) _ (array-words numberSize (s .args .number) _ k) (c .before .before .choose-pattern .ensures) (l .inv .1))
 
 returns : tie.Need-returns Inv-loop μ-loop
 returns c =
     let l = c .before .loop in
     let s = c .before .before .before in
-    let e = array-length 20 (s .args .number) _ (s .good .0) in
+    let e = array-length numberSize (s .args .number) _ (s .good .0) in
     l .inv .1 ∙ whole (s .args .minus) (s .args .number) (l .i) (omega arith)
 
 pub turned-spec : {M : Type 1} → statement M

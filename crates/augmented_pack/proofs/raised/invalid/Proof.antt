@@ -2,7 +2,7 @@ use borrow.Author.Needs.{needs}
 use mathlib.Core.Path.{ap, ap₂, _∙_}
 use mathlib.Core.Bool.{not, _&&_, _||_}
 use Rattle.augmented_spec.specs.Pairs.{invalid}
-use Rattle.augmented_spec.proofs.Patterns.{chosen-or, chosen-and}
+use Rattle.pattern_spec.proofs.Shown.{chosen-or, chosen-and}
 use Rattle.augmented_pack.proofs.raised.invalid.Statement.{statement}
 use Rattle.augmented_pack.proofs.raised.invalid.Tie as tie
 
@@ -39,8 +39,10 @@ returns c =
     let b = c .before in
     let n = b .before .before in
     let s = n .before .before .before in
-    let signals = s .choose-sign .ensures ∙ chosen-or (s .before .before .signalling .result) (s .before .signalling2 .result) ∙ ap₂ _||_ (s .before .before .signalling .ensures) (s .before .signalling2 .ensures) in
-    let one = n .choose-sign2 .ensures ∙ chosen-and (n .before .before .is-nan .result) (not (n .before .is-nan2 .result)) ∙ ap₂ _&&_ (n .before .before .is-nan .ensures) (ap not (n .before .is-nan2 .ensures)) in
+    let signals = s .choose-sign .ensures ∙ chosen-or (s .before .before .signalling .result) (s .before .signalling2 .result)
+    ∙ ap₂ _||_ (s .before .before .signalling .ensures) (s .before .signalling2 .ensures) in
+    let one = n .choose-sign2 .ensures ∙ chosen-and (n .before .before .is-nan .result) (not (n .before .is-nan2 .result))
+    ∙ ap₂ _&&_ (n .before .before .is-nan .ensures) (ap not (n .before .is-nan2 .ensures)) in
     let both = b .choose-sign3 .ensures ∙ chosen-and (n .choose-sign2 .result) (not (b .before .is-nan3 .result)) ∙ ap₂ _&&_ one (ap not (b .before .is-nan3 .ensures)) in
     c .choose-sign4 .ensures ∙ chosen-or (s .choose-sign .result) (b .choose-sign3 .result) ∙ ap₂ _||_ signals both
 

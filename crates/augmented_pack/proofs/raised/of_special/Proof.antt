@@ -1,5 +1,5 @@
 use borrow.Author.Needs.{needs}
-use Rattle.augmented_spec.proofs.Patterns.{never}
+use Rattle.pattern_spec.proofs.Shown.{never}
 use Rattle.augmented_pack.proofs.raised.of_special.Statement.{statement}
 use Rattle.augmented_pack.proofs.raised.of_special.Tie as tie
 

@@ -2,7 +2,7 @@ use borrow.Author.Needs.{needs}
 use Rattle.rounding_spec.specs.Value.{finite}
 use Rattle.pattern_spec.specs.Exact.{times}
 use Rattle.pattern_spec.specs.Classes.{valueOf}
-use Rattle.pattern_spec.specs.Unrounded.{Product}
+use Rattle.pattern_spec.specs.Inner.{Product}
 use mathlib.Core.Path.{refl, ap}
 use Prim.Native.Nat.{_+_, _*_}
 use native.Mathlib.Nat.{le-trans}

@@ -3,8 +3,8 @@ use borrow.Author.Needs.{needs}
 use Rattle.sheet_line.proofs.adding.halves.Statement.{statement}
 use Rattle.sheet_line.proofs.adding.halves.Tie as tie
 
-are-finite-requires : tie.Need-are-finite-requires
-are-finite-requires c κs = search needs
+both-finite-requires : tie.Need-both-finite-requires
+both-finite-requires c κs = search needs
 
 add-pattern-requires : tie.Need-add-pattern-requires
 add-pattern-requires c κs = search needs
@@ -16,16 +16,16 @@ same-length : tie.Need-same-length
 same-length c = search needs
 
 returns : tie.Need-returns
-returns c = both-added _ _ _ _ (c .before .before .before .before .before .before .before .before .before .are-finite .ensures) _ _ (c .before .before .before .before .before .before .before .before .if1 .taken) (c .before .before .before .before .before .before .add-pattern .ensures .1) (c .before .before .add-pattern2 .ensures .1)
+returns c = both-added _ _ _ _ (c .before .before .before .before .before .before .before .before .before .both-finite .ensures) _ _ (c .before .before .before .before .before .before .before .before .if1 .taken) (c .before .before .before .before .before .before .add-pattern .ensures .1) (c .before .before .add-pattern2 .ensures .1)
 
 returns-2 : tie.Need-returns-2
-returns-2 c = none-added _ _ _ _ (c .before .are-finite .ensures) (c .if1 .left)
+returns-2 c = none-added _ _ _ _ (c .before .both-finite .ensures) (c .if1 .left)
 
 pub halves-spec : {M : Type 1} → statement M
 halves-spec =
     tie.close
     (tie.spec
-    are-finite-requires
+    both-finite-requires
     add-pattern-requires
     add-pattern-requires-2
     same-length

@@ -29,13 +29,24 @@ add-t14 : tie.Need-add-t14
 add-t14 c = search needs
 
 returns : tie.Need-returns
-returns c = recomposed _ _ _ (c .before .before .before .before .before .before .before .mul .ensures) (c .before .before .before .before .before .sub .ensures) (c .before .before .before .mul2 .ensures) (sym (c .before .before .equal .ensures) ∙ (c .before .if1 .taken)) (c .flipped .ensures)
+returns c =
+    let if1 = c .before in
+    let equal = if1 .before in
+    let mul2 = equal .before in
+    let sub = mul2 .before .before in
+    let mul = sub .before .before in
+    recomposed _ _ _ (mul .mul .ensures) (sub .sub .ensures) (mul2 .mul2 .ensures) (sym (equal .equal .ensures) ∙ (if1 .if1 .taken)) (c .flipped .ensures)
 
 add-t10 : tie.Need-add-t10
 add-t10 c = search needs
 
 returns-2 : tie.Need-returns-2
-returns-2 c = kept _ _ _ (c .before .before .before .before .before .before .mul .ensures) (c .before .before .before .before .sub .ensures) (c .before .before .mul2 .ensures) (sym (c .before .equal .ensures) ∙ (c .if1 .left))
+returns-2 c =
+    let equal = c .before in
+    let mul2 = equal .before in
+    let sub = mul2 .before .before in
+    let mul = sub .before .before in
+    kept _ _ _ (mul .mul .ensures) (sub .sub .ensures) (mul2 .mul2 .ensures) (sym (equal .equal .ensures) ∙ (c .if1 .left))
 
 pub recomposition-spec : {M : Type 1} → statement M
 recomposition-spec =

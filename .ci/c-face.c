@@ -1,0 +1,155 @@
+/* Calls every function of include/jirmeklo.h, refused calls among them, and prints what is answered: patterns and words in
+ * hexadecimal, refusals and counts in decimal. It is C99 and C++ at once. */
+#include "jirmeklo.h"
+
+#include <stdio.h>
+
+#define TOTAL 21
+#define SHEET 65
+#define ONE 0x3F800000u
+#define LARGEST 0x7F7FFFFFu
+#define INFINITE 0x7F800000u
+
+static void print_word(uint32_t word) { printf(" %08lX", (unsigned long)word); }
+
+static void print_number(uint32_t number) { printf(" %lu", (unsigned long)number); }
+
+static void print_flags(struct jirmeklo_flags flags) {
+    printf(" %s%s%s%s.\n", flags.invalid ? "I" : "", flags.overflow ? "O" : "", flags.underflow ? "U" : "",
+           flags.inexact ? "X" : "");
+}
+
+/* In rows of so many words. */
+static void print_words(const char *name, const uint32_t *words, size_t count, size_t row) {
+    size_t i;
+    for (i = 0; i < count; i++) {
+        printf("%s", i % row == 0 ? name : "");
+        print_word(words[i]);
+        printf("%s", i % row == row - 1 || i == count - 1 ? "\n" : "");
+    }
+}
+
+static void print_sheet(const uint32_t *words, size_t count) { print_words("words", words, count, 5); }
+
+static void print_total(const char *name, const uint32_t *words, size_t count) { print_words(name, words, count, 7); }
+
+static void print_step(const char *name, uint32_t result) { print_words(name, &result, 1, 1); }
+
+static void print_refusal(const char *name, uint32_t refusal) {
+    printf("%s", name);
+    print_number(refusal);
+    printf("\n");
+}
+
+static void print_pair(const char *name, struct jirmeklo_pair pair) {
+    printf("%s", name);
+    print_word(pair.first);
+    print_word(pair.second);
+    print_flags(pair.flags);
+}
+
+static void print_reading(const char *name, struct jirmeklo_reading reading) {
+    printf("%s", name);
+    print_number(reading.refusal);
+    print_word(reading.first);
+    print_word(reading.second);
+    printf("\n");
+}
+
+static void print_filled(const char *name, struct jirmeklo_filled filled) {
+    printf("%s", name);
+    print_number(filled.refusal);
+    print_number(filled.lines);
+    print_word(filled.first);
+    print_word(filled.second);
+    print_flags(filled.flags);
+}
+
+static void fill_with(uint32_t *words, size_t count, uint32_t word) {
+    size_t i;
+    for (i = 0; i < count; i++) {
+        words[i] = word;
+    }
+}
+
+static void steps(void) {
+    print_step("add", jirmeklo_add(ONE, 0x33800001u));
+    print_step("sub", jirmeklo_sub(INFINITE, INFINITE));
+    print_step("mul", jirmeklo_mul(0x80000001u, 0x3F000000u));
+    print_step("fma", jirmeklo_fma(0x3F800001u, 0x3F800001u, 0xBF800002u));
+}
+
+static void pairs(void) {
+    print_pair("sum", jirmeklo_sum(LARGEST, 0x73000000u));
+    print_pair("sum", jirmeklo_sum(LARGEST, 0x73000001u));
+    print_pair("difference", jirmeklo_difference(0x3F800001u, 0xB3800000u));
+    print_pair("difference", jirmeklo_difference(INFINITE, INFINITE));
+    print_pair("product", jirmeklo_product(0x3F800001u, 0x3F800001u));
+    print_pair("product", jirmeklo_product(0x80000001u, 0x3F000000u));
+}
+
+static void totals(void) {
+    uint32_t total[TOTAL + 1];
+    fill_with(total, TOTAL + 1, 0xA5A5A5A5u);
+    print_refusal("clear", jirmeklo_clear(total, TOTAL + 1));
+    print_reading("read", jirmeklo_read(total, TOTAL));
+    print_refusal("clear", jirmeklo_clear(total, TOTAL));
+    print_refusal("add_pattern", jirmeklo_add_pattern(total, TOTAL, 0xBF800001u));
+    print_refusal("add_product", jirmeklo_add_product(total, TOTAL, 0x3F800001u, 0x3F800001u));
+    print_refusal("add_pattern", jirmeklo_add_pattern(total, TOTAL, INFINITE));
+    print_refusal("add_product", jirmeklo_add_product(total, TOTAL - 1, ONE, ONE));
+    print_total("total", total, TOTAL + 1);
+    print_reading("read", jirmeklo_read(total, TOTAL));
+    print_reading("read", jirmeklo_read(total, TOTAL + 1));
+    jirmeklo_clear(total, TOTAL);
+    total[TOTAL - 1] = 65536;
+    print_refusal("add_product", jirmeklo_add_product(total, TOTAL, ONE, ONE));
+    total[TOTAL - 1] = 65537;
+    print_refusal("add_pattern", jirmeklo_add_pattern(total, TOTAL, ONE));
+}
+
+static void sheets(void) {
+    uint32_t words[SHEET + 1];
+    fill_with(words, SHEET + 1, 0xA5A5A5A5u);
+    print_filled("fill", jirmeklo_fill(4, ONE, ONE, words, 0));
+    print_filled("fill", jirmeklo_fill(1, ONE, ONE, words, SHEET - 1));
+    print_sheet(words, 1);
+    print_filled("fill", jirmeklo_fill(1, 0x3F800001u, 0x33800000u, words, SHEET + 1));
+    print_sheet(words, SHEET + 1);
+    print_filled("fill", jirmeklo_fill(3, 0x00000003u, 0x3F000000u, words, SHEET));
+}
+
+/* A sum, a difference, a product, a product that is not exact, and a question that is refused: the first three enter. */
+static void lists(void) {
+    const uint32_t operations[] = {1, 2, 3, 3, 1};
+    const uint32_t xs[] = {0x3F800001u, ONE, 0x3F800001u, 0x00000003u, ONE};
+    const uint32_t ys[] = {0x33800000u, 0x33800000u, 0x3F800001u, 0x3F000000u, ONE};
+    const uint32_t counts[] = {SHEET, SHEET, SHEET, SHEET, 0};
+    const uint32_t long_counts[] = {SHEET, SHEET, SHEET, SHEET, SHEET + 1};
+    static uint32_t many[4][32769];
+    uint32_t words[SHEET], first[TOTAL], second[TOTAL];
+    fill_with(words, SHEET, 0);
+    fill_with(first, TOTAL, 0);
+    fill_with(second, TOTAL, 0);
+    print_refusal("replay", jirmeklo_replay(operations, 5, xs, 5, ys, 4, counts, 5, words, SHEET, first, TOTAL, second, TOTAL));
+    print_refusal("replay", jirmeklo_replay(many[0], 32769, many[1], 32769, many[2], 32769, many[3], 32769, words, SHEET,
+                                            first, TOTAL, second, TOTAL));
+    print_refusal("replay", jirmeklo_replay(operations, 5, xs, 5, ys, 5, counts, 5, words, SHEET, first, TOTAL - 1, second, TOTAL));
+    print_refusal("replay", jirmeklo_replay(operations, 5, xs, 5, ys, 5, long_counts, 5, words, SHEET, first, TOTAL, second, TOTAL));
+    print_sheet(words, 1);
+    print_refusal("replay", jirmeklo_replay(operations, 5, xs, 5, ys, 5, counts, 5, words, SHEET, first, TOTAL, second, TOTAL));
+    print_sheet(words, 5);
+    print_total("first", first, TOTAL);
+    print_total("second", second, TOTAL);
+    print_reading("read", jirmeklo_read(first, TOTAL));
+    print_reading("read", jirmeklo_read(second, TOTAL));
+}
+
+int main(void) {
+    steps();
+    pairs();
+    totals();
+    sheets();
+    lists();
+    return 0;
+}

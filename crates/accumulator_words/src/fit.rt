@@ -1,0 +1,69 @@
+// Whether lent words are a fit total (R6.3): its top words tell, but at the limit itself.
+use crate::is_zero;
+use accumulator_spec::MOST_TERMS;
+use accumulator_spec::NUMBER_SIZE;
+use accumulator_spec::TOTAL_SIZE;
+use choose::choose_pattern;
+ghost use mathlib.Core.Path.{_≡_};
+ghost use mathlib.Core.Bool.{cond};
+ghost use lib.ListN.{length};
+ghost use Rattle.accumulator_spec.specs.Words.{complement};
+ghost use Rattle.accumulator_spec.specs.Totals.{totalSize, fit};
+ghost use Rattle.accumulator_words.specs.Inner.{lent, belowLimit};
+
+// What is tried first of lent words, by its refusal: 5, 6, or 0 for a fit total (R8.7, R8.8).
+pub fn refusal(total: &[u32]) -> u32
+    ensures { λ r. ⌜ r ≡ lent (now (total .entry)) ⌝ }
+{
+    if total.len() != TOTAL_SIZE {
+        return 5;
+    }
+    if !is_fit(total) {
+        return 6;
+    }
+    0
+}
+
+// The limit is count * 1024 times the weight of word 17. A negative number is below it where its complement, which is smaller
+// by one, is: no negation, so that -2^639 needs no care.
+fn is_fit(total: &[u32]) -> bool
+    requires { ⌜ length (now total) ≡ totalSize ⌝ }
+    ensures { λ r. ⌜ r ≡ fit (now (total .entry)) ⌝ }
+{
+    let n = total[NUMBER_SIZE];
+    if n > MOST_TERMS {
+        return false;
+    }
+    let minus = total[19] >= 0x8000_0000;
+    if turned(minus, total[19]) != 0 {
+        return false;
+    }
+    if turned(minus, total[18]) != 0 {
+        return false;
+    }
+    let top = turned(minus, total[17]);
+    within(&total[0..17], minus, top, n * 1024)
+}
+
+// The words below count at the limit itself, where a positive number must have none there.
+fn within(low: &[u32], minus: bool, top: u32, limit: u32) -> bool
+    ensures { λ r. ⌜ r ≡ belowLimit (now (low .entry)) minus top limit ⌝ }
+{
+    if top < limit {
+        return true;
+    }
+    if minus {
+        return false;
+    }
+    if top > limit {
+        return false;
+    }
+    is_zero(low)
+}
+
+// The word itself, or its complement.
+fn turned(minus: bool, w: u32) -> u32
+    ensures { λ r. ⌜ r ≡ cond minus (complement w) w ⌝ }
+{
+    choose_pattern(minus, 0xffff_ffff - w, w)
+}

@@ -1,0 +1,2 @@
+pub mod SumLines
+pub mod ProductLines

@@ -1,0 +1,73 @@
+-- The lines of a sum, as they are written.
+use mathlib.Core.Path.{_≡_, refl, sym, ap, _∙_}
+use mathlib.Core.Bool.{true, false, not}
+use mathlib.Core.List.{List, [], _∷_}
+use Prim.Native.Nat.{ℕ, suc}
+use native.Mathlib.Omega.{arith}
+use lib.ListN.{length}
+use Rattle.rounding_spec.specs.Value.{Value, nan, infinite, finite, isFinite, isInfinite}
+use Rattle.binary32_spec.specs.Steps.{addStep, subStep}
+use Rattle.errorfree_spec.proofs.NoNumber.{not-both, none-zero, both-of}
+use Rattle.worksheet_spec.specs.Constants.{half}
+use Rattle.worksheet_spec.specs.Lines.{add, subtract, multiply, Line, line, value, zero}
+use Rattle.worksheet_spec.specs.Sheets.{recomposedFinished, edgeFinish, halvedSum, overflows, sumInOrder, swaps, sumSheet}
+use Rattle.worksheet_spec.specs.Theorems.{stepsOf}
+use Rattle.worksheet_spec.proofs.Sums.{b-none}
+use Rattle.worksheet_spec.proofs.SumSteps.{recomposed-none-steps}
+use Rattle.worksheet_lines.specs.Inner.{Written, Follows}
+use Rattle.worksheet_lines.specs.declared.Foot.{Foot}
+use Rattle.worksheet_lines.proofs.Rows.{Rows, Standing, none-yet, foot-follows, then-line, then-lines, then-sheet}
+
+-- ---- half the operands
+module _ (x y a : ℕ) {l₀ l₁ l₂ l₃ l₄ l₅ l₆ : Rows} {p q s v r : ℕ} {foot : Foot} where
+  pub halved : Written l₀ l₁ 6 (line multiply half x p) → Written l₁ l₂ 7 (line multiply half y q) → Written l₂ l₃ 8 (line add p q s)
+      → Written l₃ l₄ 9 (line subtract s p v) → Written l₄ l₅ 10 (line subtract q v r) → Follows l₅ l₆ 11 (edgeFinish a s r) foot → Follows l₀ l₆ 6 (halvedSum x y a) foot
+  unfolding halvedSum
+  halved c₁ c₂ c₃ c₄ c₅ f =
+      rw (← c₁ .gives .0, ← c₂ .gives .0, ← c₃ .gives .0, ← c₄ .gives .0, ← c₅ .gives .0)
+      (then-sheet (then-line (then-line (then-line (then-line (then-line (none-yet l₀ 6) c₁ refl) c₂ refl) c₃ refl) c₄ refl) c₅ refl) f refl)
+
+-- ---- an infinite a leaves no zero half, so that recomposition's three lines are all
+steps-length : (ls : List Line) → length (stepsOf ls) ≡ length ls
+steps-length [] = refl
+steps-length (l ∷ ls) = ap suc (steps-length ls)
+
+infinite-not-finite : (v : Value) → isInfinite v ≡ true → isFinite v ≡ false
+infinite-not-finite nan e = refl
+infinite-not-finite (infinite s) e = refl
+infinite-not-finite (finite s m) e = not-both (sym e)
+
+not-finished : (x y s : ℕ) → let a = addStep x y in overflows s a ≡ true → length (recomposedFinished a (subStep y (subStep a x)) .lines) ≡ 3
+unfolding overflows
+not-finished x y s e =
+    let a = addStep x y in
+    let b = subStep y (subStep a x) in
+    let n = infinite-not-finite (value a) (both-of (not (zero s)) (isInfinite (value a)) e .1) in
+    sym (steps-length (recomposedFinished a b .lines)) ∙ ap length (recomposed-none-steps a b n (none-zero (value b) (b-none x y n)))
+
+-- ---- operands in order
+module _ (x y : ℕ) {l₀ l₁ l₂ l₃ l₄ : Rows} {a v b : ℕ} {pair : Foot} (p : Written l₀ l₁ 0 (line add x y a)) (q : Written l₁ l₂ 1 (line subtract a x v))
+    (r : Written l₂ l₃ 2 (line subtract y v b)) (f : Follows l₃ l₄ 3 (recomposedFinished a b) pair) where
+  standing : Standing l₀ l₄ 0 (line add x y a ∷ line subtract a x v ∷ line subtract y v b ∷ recomposedFinished a b .lines)
+  standing = then-lines (then-line (then-line (then-line (none-yet l₀ 0) p refl) q refl) r refl) f refl
+
+  pub not-halved : overflows (pair .second) a ≡ false → Follows l₀ l₄ 0 (sumInOrder x y) pair
+  unfolding sumInOrder
+  not-halved e = rw (← p .gives .0, ← q .gives .0, ← r .gives .0, ← f .first, ← f .second, e) (then-sheet standing (foot-follows l₄ (pair .next) _ _) (omega (arith, f .next)))
+
+  rows-used : overflows (pair .second) a ≡ true → length (recomposedFinished a b .lines) ≡ 3
+  rows-used e = rw (r .gives .0, q .gives .0, p .gives .0) (not-finished x y (pair .second) (rw (← p .gives .0) e))
+
+  pub with-halved : {l₅ : Rows} {foot : Foot} → overflows (pair .second) a ≡ true → Follows l₄ l₅ 6 (halvedSum x y a) foot → Follows l₀ l₅ 0 (sumInOrder x y) foot
+  unfolding sumInOrder
+  with-halved e g = rw (← p .gives .0, ← q .gives .0, ← r .gives .0, ← f .second, e) (then-sheet standing g (omega (arith, rows-used e)))
+
+-- ---- either order
+module _ (x y : ℕ) {start end : Rows} {foot : Foot} where
+  pub swapped : swaps x y ≡ true → Follows start end 0 (sumInOrder y x) foot → Follows start end 0 (sumSheet x y) foot
+  unfolding sumSheet
+  swapped e f = rw e f
+
+  pub unswapped : swaps x y ≡ false → Follows start end 0 (sumInOrder x y) foot → Follows start end 0 (sumSheet x y) foot
+  unfolding sumSheet
+  unswapped e f = rw e f

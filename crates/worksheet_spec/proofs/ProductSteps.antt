@@ -1,0 +1,199 @@
+-- The steps of a product's lines, in order, branch by branch.
+use mathlib.Core.Path.{_≡_, refl, sym, ap, ap₂, _∙_, subst}
+use mathlib.Core.Logic.{_⊎_, inl, inr}
+use mathlib.Core.Bool.{Bool, true, false, not, cond, _&&_}
+use mathlib.Core.List.{List, [], _∷_, _++_}
+use Prim.Native.Nat.{ℕ, _+_, _-_, _*_, _^_, _≤_, _<_}
+use native.Mathlib.Nat.{le-refl, mul-one}
+use native.Mathlib.Omega.{arith}
+use borrow.Author.Tests.{eq-eqb, ne-eqb, lt-ltb, le-ltb, le-leb, lt-leb}
+use lib.Dec.{T}
+use lib.Ieee.{unlike}
+use Rattle.rounding_spec.specs.declared.Ties.the-variants.{ToEven}
+use Rattle.rounding_spec.specs.Format.{binary32, limit}
+use Rattle.rounding_spec.specs.Nearest.{dist}
+use Rattle.rounding_spec.specs.Value.{Value, nan, infinite, finite, Fits, isFinite, isZero}
+use Rattle.rounding_spec.proofs.Representable.{rep-lt}
+use Rattle.rounding_spec.proofs.RoundValue.{round-finite}
+use Rattle.rounding_spec.proofs.Codec.{decode-fits}
+use Rattle.binary32_spec.specs.Steps.{subValue, fmaValue, subStep, mulStep, fmaStep}
+use Rattle.binary32_spec.proofs.Theorems.{sub-decodes, mul-decodes, fma-decodes}
+use Rattle.errorfree_spec.specs.Comparisons.{same}
+use Rattle.errorfree_spec.proofs.NoNumber.{not-both, number-of, both-of, mul-none, fma-nan}
+use Rattle.errorfree_spec.proofs.Signed.{Is, rel-own, same-eq}
+use Rattle.errorfree_spec.proofs.Steps.{toEven, is-sub}
+use Rattle.errorfree_spec.proofs.Theorems.{same-means}
+use Rattle.worksheet_spec.specs.Constants.{half, plusZero, smallest}
+use Rattle.worksheet_spec.specs.Lines.{Step, add, subtract, multiply, fused, Line, line, Sheet, before, value, minus, equal, copySign, zero}
+use Rattle.worksheet_spec.specs.Sheets.{Branch, whenInfinite, whenZero, whenTiny, whenMiddle, otherwise, recomposition, zeroFinish, infiniteProduct, lowered, lowering, tinyProduct, scaledDown, middleProduct, otherProduct, branchOf, productBy, productSheet}
+use Rattle.worksheet_spec.specs.Theorems.{stepsOf, recompositionSteps, finishStep, edgeSteps, tinySteps, middleSteps, ProductSteps}
+use Rattle.worksheet_spec.proofs.Patterns.{mul-width, minus-nan, sign-value}
+use Rattle.worksheet_spec.proofs.Constants.{smallest-value}
+use Rattle.worksheet_spec.proofs.TinyResults as tiny
+use Rattle.worksheet_spec.proofs.Products.{first, β, tie, corrected, p-value, corrected-nonzero, first-number}
+use Rattle.worksheet_spec.proofs.SumSteps.{finish-steps, recomposed-steps, edge-steps, finish-zero, recomposed-zero, recomposed-none-steps, edge-told}
+
+one-less : (m W : ℕ) → m < W → m - 1 < W
+one-less m W h = omega arith
+
+-- a correction or none, before other lines
+corrected-steps : (c : Bool) (a : ℕ) (ls : List Line) → stepsOf (cond c (lowering a ∷ []) [] ++ ls) ≡ cond c (subtract ∷ []) [] ++ stepsOf ls
+unfolding lowering
+corrected-steps true a ls = refl
+corrected-steps false a ls = refl
+
+-- ---- which branch
+module _ (s : Bool) (m : ℕ) where
+  branch-zero : m ≡ 0 → branchOf (finite s m) ≡ whenZero
+  unfolding branchOf
+  branch-zero z = rw (eq-eqb m 0 z)
+
+  branch-tiny : 0 < m → m < 2 ^ 24 → branchOf (finite s m) ≡ whenTiny
+  unfolding branchOf
+  branch-tiny h k = rw (ne-eqb m 0 (λ (e : m ≡ 0). omega arith), lt-ltb m (2 ^ 24) k)
+
+  branch-middle : 2 ^ 24 ≤ m → m ≤ 2 ^ 47 → branchOf (finite s m) ≡ whenMiddle
+  unfolding branchOf
+  branch-middle h k = rw (ne-eqb m 0 (λ (e : m ≡ 0). omega arith), le-ltb m (2 ^ 24) h, le-leb m (2 ^ 47) k)
+
+  branch-other : 2 ^ 47 < m → branchOf (finite s m) ≡ otherwise
+  unfolding branchOf
+  branch-other h = rw (ne-eqb m 0 (λ (e : m ≡ 0). omega arith), le-ltb m (2 ^ 24) (omega arith), lt-leb m (2 ^ 47) h)
+
+module _ (x y : ℕ) where
+  abbrev p : ℕ
+  p = mulStep x y
+
+  sheet-by : (k : Branch) → branchOf (value p) ≡ k → productSheet x y ≡ before (line multiply x y p ∷ []) (productBy k x y p)
+  unfolding productSheet
+  sheet-by k e = ap (λ (i : Branch). before (line multiply x y p ∷ []) (productBy i x y p)) e
+
+  abbrev Ordered : Value → Sheet → Type 0
+  Ordered v s = ProductSteps p v (s .first) (s .second) (stepsOf (s .lines))
+
+  -- ---- NaN and infinities
+  nan-steps : value p ≡ nan → stepsOf (otherProduct x y p .lines) ≡ fused ∷ recompositionSteps
+  unfolding otherProduct
+  nan-steps e =
+      let c = fmaStep x y (minus p) in
+      let ci : value c ≡ nan = fma-decodes x y (minus p) ∙ ap (fmaValue binary32 (value x) (value y)) (minus-nan p (mul-width x y) e) ∙ fma-nan binary32 (value x) (value y) in
+      ap {B = List Step} (λ (steps : List Step). fused ∷ steps) (recomposed-none-steps p c (ap isFinite e) (ap isZero ci))
+
+  infinite-steps : (s : Bool) → value p ≡ infinite s → stepsOf (infiniteProduct x y p .lines) ≡ multiply ∷ multiply ∷ fused ∷ cond (isFinite (value (infiniteProduct x y p .first))) edgeSteps []
+  unfolding infiniteProduct
+  infinite-steps s e =
+      let h = mulStep half x in
+      let a' = mulStep h y in
+      let b' = fmaStep h y (minus a') in
+      ap {B = List Step} (λ (steps : List Step). multiply ∷ multiply ∷ fused ∷ steps) (edge-steps p a' b')
+      ∙ ap {B = List Step} (λ (c : Bool). multiply ∷ multiply ∷ fused ∷ cond c edgeSteps []) (edge-told p a' b' (ap isFinite e))
+
+  -- ---- tiny: a correction makes another number of a
+  module _ (s : Bool) (m : ℕ) (e : value p ≡ finite s m) where
+    lowered-other : 0 < m → m < 2 ^ 24 → equal (lowered p) p ≡ false
+    unfolding lowered Fits
+    lowered-other pos lo = by (equal (lowered p) p) refl
+      where
+        v : Value
+        v = subValue binary32 (finite s m) (finite s 1)
+
+        lower-is : value (subStep p (copySign smallest p)) ≡ v
+        lower-is = sub-decodes p (copySign smallest p) ∙ ap₂ (subValue binary32) e (sign-value p s m e smallest 1 (omega arith) smallest-value)
+
+        less : Is s v (m + 0) (0 + 1)
+        less =
+            let d : dist (m + 0) (0 + 1) ≡ m - 1 = omega arith in
+            is-sub binary32 s (finite s m) (finite s 1) m 0 1 0 (rel-own s m) (rel-own s 1) (rw d (rep-lt 0 (m - 1) (le-refl 0) (m - 1, sym (mul-one (m - 1))) (omega arith))) (rw d small)
+          where
+            small : m - 1 < limit binary32
+            small = one-less m (limit binary32) (subst (Fits binary32) e (decode-fits binary32 (omega arith) p) .1)
+
+        by : (c : Bool) → equal (subStep p (copySign smallest p)) p ≡ c → equal (subStep p (copySign smallest p)) p ≡ false
+        by false f = f
+        by true f = absurd (omega (arith, same-eq s v (finite s m) (m + 0) (0 + 1) m 0 less (rel-own s m) (subst T (sym (sym (ap₂ same lower-is e) ∙ f)) tt)))
+
+    -- tie or not, as first tells
+    told : 0 < m → m < 2 ^ 24 → (c : Bool) → equal (cond c (lowered p) p) p ≡ not c
+    told pos lo true = lowered-other pos lo
+    told pos lo false = ap₂ same e e ∙ same-means .0 s m s m .1 refl
+
+    tiny-steps : 0 < m → m < 2 ^ 24 → stepsOf (tinyProduct x y p .lines) ≡ tinySteps ++ cond (equal (tinyProduct x y p .first) p) finishStep (subtract ∷ finishStep)
+    unfolding tinyProduct
+    tiny-steps pos lo =
+        ap {B = List Step} (λ (steps : List Step). tinySteps ++ steps) (corrected-steps (tiny.tie x y p) p (line multiply plusZero (tiny.first x y p) (mulStep plusZero (tiny.first x y p)) ∷ []) ∙ by (tiny.tie x y p))
+        ∙ ap {B = List Step} (λ (c : Bool). tinySteps ++ cond c finishStep (subtract ∷ finishStep)) (sym (told pos lo (tiny.tie x y p)))
+      where
+        by : (c : Bool) → _≡_ {A = List Step} (cond c (subtract ∷ []) [] ++ multiply ∷ []) (cond (not c) finishStep (subtract ∷ finishStep))
+        by true = refl
+        by false = refl
+
+    -- ---- the middle: its operands are finite, so that a correction leaves no zero, and first is finite
+    middle-facts : 2 ^ 24 ≤ m → m ≤ 2 ^ 47 → (tie x y ≡ true → zero (corrected x y) ≡ false) × (isFinite (value (first x y)) ≡ true)
+    unfolding Fits
+    middle-facts lo hi = by (isFinite (value x) && isFinite (value y)) refl
+      where
+        by : (i : Bool) → isFinite (value x) && isFinite (value y) ≡ i → (tie x y ≡ true → zero (corrected x y) ≡ false) × (isFinite (value (first x y)) ≡ true)
+        by false n = not-both (sym (ap isFinite e) ∙ ap isFinite (mul-decodes x y) ∙ mul-none binary32 (value x) (value y) n)
+        by true n =
+            let h = both-of (isFinite (value x)) (isFinite (value y)) n in
+            let u = number-of (value x) (h .0) in
+            let w = number-of (value y) (h .1) in
+            let f = subst (Fits binary32) (u .2) (decode-fits binary32 (omega arith) x) in
+            let g = subst (Fits binary32) (w .2) (decode-fits binary32 (omega arith) y) in
+            let q = subst (Fits binary32) e (decode-fits binary32 (omega arith) p) in
+            let r = unlike (u .0) (w .0) in
+            let a-is : m ≡ toEven binary32 (u .1 * w .1) = round-finite ToEven binary32 r (u .1 * w .1) s m (sym (p-value x y (u .0) (w .0) (u .1) (w .1) (u .2) (w .2) (f .0) (g .0) (f .1) (g .1)) ∙ e) in (
+              corrected-nonzero x y (u .0) (w .0) (u .1) (w .1) (u .2) (w .2) (f .0) (g .0) (f .1) (g .1) (rw (← a-is) (q .1)) (rw (← a-is) lo) (rw (← a-is) hi),
+              first-number x y (u .0) (w .0) (u .1) (w .1) (u .2) (w .2) (f .0) (g .0) (f .1) (g .1) (rw (← a-is) (q .1)) (rw (← a-is) lo) (rw (← a-is) hi),
+            )
+
+    middle-steps : stepsOf (middleProduct x y .lines) ≡ middleSteps ++ cond (tie x y) (subtract ∷ []) [] ++ cond (zero (corrected x y)) finishStep []
+    unfolding middleProduct recomposition scaledDown
+    middle-steps =
+        ap {B = List Step} (λ (steps : List Step). middleSteps ++ steps)
+        (corrected-steps (tie x y) (β x y) (zeroFinish (first x y) (corrected x y) .lines) ∙ ap (λ (steps : List Step). cond (tie x y) (subtract ∷ []) [] ++ steps) (finish-steps (first x y) (corrected x y)))
+
+    middle-ordered : 2 ^ 24 ≤ m → m ≤ 2 ^ 47 → let steps = stepsOf (middleProduct x y .lines) in
+        (zero (middleProduct x y .second) ≡ true → steps ≡ middleSteps ++ finishStep) × (zero (middleProduct x y .second) ≡ false → (steps ≡ middleSteps) ⊎ (steps ≡ middleSteps ++ (subtract ∷ [])))
+    unfolding middleProduct scaledDown
+    middle-ordered lo hi =
+        let f = middle-facts lo hi in
+        by (tie x y) (zero (corrected x y)) (zero (zeroFinish (first x y) (corrected x y) .second)) (finish-zero (first x y) (corrected x y) (f .1)) (f .0) middle-steps
+      where
+        by : {steps : List Step} (c z w : Bool) → w ≡ z → (c ≡ true → z ≡ false) → steps ≡ middleSteps ++ cond c (subtract ∷ []) [] ++ cond z finishStep []
+            → (w ≡ true → steps ≡ middleSteps ++ finishStep) × (w ≡ false → (steps ≡ middleSteps) ⊎ (steps ≡ middleSteps ++ (subtract ∷ [])))
+        by true true w q n o = not-both (n refl)
+        by true false w q n o = (λ h. not-both (sym h ∙ q), λ h. inr o)
+        by false true w q n o = (λ h. o, λ h. not-both (sym q ∙ h))
+        by false false w q n o = (λ h. not-both (sym h ∙ q), λ h. inl o)
+
+    -- ---- otherwise
+    other-steps : stepsOf (otherProduct x y p .lines) ≡ fused ∷ recompositionSteps ++ cond (zero (otherProduct x y p .second)) finishStep []
+    unfolding otherProduct
+    other-steps =
+        let c = fmaStep x y (minus p) in
+        ap {B = List Step} (λ (steps : List Step). fused ∷ steps) (recomposed-steps p c) ∙ ap {B = List Step} (λ (z : Bool). fused ∷ recompositionSteps ++ cond z finishStep []) (sym (recomposed-zero p c (ap isFinite e)))
+
+  -- ---- all branches
+  finite-steps : (s : Bool) (m : ℕ) → value p ≡ finite s m → Ordered (finite s m) (productSheet x y)
+  unfolding productBy
+  finite-steps s m e = (
+    λ z. rw (sheet-by whenZero (ap branchOf e ∙ branch-zero s m z)) refl,
+    λ h k. rw (sheet-by whenTiny (ap branchOf e ∙ branch-tiny s m h k)) (ap {B = List Step} (λ (steps : List Step). multiply ∷ steps) (tiny-steps s m e h k)),
+    λ h k. rw (sheet-by whenMiddle (ap branchOf e ∙ branch-middle s m h k)) (middle (middle-ordered s m e h k)),
+    λ h. rw (sheet-by otherwise (ap branchOf e ∙ branch-other s m h)) (ap {B = List Step} (λ (steps : List Step). multiply ∷ steps) (other-steps s m e)),
+  )
+    where
+      middle : {steps : List Step} {z : Bool} → (z ≡ true → steps ≡ middleSteps ++ finishStep) × (z ≡ false → (steps ≡ middleSteps) ⊎ (steps ≡ middleSteps ++ (subtract ∷ [])))
+          → (z ≡ true → multiply ∷ steps ≡ multiply ∷ middleSteps ++ finishStep) × (z ≡ false → (multiply ∷ steps ≡ multiply ∷ middleSteps) ⊎ (multiply ∷ steps ≡ multiply ∷ middleSteps ++ (subtract ∷ [])))
+      middle h =
+          (λ z. ap {B = List Step} (λ (steps : List Step). multiply ∷ steps) (h .0 z), λ z. elim (h .1 z) [ inl o ↦ inl (ap {B = List Step} (λ (steps : List Step). multiply ∷ steps) o) | inr o ↦ inr (ap {B = List Step} (λ (steps : List Step). multiply ∷ steps) o) ])
+
+  pub product-steps : Ordered (value p) (productSheet x y)
+  unfolding productBy branchOf
+  product-steps = by (value p) refl
+    where
+      by : (v : Value) → value p ≡ v → Ordered v (productSheet x y)
+      by nan e = rw (sheet-by otherwise (ap branchOf e)) (ap {B = List Step} (λ (steps : List Step). multiply ∷ steps) (nan-steps e))
+      by (infinite s) e = rw (sheet-by whenInfinite (ap branchOf e)) (ap {B = List Step} (λ (steps : List Step). multiply ∷ steps) (infinite-steps s e))
+      by (finite s m) e = finite-steps s m e

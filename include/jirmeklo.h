@@ -1,0 +1,88 @@
+/* Jirmeklo: binary32 steps, augmented pairs, exact column totals and step sheets, each proved against its specification.
+ *
+ * A pattern is a binary32 number as its 32 bits. A call that is carried out answers 0, another the number of its refusal;
+ * of several conditions the one that stands first is answered. A refused call leaves all that it was lent as it was.
+ * Nothing is allocated, and nothing is kept between calls.
+ *
+ * An array is lent for the length of a call, by a pointer and the number of its words. The arrays of one call must not
+ * overlap. A pointer is aligned for uint32_t and not null, even where the number of words is 0.
+ */
+#ifndef JIRMEKLO_H
+#define JIRMEKLO_H
+
+#include <stdbool.h>
+#include <stddef.h>
+#include <stdint.h>
+
+#ifdef __cplusplus
+extern "C" {
+#endif
+
+/* I, O, U and X. */
+struct jirmeklo_flags {
+    bool invalid, overflow, underflow, inexact;
+};
+
+/* The result rounded to nearest, ties to zero, and what that left over. */
+struct jirmeklo_pair {
+    uint32_t first, second;
+    struct jirmeklo_flags flags;
+};
+
+/* A total as a pair; zeros where the refusal is not 0. */
+struct jirmeklo_reading {
+    uint32_t refusal, first, second;
+};
+
+/* How many lines the sheet has, and the pair at its foot; zeros and no flag where the refusal is not 0. */
+struct jirmeklo_filled {
+    uint32_t refusal, lines, first, second;
+    struct jirmeklo_flags flags;
+};
+
+/* Steps: one rounding to nearest, ties to even. Every NaN result is 7FC00000. fma is x * y + z. No refusal. */
+uint32_t jirmeklo_add(uint32_t x, uint32_t y);
+uint32_t jirmeklo_sub(uint32_t x, uint32_t y);
+uint32_t jirmeklo_mul(uint32_t x, uint32_t y);
+uint32_t jirmeklo_fma(uint32_t x, uint32_t y, uint32_t z);
+
+/* Pairs of x + y, x - y and x * y, as IEEE 754-2019, clause 9.5, with flags. No refusal. */
+struct jirmeklo_pair jirmeklo_sum(uint32_t x, uint32_t y);
+struct jirmeklo_pair jirmeklo_difference(uint32_t x, uint32_t y);
+struct jirmeklo_pair jirmeklo_product(uint32_t x, uint32_t y);
+
+/* Makes 21 words an empty total. A total is a whole number of 2^-298 in 20 words, lowest first, and a count of terms.
+ * Refusal: 5, other than 21 words. */
+uint32_t jirmeklo_clear(uint32_t *total, size_t words);
+
+/* Adds a term, the pattern x or the product of x and y, exactly.
+ * Refusals: 5, other than 21 words; 6, an unfit total (a count above 65,536, or a magnitude above count * 2^554);
+ * 7, an infinite or NaN operand; 8, the count is 65,536. */
+uint32_t jirmeklo_add_pattern(uint32_t *total, size_t words, uint32_t x);
+uint32_t jirmeklo_add_product(uint32_t *total, size_t words, uint32_t x, uint32_t y);
+
+/* Reads a total as a pair: first is the total rounded, second the rest rounded. Refusals: 5 and 6, as in adding. */
+struct jirmeklo_reading jirmeklo_read(const uint32_t *total, size_t words);
+
+/* Writes the step sheet of an operation (1 sum, 2 difference, 3 product) into the first 65 words: up to 13 lines of five
+ * words, which are the step (1 add, 2 sub, 3 mul, 4 fma), three operands and the result; then zeros.
+ * Refusals: 10, another operation; 9, fewer than 65 words. */
+struct jirmeklo_filled jirmeklo_fill(uint32_t operation, uint32_t x, uint32_t y, uint32_t *words, size_t count);
+
+/* Fills the sheets of a list of questions, one after the other, the ith into the first counts[i] of the words. Where its
+ * pair is finite and exact, adds the pair to the first total, and what was asked to the second: both then hold one number.
+ * Refusals: 101, operations, xs, ys and counts are not equally long; 102, more than 32,768 questions;
+ * 103, a total that is not 21 zeros; 104, one of counts is more than the words. */
+uint32_t jirmeklo_replay(const uint32_t *operations, size_t operations_count,
+                         const uint32_t *xs, size_t xs_count,
+                         const uint32_t *ys, size_t ys_count,
+                         const uint32_t *counts, size_t counts_count,
+                         uint32_t *words, size_t words_count,
+                         uint32_t *first, size_t first_count,
+                         uint32_t *second, size_t second_count);
+
+#ifdef __cplusplus
+}
+#endif
+
+#endif

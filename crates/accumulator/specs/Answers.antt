@@ -1,4 +1,4 @@
--- The answers of the code's calls: document 01's number and values for each case of its enums.
+-- What each case of the calls' enums stands for: the refusal's number, or what the call answers (R8.7 to R8.9).
 use Rattle.pattern_spec.specs.Answer.{Answer, refused, done}
 use Rattle.accumulator_spec.specs.Totals.{TwoPatterns, pair}
 use Rattle.accumulator.specs.declared.Cleared.{Cleared}
@@ -8,10 +8,12 @@ use Rattle.accumulator.specs.declared.Cleared.the-variants as the-cleare
 use Rattle.accumulator.specs.declared.Added.the-variants as the-added
 use Rattle.accumulator.specs.declared.Reading.the-variants as the-reading
 
+-- R8.9
 abbrev pub answerCleared : Cleared → Answer (Unit {0})
 answerCleared the-cleared.Done = done tt
 answerCleared the-cleared.Length = refused 5
 
+-- R8.7
 abbrev pub answerAdded : Added → Answer (Unit {0})
 answerAdded the-added.Done = done tt
 answerAdded the-added.Length = refused 5
@@ -19,6 +21,7 @@ answerAdded the-added.Unfit = refused 6
 answerAdded the-added.NotFinite = refused 7
 answerAdded the-added.Full = refused 8
 
+-- R8.8
 abbrev pub answerRead : Reading → Answer TwoPatterns
 answerRead (the-reading.Pair first second) = pair first second
 answerRead the-reading.Length = refused 5

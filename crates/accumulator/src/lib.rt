@@ -1,6 +1,7 @@
-// Exact totals of up to 65,536 patterns and products of two patterns, in 21 lent words.
+// Exact totals of patterns and products of two patterns, in lent words (R6).
+use accumulator_spec::TOTAL_SIZE;
 ghost use mathlib.Core.Path.{_≡_};
-ghost use Rattle.accumulator_spec.specs.Totals.{ofPattern, ofProduct, adding, afterAdding, clearing, afterClearing, reading};
+ghost use Rattle.accumulator_spec.specs.Totals.{isCleared, ofPattern, ofProduct, Adds, Clears, reading};
 ghost use Rattle.accumulator_add.specs.Inner.{numbered};
 ghost use Rattle.accumulator.specs.Answers.{answerCleared, answerAdded, answerRead};
 
@@ -23,29 +24,39 @@ pub enum Reading {
     Unfit,
 }
 
-// Any 21 words: a total that is damaged can be cleared.
+// Whatever the words are: a total that is damaged can be cleared.
 pub fn clear(total: &mut [u32]) -> Cleared
-    ensures { λ r. ⌜ (answerCleared r ≡ clearing (now (total .entry))) × (now (total .exit) ≡ afterClearing (now (total .entry))) ⌝ }
+    ensures { λ r. ⌜ Clears (now (total .entry)) (answerCleared r) (now (total .exit)) ⌝ }
 {
-    if total.len() != 21 {
+    if total.len() != TOTAL_SIZE {
         return Cleared::Length;
     }
     let mut i: usize = 0;
-    while i < 21 {
+    while i < TOTAL_SIZE {
         total[i] = 0;
         i += 1;
     }
     Cleared::Done
 }
 
+// Whether it is as `clear` leaves it.
+pub fn is_cleared(total: &[u32]) -> bool
+    ensures { λ r. ⌜ r ≡ isCleared (now (total .entry)) ⌝ }
+{
+    if total.len() != TOTAL_SIZE {
+        return false;
+    }
+    accumulator_words::is_zero(total)
+}
+
 pub fn add_pattern(total: &mut [u32], x: u32) -> Added
-    ensures { λ r. ⌜ (answerAdded r ≡ adding (now (total .entry)) (ofPattern x)) × (now (total .exit) ≡ afterAdding (now (total .entry)) (ofPattern x)) ⌝ }
+    ensures { λ r. ⌜ Adds (now (total .entry)) (ofPattern x) (answerAdded r) (now (total .exit)) ⌝ }
 {
     named(accumulator_add::add_pattern(total, x))
 }
 
 pub fn add_product(total: &mut [u32], x: u32, y: u32) -> Added
-    ensures { λ r. ⌜ (answerAdded r ≡ adding (now (total .entry)) (ofProduct x y)) × (now (total .exit) ≡ afterAdding (now (total .entry)) (ofProduct x y)) ⌝ }
+    ensures { λ r. ⌜ Adds (now (total .entry)) (ofProduct x y) (answerAdded r) (now (total .exit)) ⌝ }
 {
     named(accumulator_add::add_product(total, x, y))
 }

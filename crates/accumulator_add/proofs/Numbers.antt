@@ -6,8 +6,8 @@ use Prim.Native.Nat.{ℕ}
 use Rattle.pattern_spec.specs.Answer.{refused, done}
 use Rattle.accumulator_spec.specs.Totals.{Term, adding, afterAdding}
 use Rattle.accumulator_spec.proofs.Answers.{adding-length, adding-unfit, refuses}
-use Rattle.accumulator_fit.specs.Inner.{lent}
-use Rattle.accumulator_fit.proofs.Lent.{by-number}
+use Rattle.accumulator_words.specs.Inner.{lent}
+use Rattle.accumulator_words.proofs.Lent.{by-number}
 use Rattle.accumulator_add.specs.Inner.{numbered}
 
 pub lent-adds : (t : List ℕ) → (lent t ≡ 0 → ⊥) → (x : Term) → (numbered (lent t) ≡ adding t x) × (t ≡ afterAdding t x)

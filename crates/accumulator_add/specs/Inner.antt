@@ -1,15 +1,23 @@
--- The numbers that answers go by inside the library. No public contract of `accumulator` cites it.
-use Prim.Native.Nat.{ℕ}
+-- The numbers that answers go by below the calls of `accumulator`, and what adding to a fit total promises.
+use Prim.Native.Nat.{ℕ, suc}
+use mathlib.Core.Path.{_≡_}
 use mathlib.Core.Bool.{Bool, not, cond}
 use mathlib.Core.List.{List}
 use lib.Dec.{eqb}
+use lib.IntN.{ℤ, _+ℤ_}
 use Rattle.pattern_spec.specs.Answer.{Answer, refused, done}
-use Rattle.accumulator_spec.specs.Totals.{count}
+use Rattle.accumulator_spec.specs.Totals.{mostTerms, number, count, totalOf}
 
--- what a number says: 0 that the term was added, 5 to 8 a refusal
+-- what a number says: 0 that the term was added, 5 to 8 a refusal (R8.7)
 abbrev pub numbered : ℕ → Answer (Unit {0})
 numbered n = cond (eqb n 0) (done tt) (cond (eqb n 5) (refused 5) (cond (eqb n 6) (refused 6) (cond (eqb n 7) (refused 7) (refused 8))))
 
 -- one term more can be counted
 abbrev pub hasRoom : List ℕ → Bool
-hasRoom t = not (eqb (count t) 65536)
+hasRoom t = not (eqb (count t) mostTerms)
+
+-- a fit total that a term with the number z goes into: the answer's number, and the words as they end
+abbrev pub AddsNumber : List ℕ → ℤ → ℕ → List ℕ → Type 0
+AddsNumber before z answer after =
+    (answer ≡ cond (hasRoom before) 0 8)
+    × (after ≡ cond (hasRoom before) (totalOf (number before +ℤ z) (suc (count before))) before)

@@ -1,23 +1,24 @@
-// Terms of a total: patterns, and products of two. A call answers by document 01's number of the refusal, or by 0;
-// free is which number stands for 8 (`numbered`).
+// Terms of a total: patterns, and products of two (R6.2). A call answers by the refusal's number (R8.7), or by 0; free is which number
+// stands for 8 (`numbered`).
+use accumulator_spec::MOST_TERMS;
+use accumulator_spec::NUMBER_SIZE;
+use accumulator_words::fit::refusal;
 use exact;
 use pattern::classify;
 use pattern_spec::Class;
 ghost use mathlib.Core.Path.{_≡_};
-ghost use mathlib.Core.Bool.{cond};
-ghost use Prim.Native.Nat.{suc, _*_, _^_, _≤_};
+ghost use Prim.Native.Nat.{_*_, _^_, _≤_};
 ghost use lib.ListN.{length};
-ghost use lib.IntN.{_+ℤ_};
 ghost use Rattle.pattern_spec.specs.Exact.{int};
-ghost use Rattle.accumulator_spec.specs.Totals.{number, count, totalOf, ofPattern, ofProduct, adding, afterAdding};
-ghost use Rattle.accumulator_add.specs.Inner.{numbered, hasRoom};
+ghost use Rattle.accumulator_spec.specs.Totals.{numberSize, totalSize, mostTerms, count, ofPattern, ofProduct, Adds};
+ghost use Rattle.accumulator_add.specs.Inner.{numbered, AddsNumber};
 
 pub fn add_pattern(total: &mut [u32], x: u32) -> u32
-    ensures { λ r. ⌜ (numbered r ≡ adding (now (total .entry)) (ofPattern x)) × (now (total .exit) ≡ afterAdding (now (total .entry)) (ofPattern x)) ⌝ }
+    ensures { λ r. ⌜ Adds (now (total .entry)) (ofPattern x) (numbered r) (now (total .exit)) ⌝ }
 {
-    let refusal = accumulator_fit::refusal(total);
-    if refusal != 0 {
-        return refusal;
+    let wrong = refusal(total);
+    if wrong != 0 {
+        return wrong;
     }
     let a = classify(x);
     match a {
@@ -29,11 +30,11 @@ pub fn add_pattern(total: &mut [u32], x: u32) -> u32
 }
 
 pub fn add_product(total: &mut [u32], x: u32, y: u32) -> u32
-    ensures { λ r. ⌜ (numbered r ≡ adding (now (total .entry)) (ofProduct x y)) × (now (total .exit) ≡ afterAdding (now (total .entry)) (ofProduct x y)) ⌝ }
+    ensures { λ r. ⌜ Adds (now (total .entry)) (ofProduct x y) (numbered r) (now (total .exit)) ⌝ }
 {
-    let refusal = accumulator_fit::refusal(total);
-    if refusal != 0 {
-        return refusal;
+    let wrong = refusal(total);
+    if wrong != 0 {
+        return wrong;
     }
     let p = exact::product(x, y);
     match p {
@@ -43,18 +44,16 @@ pub fn add_product(total: &mut [u32], x: u32, y: u32) -> u32
     }
 }
 
-// Adds ±sig * 2^exp to a fit total, into the words from its lowest one upward, if there is room for one term more.
+// Adds ±sig * 2^exp to a fit total, if there is room for one term more.
 fn add(total: &mut [u32], minus: bool, sig: u64, exp: u16) -> u32
-    requires { ⌜ (length (now total) ≡ 21) × (count (now total) ≤ 65536) × (exp ≤ 640) ⌝ }
-    ensures { λ r. ⌜ r ≡ cond (hasRoom (now (total .entry))) 0 8 ⌝ }
-    ensures { λ r. ⌜ now (total .exit) ≡ cond (hasRoom (now (total .entry))) (totalOf (number (now (total .entry)) +ℤ int minus (sig * 2 ^ exp)) (suc (count (now (total .entry))))) (now (total .entry)) ⌝ }
+    requires { ⌜ (length (now total) ≡ totalSize) × (count (now total) ≤ mostTerms) × (exp ≤ 32 * numberSize) ⌝ }
+    ensures { λ r. ⌜ AddsNumber (now (total .entry)) (int minus (sig * 2 ^ exp)) r (now (total .exit)) ⌝ }
 {
-    let n = total[20];
-    if n == 65536 {
+    let n = total[NUMBER_SIZE];
+    if n == MOST_TERMS {
         return 8;
     }
-    let w = (exp / 32) as usize;
-    accumulator_words::add(&mut total[w..20], minus, sig, exp);
-    total[20] = n + 1;
+    accumulator_words::add(&mut total[0..NUMBER_SIZE], minus, sig, exp);
+    total[NUMBER_SIZE] = n + 1;
     0
 }

@@ -4,8 +4,8 @@ use mathlib.Core.List.{List}
 use Prim.Native.Nat.{ℕ}
 use Rattle.accumulator_spec.specs.Totals.{reading}
 use Rattle.accumulator_spec.proofs.Answers.{reading-length, reading-unfit}
-use Rattle.accumulator_fit.specs.Inner.{lent}
-use Rattle.accumulator_fit.proofs.Lent.{by-number}
+use Rattle.accumulator_words.specs.Inner.{lent}
+use Rattle.accumulator_words.proofs.Lent.{by-number}
 use Rattle.accumulator_read.specs.Inner.{replied}
 
 pub lent-replied : (t : List ℕ) → (lent t ≡ 0 → ⊥) → replied (lent t) 0 0 ≡ reading t

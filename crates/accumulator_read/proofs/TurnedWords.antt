@@ -25,11 +25,15 @@ module _ (s : Bool) (ws : List ℕ) where
 
     write : set (upto i) i (turn s (getD ws i 0)) ≡ upto (suc i)
     write =
-        rw (drop-cons ws i 0 inside, set-at (map (turn s) (take i ws)) (getD ws i 0) (drop (suc i) ws) (turn s (getD ws i 0)) i seam, take-suc ws i 0 inside, map-append (turn s) (take i ws) (getD ws i 0 ∷ []), append-assoc)
+        let w = getD ws i 0 in
+        let done = set-at (map (turn s) (take i ws)) w (drop (suc i) ws) (turn s w) i seam in
+        rw (drop-cons ws i 0 inside, done, take-suc ws i 0 inside, map-append (turn s) (take i ws) (w ∷ []), append-assoc)
 
     pub next : (xs : List ℕ) (m : ℕ) → Words ws → m ≡ cond s 0xffff_ffff 0 → xs ≡ upto i → set xs i (bitXor (getD xs i 0) m) ≡ upto (i + 1)
     next xs m k e h =
-        ap (λ (ys : List ℕ). set ys i (bitXor (getD ys i 0) m)) h ∙ ap (λ (w : ℕ). set (upto i) i (bitXor w m)) read ∙ ap (set (upto i) i) (turn-xor s (getD ws i 0) m (k i) e) ∙ write ∙ ap upto (sym (add-one i))
+        let turning = turn-xor s (getD ws i 0) m (k i) e in
+        ap (λ (ys : List ℕ). set ys i (bitXor (getD ys i 0) m)) h ∙ ap (λ (w : ℕ). set (upto i) i (bitXor w m)) read ∙ ap (set (upto i) i) turning ∙ write
+        ∙ ap upto (sym (add-one i))
 
   pub whole : (i : ℕ) → length ws ≤ i → upto i ≡ cond s (map complement ws) ws
   whole i h = rw (take-all i ws h, drop-of-length-le ws, append-nil (map (turn s) ws)) (by-sign s)

@@ -1,10 +1,10 @@
--- The numbers that a reply goes by inside the library. No public contract of `accumulator` cites it.
+-- The numbers that a reply goes by below the calls of `accumulator`.
 use Prim.Native.Nat.{ℕ}
 use mathlib.Core.Bool.{cond}
 use lib.Dec.{eqb}
 use Rattle.pattern_spec.specs.Answer.{Answer, refused}
 use Rattle.accumulator_spec.specs.Totals.{TwoPatterns, pair}
 
--- what a reply says: 0 that the pair was read, 5 or 6 a refusal
+-- what a reply says: 0 that the pair was read, 5 or 6 a refusal (R8.8)
 abbrev pub replied : ℕ → ℕ → ℕ → Answer TwoPatterns
 replied refusal first second = cond (eqb refusal 0) (pair first second) (cond (eqb refusal 5) (refused 5) (refused 6))

@@ -1,4 +1,5 @@
-// The magnitude of a number in 20 words, and its leading digits: what rounding asks of it.
+// The magnitude of a total's number, and its leading digits: what rounding asks of it.
+use accumulator_spec::NUMBER_SIZE;
 use choose::choose;
 use choose::choose_pattern;
 ghost use mathlib.Core.Path.{_≡_};
@@ -8,24 +9,30 @@ ghost use lib.IntN.{natAbs};
 ghost use Rattle.accumulator_spec.specs.Words.{natural, integer, complement};
 ghost use Rattle.accumulator_spec.specs.Inner.{Leading};
 
+// The word that shows the sign.
+pub const TOP: usize = NUMBER_SIZE - 1;
+
+// The number's digits in all.
+const DIGITS: u16 = 32 * NUMBER_SIZE as u16;
+
 // The complement and one more, for a negative number. That of -2^639 has room too.
-pub fn magnitude(number: [u32; 20]) -> [u32; 20]
+pub fn magnitude(number: [u32; NUMBER_SIZE]) -> [u32; NUMBER_SIZE]
     ensures { λ r. ⌜ natural r ≡ natAbs (integer number) ⌝ }
 {
-    let minus = number[19] >= 0x8000_0000;
+    let minus = number[TOP] >= 0x8000_0000;
     let mut words = turned(number, minus);
-    accumulator_words::add(&mut words[0..20], false, choose(minus, 1, 0), 0);
+    accumulator_words::add(&mut words[0..NUMBER_SIZE], false, choose(minus, 1, 0), 0);
     words
 }
 
 // The words themselves, or their complements.
-fn turned(number: [u32; 20], minus: bool) -> [u32; 20]
+fn turned(number: [u32; NUMBER_SIZE], minus: bool) -> [u32; NUMBER_SIZE]
     ensures { λ r. ⌜ r ≡ cond minus (map complement number) number ⌝ }
 {
     let mask = choose_pattern(minus, 0xffff_ffff, 0);
     let mut words = number;
     let mut i: usize = 0;
-    while i < 20 {
+    while i < NUMBER_SIZE {
         words[i] = words[i] ^ mask;
         i += 1;
     }
@@ -40,12 +47,12 @@ pub struct Digits {
 
 // The first digits from the highest on, 33 to 64 of them; of those below, only whether there are any. How significand and exponent share
 // the number is free within `Leading`.
-pub fn first_digits(words: [u32; 20]) -> Digits
+pub fn first_digits(words: [u32; NUMBER_SIZE]) -> Digits
     ensures { λ r. ⌜ Leading (natural words) (r .sig) (r .exp) ⌝ }
 {
     let mut sig: u64 = 0;
-    let mut exp: u16 = 640;
-    let mut i: usize = 20;
+    let mut exp: u16 = DIGITS;
+    let mut i: usize = NUMBER_SIZE;
     while i > 0 {
         i -= 1;
         let w = wide(words[i]);

@@ -1,6 +1,9 @@
-// What a total reads: RN0 of its number, and RN0 of the number less that.
+// What a total reads: RN0 of its number, and RN0 of the number less that (R6.5 to R6.8).
 mod leading;
 
+use accumulator_spec::NUMBER_SIZE;
+use accumulator_words::fit::refusal;
+use leading::TOP;
 use leading::first_digits;
 use leading::magnitude;
 use pattern::classify;
@@ -17,10 +20,10 @@ ghost use Rattle.rounding_spec.specs.Value.{encode, round};
 ghost use Rattle.pattern_spec.specs.Exact.{int};
 ghost use Rattle.augmented_spec.specs.Pairs.{pairOf};
 ghost use Rattle.accumulator_spec.specs.Words.{integer, wordsOfInteger};
-ghost use Rattle.accumulator_spec.specs.Totals.{exact, pairAnswer, reading};
+ghost use Rattle.accumulator_spec.specs.Totals.{numberSize, totalSize, exactNumber, pairAnswer, reading};
 ghost use Rattle.accumulator_read.specs.Inner.{replied};
 
-// Document 01's number of the refusal; or 0, and the pair. Free are the halves of a refusal, and which number stands for 6 (`replied`).
+// The refusal's number (R8.8); or 0, and the pair. Free are the halves of a refusal, and which number stands for 6 (`replied`).
 pub struct Reply {
     pub refusal: u32,
     pub first: u32,
@@ -30,10 +33,10 @@ pub struct Reply {
 pub fn read(total: &[u32]) -> Reply
     ensures { λ r. ⌜ replied (r .refusal) (r .first) (r .second) ≡ reading (now (total .entry)) ⌝ }
 {
-    let refusal = accumulator_fit::refusal(total);
-    if refusal != 0 {
+    let wrong = refusal(total);
+    if wrong != 0 {
         return Reply {
-            refusal,
+            refusal: wrong,
             first: 0,
             second: 0,
         };
@@ -42,13 +45,13 @@ pub fn read(total: &[u32]) -> Reply
 }
 
 // The number's words, which are not changed where they were lent.
-fn copied(total: &[u32]) -> [u32; 20]
-    requires { ⌜ length (now total) ≡ 21 ⌝ }
-    ensures { λ r. ⌜ r ≡ take 20 (now (total .entry)) ⌝ }
+fn copied(total: &[u32]) -> [u32; NUMBER_SIZE]
+    requires { ⌜ length (now total) ≡ totalSize ⌝ }
+    ensures { λ r. ⌜ r ≡ take numberSize (now (total .entry)) ⌝ }
 {
-    let mut number = [0; 20];
+    let mut number = [0; NUMBER_SIZE];
     let mut i: usize = 0;
-    while i < 20 {
+    while i < NUMBER_SIZE {
         number[i] = total[i];
         i += 1;
     }
@@ -56,9 +59,9 @@ fn copied(total: &[u32]) -> [u32; 20]
 }
 
 // Second is rounded from the words that are left when first is taken away. RN0 of a number is never NaN.
-fn of_number(number: [u32; 20]) -> Reply
+fn of_number(number: [u32; NUMBER_SIZE]) -> Reply
     requires { ⌜ natAbs (integer number) < 2 ^ 639 ⌝ }
-    ensures { λ r. ⌜ replied (r .refusal) (r .first) (r .second) ≡ pairAnswer (pairOf binary32 (exact (integer number))) ⌝ }
+    ensures { λ r. ⌜ replied (r .refusal) (r .first) (r .second) ≡ pairAnswer (pairOf binary32 (exactNumber (integer number))) ⌝ }
 {
     let first = rounded(number);
     let a = classify(first);
@@ -85,21 +88,20 @@ fn of_number(number: [u32; 20]) -> Reply
 }
 
 // The number and ±sig * 2^exp.
-fn moved(number: [u32; 20], minus: bool, sig: u64, exp: u16) -> [u32; 20]
-    requires { ⌜ exp ≤ 640 ⌝ }
-    ensures { λ r. ⌜ r ≡ wordsOfInteger 20 (integer number +ℤ int minus (sig * 2 ^ exp)) ⌝ }
+fn moved(number: [u32; NUMBER_SIZE], minus: bool, sig: u64, exp: u16) -> [u32; NUMBER_SIZE]
+    requires { ⌜ exp ≤ 32 * numberSize ⌝ }
+    ensures { λ r. ⌜ r ≡ wordsOfInteger numberSize (integer number +ℤ int minus (sig * 2 ^ exp)) ⌝ }
 {
     let mut sum = number;
-    let w = (exp / 32) as usize;
-    accumulator_words::add(&mut sum[w..20], minus, sig, exp);
+    accumulator_words::add(&mut sum[0..NUMBER_SIZE], minus, sig, exp);
     sum
 }
 
 // RN0 of the number.
-fn rounded(number: [u32; 20]) -> u32
-    ensures { λ r. ⌜ r ≡ encode binary32 (round ToZero binary32 (exact (integer number))) ⌝ }
+fn rounded(number: [u32; NUMBER_SIZE]) -> u32
+    ensures { λ r. ⌜ r ≡ encode binary32 (round ToZero binary32 (exactNumber (integer number))) ⌝ }
 {
-    let minus = number[19] >= 0x8000_0000;
+    let minus = number[TOP] >= 0x8000_0000;
     let top = first_digits(magnitude(number));
     rounding::round(Ties::ToZero, minus, top.sig, top.exp)
 }

@@ -48,6 +48,13 @@ module _ (ws : List ℕ) (words : Words ws) (s : Bool) (sig exp : ℕ) (fits : e
       ∙ part-added ws w words (omega arith) s (sig * 2 ^ (exp % 32))
       ∙ ap (λ (x : ℕ). wordsOfInteger (length ws) (integer ws +ℤ int s x)) (weighed sig exp)
 
+-- All words of a number, lent as they are.
+pub number-term : (ws : List ℕ) (s : Bool) (sig exp : ℕ) (new : List ℕ) → length ws ≡ numberSize → new ≡ afterTerm (take numberSize ws) s sig exp
+    → new ++ drop numberSize ws ≡ wordsOfInteger numberSize (integer ws +ℤ int s (sig * 2 ^ exp))
+number-term ws s sig exp new l e =
+    ap₂ (λ (xs ys : List ℕ). xs ++ ys) (e ∙ ap (λ (xs : List ℕ). afterTerm xs s sig exp) (take-all numberSize ws (le-of-eq l))) (drop-of-length-le ws (le-of-eq l))
+    ∙ append-nil _ ∙ ap (λ (k : ℕ). wordsOfInteger k (integer ws +ℤ int s (sig * 2 ^ exp))) l
+
 -- The words of the number moved by a term, and the count behind them raised.
 pub total-term : (t : List ℕ) (s : Bool) (sig exp n : ℕ) (new : List ℕ) → length t ≡ totalSize → new ≡ afterTerm (take numberSize t) s sig exp
     → set (new ++ drop numberSize t) numberSize (n + 1) ≡ totalOf (number t +ℤ int s (sig * 2 ^ exp)) (suc n)

@@ -8,15 +8,16 @@ use native.Mathlib.Numerals.{add-one}
 use native.Mathlib.Omega.{arith}
 use borrow.Author.Tests.{leb-true, leb-false}
 use lib.Dec.{leb}
-use lib.IntN.{pos, negsuc, natAbs}
-use lib.ListN.{length, take, getD, drop-of-length-le}
+use lib.IntN.{ℤ, pos, negsuc, natAbs, _+ℤ_}
+use lib.ListN.{length, length-map, take, getD, drop-of-length-le}
 use lib.Seq.{split-at, length-take-le}
 use Rattle.rounding_spec.specs.Value.{finite}
-use Rattle.accumulator_spec.specs.Words.{Words, natural, integer, wordsOfNatural, complement}
+use Rattle.accumulator_spec.specs.Words.{Words, natural, integer, wordsOfInteger, complement}
 use Rattle.accumulator_spec.proofs.Append.{base-suc, natural-append}
 use Rattle.accumulator_spec.proofs.Parts.{take-words}
 use Rattle.accumulator_spec.proofs.TwosComplement.{natural-back, natural-complement, integer-positive, integer-negative}
 use Rattle.accumulator_spec.specs.Totals.{exactNumber}
+use Rattle.accumulator_spec.specs.Inner.{afterTerm}
 
 -- over a variable b, as a power of two is one for omega
 module _ (l b w : ℕ) where
@@ -35,6 +36,9 @@ module _ (a b c : ℕ) (e : c + a + 1 ≡ b) where
 
   whole-lt : 2 * a < b → a + 0 < b
   whole-lt h = omega arith
+
+  half-lt : b ≤ 2 * a → 2 * c < b
+  half-lt h = omega arith
 
   one-more-lt : b ≤ 2 * a → c + 1 < b
   one-more-lt h = omega arith
@@ -78,12 +82,18 @@ module _ (k : ℕ) (ws : List ℕ) (full : length ws ≡ suc k) (words : Words w
   exact-top true e = rw (negative (leb-true (2 ^ 31) top (sym e)))
 
   -- as the code makes it: there is room in as many words, for the least number too
-  pub magnitude-top : (s : Bool) → s ≡ leb (2 ^ 31) top → natural (wordsOfNatural (length ws) (natural (cond s (map complement ws) ws) + cond s 1 0)) ≡ natAbs (integer ws)
+  pub magnitude-top : (s : Bool) → s ≡ leb (2 ^ 31) top → natural (afterTerm (cond s (map complement ws) ws) false (cond s 1 0) 0) ≡ natAbs (integer ws)
+  unfolding wordsOfInteger
   magnitude-top false e =
       let h = leb-false (2 ^ 31) top (sym e) in
-      let r = natural-back (length ws) (natural ws + 0) (whole-lt (natural ws) (2 ^ (32 * length ws)) (natural (map complement ws)) (natural-complement ws words) (lower-half h)) in
-      r ∙ add-zero (natural ws) ∙ ap natAbs (sym (positive h))
+      let c = natural-complement ws words in
+      let r = natural-back (length ws) (natural ws + 0) (whole-lt (natural ws) (2 ^ (32 * length ws)) (natural (map complement ws)) c (lower-half h)) in
+      ap (λ (z : ℤ). natural (wordsOfInteger (length ws) (z +ℤ pos 0))) (positive h) ∙ r ∙ add-zero (natural ws) ∙ ap natAbs (sym (positive h))
   magnitude-top true e =
       let h = leb-true (2 ^ 31) top (sym e) in
-      let r = natural-back (length ws) (natural (map complement ws) + 1) (one-more-lt (natural ws) (2 ^ (32 * length ws)) (natural (map complement ws)) (natural-complement ws words) (upper-half h)) in
-      r ∙ add-one (natural (map complement ws)) ∙ ap natAbs (sym (negative h))
+      let cs = map complement ws in
+      let l : length cs ≡ length ws = length-map ws complement in
+      let c = natural-complement ws words in
+      let i = integer-positive cs (rw l (half-lt (natural ws) (2 ^ (32 * length ws)) (natural cs) c (upper-half h))) in
+      let r = natural-back (length cs) (natural cs + 1) (rw l (one-more-lt (natural ws) (2 ^ (32 * length ws)) (natural cs) c (upper-half h))) in
+      ap (λ (z : ℤ). natural (wordsOfInteger (length cs) (z +ℤ pos 1))) i ∙ r ∙ add-one (natural cs) ∙ ap natAbs (sym (negative h))

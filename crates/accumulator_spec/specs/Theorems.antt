@@ -198,7 +198,7 @@ ReadFinite =
     (t : List ℕ) (s : Bool) (a : ℕ) → FitTotal t → RN0 binary32 (exactNumber (number t)) ≡ finite s a
     → reading t
     ≡ pair (encode binary32 (finite s a))
-      (zeroPattern s (encode binary32 (RN0 binary32 (exactNumber (number t +ℤ int (not s) (a * 2 ^ 149))))))
+    (zeroPattern s (encode binary32 (RN0 binary32 (exactNumber (number t +ℤ int (not s) (a * 2 ^ 149))))))
 
 -- R6.7: strictly above 2 ^ 128 - 2 ^ 103
 abbrev pub ReadOverflow : Type 0

@@ -1,9 +1,13 @@
 // Direct pairs of two binary32 patterns: the result rounded to nearest with ties to zero, RN0 of what that left over, and the flags.
-use augmented_pack::raised;
+mod raised;
+
 pub use augmented_spec::Flags;
 pub use augmented_spec::Pair;
 use pattern::flipped;
+use pattern::infinity;
 use pattern::is_finite;
+use pattern_spec::Class;
+use pattern_spec::NAN;
 ghost use mathlib.Core.Path.{_≡_};
 ghost use mathlib.Core.Bool.{true};
 ghost use Rattle.rounding_spec.specs.Format.{binary32};
@@ -19,8 +23,8 @@ pub fn sum(x: u32, y: u32) -> Pair
     pair(
         x,
         y,
-        augmented_pack::first(both),
-        augmented_pack::second(both),
+        augmented_sum::first(both),
+        augmented_sum::second(both),
     )
 }
 
@@ -32,15 +36,24 @@ pub fn difference(x: u32, y: u32) -> Pair
     pair(
         x,
         z,
-        augmented_pack::first(both),
-        augmented_pack::second(both),
+        augmented_sum::first(both),
+        augmented_sum::second(both),
     )
 }
 
 pub fn product(x: u32, y: u32) -> Pair
     ensures { λ r. ⌜ r ≡ productPair binary32 x y ⌝ }
 {
-    augmented_product::of_patterns(x, y)
+    let total = exact::product(x, y);
+    match total {
+        Class::Finite {
+            sign: s,
+            sig: m,
+            exp: e,
+        } => augmented_product::of_number(s, m, e),
+        Class::Infinite(s) => raised::twice(x, y, infinity(s)),
+        Class::NotANumber => raised::twice(x, y, NAN),
+    }
 }
 
 // A finite first comes from finite operands, and no sum is inexact.

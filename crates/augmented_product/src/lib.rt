@@ -1,16 +1,12 @@
-// Product pairs.
-use augmented_pack::raised;
-use augmented_pack::rest_pattern;
+// Pairs of finite products.
 use augmented_spec::Flags;
 use augmented_spec::Pair;
 use choose::choose_exponent;
 use choose::choose_pattern;
 use choose::choose_sign;
-use pattern::infinity;
 use pattern::is_infinite;
 use pattern::zero_takes;
-use pattern_spec::Class;
-use pattern_spec::NAN;
+use rounding::rest_pattern;
 use rounding::round_with_rest;
 use rounding_spec::Ties;
 ghost use mathlib.Core.Path.{_≡_};
@@ -18,38 +14,11 @@ ghost use mathlib.Core.Bool.{false};
 ghost use Prim.Native.Nat.{_*_, _^_, _<_};
 ghost use Rattle.rounding_spec.specs.Format.{binary32};
 ghost use Rattle.rounding_spec.specs.Value.{finite};
-ghost use Rattle.augmented_spec.specs.Pairs.{pairOf, flagsOf, productPair};
-ghost use Rattle.augmented_spec.specs.Inner.{pairWithoutU, finiteAnswer, productAnswer, ShortRest};
-
-pub fn of_patterns(x: u32, y: u32) -> Pair
-    ensures { λ r. ⌜ r ≡ productPair binary32 x y ⌝ }
-{
-    let total = exact::product(x, y);
-    match total {
-        Class::Finite {
-            sign: s,
-            sig: m,
-            exp: e,
-        } => of_number(s, m, e),
-        Class::Infinite(s) => twice(x, y, infinity(s)),
-        Class::NotANumber => twice(x, y, NAN),
-    }
-}
-
-// An infinite or NaN product stands twice.
-fn twice(x: u32, y: u32, half: u32) -> Pair
-    ensures { λ r. ⌜ r ≡ pairWithoutU x y half half ⌝ }
-{
-    let flags = raised::of_special(x, y, half);
-    Pair {
-        first: half,
-        second: half,
-        flags,
-    }
-}
+ghost use Rattle.augmented_spec.specs.Pairs.{pairOf, flagsOf};
+ghost use Rattle.augmented_spec.specs.Inner.{finiteAnswer, productAnswer, ShortRest};
 
 // Where the exponent is below 149, the rest can have digits below u.
-fn of_number(sign: bool, sig: u64, exp: u16) -> Pair
+pub fn of_number(sign: bool, sig: u64, exp: u16) -> Pair
     requires { ⌜ sig < 2 ^ 48 ⌝ }
     ensures { λ r. ⌜ r ≡ productAnswer sign (sig * 2 ^ exp) ⌝ }
 {

@@ -14,6 +14,5 @@ pub mod SpecialResults
 pub mod SpecialOperands
 pub mod Theorems
 pub mod Patterns
-pub mod Packed
 pub mod Rests
 pub mod Unrounded

@@ -1,6 +1,4 @@
 // Both halves of a sum. They come back in one word, which goes in a register; what is large here is compiled once for sums and differences.
-use augmented_pack::joined;
-use augmented_pack::rest_pattern;
 use choose::choose_exponent;
 use choose::choose_pattern;
 use pattern::classify;
@@ -9,11 +7,12 @@ use pattern::larger;
 use pattern::smaller;
 use pattern::zero_takes;
 use pattern_spec::Class;
+use rounding::rest_pattern;
 use rounding::round_with_rest;
 use rounding_spec::Ties;
 ghost use mathlib.Core.Path.{_≡_};
 ghost use mathlib.Core.Bool.{false};
-ghost use Prim.Native.Nat.{_*_, _^_};
+ghost use Prim.Native.Nat.{_+_, _*_, _/_, _%_, _^_};
 ghost use Rattle.rounding_spec.specs.Format.{binary32};
 ghost use Rattle.rounding_spec.specs.Value.{finite, decode, isFinite};
 ghost use Rattle.pattern_spec.specs.Classes.{classOf};
@@ -37,6 +36,18 @@ pub fn of_patterns(x: u32, y: u32) -> u64
         Class::Infinite(_) => special(p, q),
         Class::NotANumber => special(p, q),
     }
+}
+
+pub fn first(both: u64) -> u32
+    ensures { λ r. ⌜ r ≡ both % 2 ^ 32 ⌝ }
+{
+    (both % 0x1_0000_0000) as u32
+}
+
+pub fn second(both: u64) -> u32
+    ensures { λ r. ⌜ r ≡ both / 2 ^ 32 ⌝ }
+{
+    (both / 0x1_0000_0000) as u32
 }
 
 // From 26 places on the second operand does not reach a quarter of the first one's last place; `exact::sum` goes up to 31.
@@ -93,4 +104,11 @@ fn near(sign: bool, sig: u64, exp: u16) -> u64
     let unit = choose_exponent(over, 0, exp - 149);
     let second = rest_pattern(sign, first.up, first.rest, unit);
     joined(first.pattern, choose_pattern(over, first.pattern, second))
+}
+
+// First in the lower half of a word, second in the upper.
+fn joined(first: u32, second: u32) -> u64
+    ensures { λ r. ⌜ r ≡ first + second * 2 ^ 32 ⌝ }
+{
+    (first as u64) + (second as u64) * 0x1_0000_0000
 }

@@ -87,7 +87,6 @@ fn finite_sum(s: bool, m: u64, e: u16, t: bool, n: u64, d: u16) -> u32
     round_sum(s, m << gap, t, n, d + 149)
 }
 
-// ±a * 2^exp and ±b * 2^exp units of 2^-298.
 pub fn round_sum(s: bool, a: u64, t: bool, b: u64, exp: u16) -> u32
     requires { ⌜ (a < 2 ^ 63) × (b < 2 ^ 63) ⌝ }
     ensures { λ r. ⌜ r ≡ encode binary32 (round ToEven binary32 (plusFinite s (a * 2 ^ exp) t (b * 2 ^ exp))) ⌝ }

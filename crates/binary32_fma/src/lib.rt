@@ -20,7 +20,6 @@ ghost use Rattle.pattern_spec.specs.Inner.{Operand, Product, Bounded, Jammed};
 ghost use Rattle.binary32_spec.specs.Inner.{Normal, Reaches};
 ghost use Rattle.binary32_fma.specs.Inner.{Ordered};
 
-// The product of the first two, and the third.
 pub fn of_patterns(x: u32, y: u32, z: u32) -> u32
     ensures { λ r. ⌜ r ≡ fmaStep x y z ⌝ }
 {
@@ -82,7 +81,6 @@ pub struct Scaled {
     pub exp: u16,
 }
 
-// The same number with a significand of 24 digits.
 fn normalised(c: u64, j: u16) -> Scaled
     requires { ⌜ (0 < c) × (c < 2 ^ 24) × (149 ≤ j) ⌝ }
     ensures { λ r. ⌜ Normal c j (r .sig) (r .exp) ⌝ }

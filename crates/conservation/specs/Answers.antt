@@ -1,4 +1,4 @@
--- The answers of the code's call: the number of each case of its enum (specs/Replay.antt).
+-- The answers of `replay`: the number of each case of its enum (R8.12, R11.4).
 use Rattle.pattern_spec.specs.Answer.{Answer, refused, done}
 use Rattle.conservation.specs.declared.Replayed.{Replayed}
 use Rattle.conservation.specs.declared.Replayed.the-variants as the-replayed

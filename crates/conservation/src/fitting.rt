@@ -1,12 +1,13 @@
 // What is wrong with the lent arrays and totals. Nothing is written here.
 use crate::Replayed;
+use accumulator::is_cleared;
+use conservation_spec::MOST_QUESTIONS;
 ghost use mathlib.Core.Path.{_≡_};
 ghost use mathlib.Core.Bool.{not, _&&_};
 ghost use lib.Dec.{eqb};
-ghost use lib.ListN.{length};
 ghost use Rattle.pattern_spec.specs.Answer.{isDone};
 ghost use Rattle.conservation.specs.Answers.{answerReplayed};
-ghost use Rattle.conservation_spec.specs.Replay.{allZero, isCleared, allWithin, replaying};
+ghost use Rattle.conservation_spec.specs.Replay.{allWithin, replaying};
 
 // `Done` where nothing is wrong.
 pub fn answer(
@@ -16,21 +17,23 @@ pub fn answer(
     counts: &[u32],
     words: &[u32],
     first: &[u32],
-    second: &[u32],
+    other: &[u32],
 ) -> Replayed
-    ensures { λ r. ⌜ answerReplayed r ≡ replaying (now (operations .entry)) (now (xs .entry)) (now (ys .entry)) (now (counts .entry)) (now (words .entry)) (now (first .entry)) (now (second .entry)) ⌝ }
+    ensures { λ r. ⌜ answerReplayed r ≡ replaying
+        (record { operations = now (operations .entry); xs = now (xs .entry); ys = now (ys .entry); counts = now (counts .entry) })
+        (record { words = now (words .entry); totals = record { first = now (first .entry); other = now (other .entry) } }) ⌝ }
 {
     let asked = operations.len();
     if !all_equal(asked, xs.len(), ys.len(), counts.len()) {
         return Replayed::Unequal;
     }
-    if asked > 32768 {
+    if asked > MOST_QUESTIONS {
         return Replayed::TooMany;
     }
     if !is_cleared(first) {
         return Replayed::NotCleared;
     }
-    if !is_cleared(second) {
+    if !is_cleared(other) {
         return Replayed::NotCleared;
     }
     if !all_within(counts, words.len()) {
@@ -61,28 +64,6 @@ fn all_equal(asked: usize, xs: usize, ys: usize, counts: usize) -> bool
         return false;
     }
     counts == asked
-}
-
-fn is_cleared(total: &[u32]) -> bool
-    ensures { λ r. ⌜ r ≡ isCleared (now (total .entry)) ⌝ }
-{
-    if total.len() != 21 {
-        return false;
-    }
-    all_zero(total)
-}
-
-fn all_zero(words: &[u32]) -> bool
-    ensures { λ r. ⌜ r ≡ allZero (now (words .entry)) ⌝ }
-{
-    let mut i: usize = 0;
-    while i < words.len() {
-        if words[i] != 0 {
-            return false;
-        }
-        i += 1;
-    }
-    true
 }
 
 fn all_within(counts: &[u32], most: usize) -> bool

@@ -6,11 +6,9 @@ ghost use mathlib.Core.Path.{_≡_};
 ghost use mathlib.Core.Bool.{true};
 ghost use lib.ListN.{length};
 ghost use Rattle.conservation.specs.Answers.{answerReplayed};
-ghost use Rattle.conservation_spec.specs.Lists.{run};
-ghost use Rattle.conservation_spec.specs.Replay.{eventsOf, wordsAfter, allWithin, replaying, totalsAfter, wordsLeft};
-ghost use Rattle.conservation_spec.specs.ReplayTheorems.{Conserves};
+ghost use Rattle.conservation_spec.specs.Replay.{afterAsking, allWithin, Replays};
 
-// Carried out, or refused by 101 to 104 in this order.
+// Carried out, or refused by 101 to 104 in this order (R8.12).
 pub enum Replayed {
     Done,
     Unequal,
@@ -28,19 +26,19 @@ pub fn replay(
     counts: &[u32],
     words: &mut [u32],
     first: &mut [u32],
-    second: &mut [u32],
+    other: &mut [u32],
 ) -> Replayed
-    ensures { λ r. ⌜ answerReplayed r ≡ replaying (now (operations .entry)) (now (xs .entry)) (now (ys .entry)) (now (counts .entry)) (now (words .entry)) (now (first .entry)) (now (second .entry)) ⌝ }
-    ensures { λ r. ⌜ now (first .exit) ≡ totalsAfter (now (operations .entry)) (now (xs .entry)) (now (ys .entry)) (now (counts .entry)) (now (words .entry)) (now (first .entry)) (now (second .entry)) .first ⌝ }
-    ensures { λ r. ⌜ now (second .exit) ≡ totalsAfter (now (operations .entry)) (now (xs .entry)) (now (ys .entry)) (now (counts .entry)) (now (words .entry)) (now (first .entry)) (now (second .entry)) .other ⌝ }
-    ensures { λ r. ⌜ now (words .exit) ≡ wordsLeft (now (operations .entry)) (now (xs .entry)) (now (ys .entry)) (now (counts .entry)) (now (words .entry)) (now (first .entry)) (now (second .entry)) ⌝ }
-    ensures { λ r. ⌜ Conserves (answerReplayed r) (record { first = now (first .entry); other = now (second .entry) }) (record { first = now (first .exit); other = now (second .exit) }) (eventsOf (now (operations .entry)) (now (xs .entry)) (now (ys .entry)) (now (counts .entry)) (now (words .entry))) ⌝ }
+    ensures { λ r. ⌜ Replays
+        (record { operations = now (operations .entry); xs = now (xs .entry); ys = now (ys .entry); counts = now (counts .entry) })
+        (record { words = now (words .entry); totals = record { first = now (first .entry); other = now (other .entry) } })
+        (answerReplayed r)
+        (record { words = now (words .exit); totals = record { first = now (first .exit); other = now (other .exit) } }) ⌝ }
 {
-    let answer = fitting::answer(operations, xs, ys, counts, words, first, second);
+    let answer = fitting::answer(operations, xs, ys, counts, words, first, other);
     if fitting::is_refusal(answer) {
         return answer;
     }
-    ask_all(operations, xs, ys, counts, words, first, second);
+    ask_all(operations, xs, ys, counts, words, first, other);
     answer
 }
 
@@ -52,18 +50,19 @@ fn ask_all(
     counts: &[u32],
     words: &mut [u32],
     first: &mut [u32],
-    second: &mut [u32],
+    other: &mut [u32],
 )
-    requires { ⌜ (length (now xs) ≡ length (now operations)) × (length (now ys) ≡ length (now operations)) × (length (now counts) ≡ length (now operations)) ⌝ }
+    requires { ⌜ (length (now xs) ≡ length (now operations)) × (length (now ys) ≡ length (now operations))
+        × (length (now counts) ≡ length (now operations)) ⌝ }
     requires { ⌜ allWithin (now counts) (length (now words)) ≡ true ⌝ }
-    ensures { λ _. ⌜ now (first .exit) ≡ run (record { first = now (first .entry); other = now (second .entry) }) (eventsOf (now (operations .entry)) (now (xs .entry)) (now (ys .entry)) (now (counts .entry)) (now (words .entry))) .first ⌝ }
-    ensures { λ _. ⌜ now (second .exit) ≡ run (record { first = now (first .entry); other = now (second .entry) }) (eventsOf (now (operations .entry)) (now (xs .entry)) (now (ys .entry)) (now (counts .entry)) (now (words .entry))) .other ⌝ }
-    ensures { λ _. ⌜ now (words .exit) ≡ wordsAfter (now (operations .entry)) (now (xs .entry)) (now (ys .entry)) (now (counts .entry)) (now (words .entry)) ⌝ }
+    ensures { λ _. ⌜ record { words = now (words .exit); totals = record { first = now (first .exit); other = now (other .exit) } } ≡ afterAsking
+        (record { operations = now (operations .entry); xs = now (xs .entry); ys = now (ys .entry); counts = now (counts .entry) })
+        (record { words = now (words .entry); totals = record { first = now (first .entry); other = now (other .entry) } }) ⌝ }
 {
     let mut i: usize = 0;
     while i < operations.len() {
         let n = counts[i] as usize;
-        settling::settle(operations[i], xs[i], ys[i], &mut words[..n], first, second);
+        settling::settle(operations[i], xs[i], ys[i], &mut words[..n], first, other);
         i += 1;
     }
 }

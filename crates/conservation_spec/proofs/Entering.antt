@@ -16,10 +16,13 @@ use Rattle.augmented_spec.specs.Theorems.{finerInt}
 use Rattle.augmented_spec.proofs.Theorems.{every-finite, sum-adds-up, product-adds-up}
 use Rattle.worksheet_spec.specs.Filling.{FilledSheet, filled, HasDirectPair}
 use Rattle.worksheet_spec.proofs.Theorems.{filled-pair}
-use Rattle.accumulator_spec.specs.Totals.{ofPattern, exactTerm, whole}
+use Rattle.pattern_spec.specs.Classes.{bothFinite}
+use Rattle.pattern_spec.specs.Exact.{whole}
+use Rattle.accumulator_spec.specs.Totals.{ofPattern, exactTerm}
 use Rattle.accumulator_spec.specs.Columns.{AllFinite, columnSum}
 use Rattle.accumulator_spec.proofs.Landmarks.{pattern-term}
-use Rattle.conservation_spec.specs.Lists.{Question, answer, operation, direct, finitePair, enters, footTerms, setTerms, exactOfPatterns, oneSum, oneProduct}
+use Rattle.conservation_spec.specs.Lists.{Posed, sheetFor, operationFor, directFor, pairEnters, enters, footTerms, setTerms}
+use Rattle.conservation_spec.specs.Lists.{exactOfPatterns, oneSum, oneProduct}
 use Rattle.conservation_spec.proofs.Operands.{both, number-of, operands, result-is, terms-sum, terms-finite}
 
 pub not-true : (b : Bool) → not b ≡ true → b ≡ false
@@ -72,13 +75,13 @@ module _ (x y : ℕ) (width : y < 2 ^ 32) where
   halves product e i = by-product e i
 
 -- ---- an entering question
-pub record Entering (q : Question) : Type 0 where
-  pub footFinite : AllFinite (footTerms (answer q))
-  pub footAdds : columnSum (footTerms (answer q)) ≡ exactOfPatterns (operation q) (q .x) (q .y)
-  pub footCount : length (footTerms (answer q)) ≡ 2 * (oneSum (operation q) + oneProduct (operation q))
-  pub setFinite : AllFinite (setTerms (operation q) (q .x) (q .y))
-  pub setAdds : columnSum (setTerms (operation q) (q .x) (q .y)) ≡ exactOfPatterns (operation q) (q .x) (q .y)
-  pub setCount : length (setTerms (operation q) (q .x) (q .y)) ≡ 2 * oneSum (operation q) + oneProduct (operation q)
+pub record Entering (q : Posed) : Type 0 where
+  pub footFinite : AllFinite (footTerms (sheetFor q))
+  pub footAdds : columnSum (footTerms (sheetFor q)) ≡ exactOfPatterns (operationFor q) (q .x) (q .y)
+  pub footCount : length (footTerms (sheetFor q)) ≡ 2 * (oneSum (operationFor q) + oneProduct (operationFor q))
+  pub setFinite : AllFinite (setTerms (operationFor q) (q .x) (q .y))
+  pub setAdds : columnSum (setTerms (operationFor q) (q .x) (q .y)) ≡ exactOfPatterns (operationFor q) (q .x) (q .y)
+  pub setCount : length (setTerms (operationFor q) (q .x) (q .y)) ≡ 2 * oneSum (operationFor q) + oneProduct (operationFor q)
 
 foot-count : (o : Operation) → 2 ≡ 2 * (oneSum o + oneProduct o)
 foot-count sum = refl
@@ -95,23 +98,23 @@ foot-is : (a : Answer FilledSheet) (p : Pair) → isDone a ≡ true → ((n : �
 foot-is (refused n) p e h = absurd (true≢false (sym e))
 foot-is (done s) p e h = ap (λ (z : Pair). footTerms (filled (s .lines) z)) (h (s .lines) (s .pair) refl)
 
-pub entering : (q : Question) → q .y < 2 ^ 32 → enters q ≡ true → Entering q
+pub entering : (q : Posed) → q .y < 2 ^ 32 → enters q ≡ true → Entering q
 unfolding enters
 entering q width e =
-    let p = both (isDone (answer q)) (finitePair (direct q) && not (direct q .flags .inexact)) e in
-    let f = both (finitePair (direct q)) (not (direct q .flags .inexact)) (p .1) in
-    let g = both (isFinite (decode binary32 (direct q .first))) (isFinite (decode binary32 (direct q .second))) (f .0) in
-    let i = not-true (direct q .flags .inexact) (f .1) in
-    let m = operands (operation q) (q .x) (q .y) width (g .0) in
-    let h = halves (q .x) (q .y) width (operation q) (g .0) i in
-    let is : footTerms (answer q) ≡ ofPattern (direct q .first) ∷ ofPattern (direct q .second) ∷ [] =
-    foot-is (answer q) (direct q) (p .0) (λ n r k. subst (HasDirectPair (q .operation) (q .x) (q .y)) k (filled-pair (q .operation) (q .x) (q .y) (q .words))) in
+    let p = both (isDone (sheetFor q)) (pairEnters (directFor q)) e in
+    let f = both (bothFinite (directFor q .first) (directFor q .second)) (not (directFor q .flags .inexact)) (p .1) in
+    let g = both (isFinite (decode binary32 (directFor q .first))) (isFinite (decode binary32 (directFor q .second))) (f .0) in
+    let i = not-true (directFor q .flags .inexact) (f .1) in
+    let m = operands (operationFor q) (q .x) (q .y) width (g .0) in
+    let h = halves (q .x) (q .y) width (operationFor q) (g .0) i in
+    let is : footTerms (sheetFor q) ≡ ofPattern (directFor q .first) ∷ ofPattern (directFor q .second) ∷ [] =
+    foot-is (sheetFor q) (directFor q) (p .0) (λ n r k. subst (HasDirectPair (q .operation) (q .x) (q .y)) k (filled-pair (q .operation) (q .x) (q .y) (q .words))) in
     let s = m .0 .sign in let a = m .0 .magnitude in let t = m .1 .sign in let b = m .1 .magnitude in
     record {
       footFinite = subst AllFinite (sym is) (h .finite);
       footAdds = ap columnSum is ∙ h .adds;
-      footCount = ap length is ∙ foot-count (operation q);
-      setFinite = terms-finite (q .x) (q .y) s a t b width (m .0 .is) (m .1 .is) (operation q);
-      setAdds = terms-sum (q .x) (q .y) s a t b width (m .0 .is) (m .1 .is) (operation q) ∙ sym (result-is (q .x) (q .y) s a t b width (m .0 .is) (m .1 .is) (operation q));
-      setCount = set-count (operation q) (q .x) (q .y);
+      footCount = ap length is ∙ foot-count (operationFor q);
+      setFinite = terms-finite (q .x) (q .y) s a t b width (m .0 .is) (m .1 .is) (operationFor q);
+      setAdds = terms-sum (q .x) (q .y) s a t b width (m .0 .is) (m .1 .is) (operationFor q) ∙ sym (result-is (q .x) (q .y) s a t b width (m .0 .is) (m .1 .is) (operationFor q));
+      setCount = set-count (operationFor q) (q .x) (q .y);
     }

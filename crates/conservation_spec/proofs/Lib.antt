@@ -2,9 +2,9 @@ pub mod Operands
 pub mod Entering
 pub mod Conservation
 pub mod Settled
-pub mod Theorems
+pub mod Claim
 pub mod Events
 pub mod Misfits
 pub mod Refusals
-pub mod ReplayTheorems
 pub mod Outcome
+pub mod Theorems

@@ -9,7 +9,7 @@ use lib.Ieee.{unlike}
 use lib.IntN.{ℤ, pos, _+ℤ_, _*ℤ_, +ℤ-idr}
 use Rattle.rounding_spec.specs.Format.{binary32}
 use Rattle.rounding_spec.specs.Value.{Value, nan, infinite, finite, decode, isFinite, round, RN0}
-use Rattle.pattern_spec.specs.Exact.{int, negate, times}
+use Rattle.pattern_spec.specs.Exact.{int, whole, negate, times}
 use Rattle.pattern_spec.specs.Classes.{flip}
 use Rattle.pattern_spec.proofs.Integers.{plus-exact, int-not, int-scale}
 use Rattle.pattern_spec.proofs.Sums.{sum-scale}
@@ -18,7 +18,7 @@ use Rattle.augmented_spec.specs.Pairs.{pairOf}
 use Rattle.augmented_spec.specs.Direct.{Operation, sum, difference, product, directPair, exactResult}
 use Rattle.augmented_spec.proofs.Read.{exactFor, taken, first, first-read}
 use Rattle.augmented_spec.proofs.Unrounded.{infinite-sum}
-use Rattle.accumulator_spec.specs.Totals.{ofPattern, ofProduct, exactTerm, whole}
+use Rattle.accumulator_spec.specs.Totals.{ofPattern, ofProduct, exactTerm}
 use Rattle.accumulator_spec.specs.Columns.{AllFinite, columnSum}
 use Rattle.accumulator_spec.proofs.Landmarks.{pattern-term, product-term}
 use Rattle.conservation_spec.specs.Lists.{setTerms, exactOfPatterns}

@@ -1,51 +1,65 @@
--- What `replay` leaves, where it is refused and where it is carried out, as its contract says it.
-use mathlib.Core.Path.{_≡_, refl, sym, _∙_, subst}
+-- What `replay` leaves, where it is refused and where it is carried out: the claim about its questions holds.
+use mathlib.Core.Path.{_≡_, refl, sym, ap, ap₂, _∙_, subst}
 use mathlib.Core.Bool.{true≢false, true, false}
 use mathlib.Core.List.{List}
 use Prim.Native.Nat.{ℕ}
+use native.Mathlib.Nat.{le-trans, le-of-eq}
 use lib.ListN.{length}
 use Rattle.pattern_spec.specs.Answer.{Answer, refused, done, isDone}
 use Rattle.accumulator_spec.specs.Words.{Words}
-use Rattle.conservation_spec.specs.Lists.{Totals, Event, run}
-use Rattle.conservation_spec.specs.Replay.{eventsOf, wordsAfter, allWithin, replaying, totalsAfter, wordsLeft}
-use Rattle.conservation_spec.specs.Theorems.{Holds}
-use Rattle.conservation_spec.specs.ReplayTheorems.{Conserves}
-use Rattle.conservation_spec.proofs.Misfits.{fits, is-done}
-use Rattle.conservation_spec.proofs.ReplayTheorems.{replayed}
+use Rattle.conservation_spec.specs.Lists.{Totals, Event, afterEvents}
+use Rattle.conservation_spec.specs.Claim.{BothHold, Met, Conserves}
+use Rattle.conservation_spec.specs.Replay.{Asking, Lent, entriesOf, eventsOf, afterAsking, allWithin, replaying, afterReplaying, Replays}
+use Rattle.conservation_spec.specs.Theorems.{cleared, Replayed}
+use Rattle.conservation_spec.proofs.Claim.{conserved}
+use Rattle.conservation_spec.proofs.Events.{questions-of, allowed-of}
+use Rattle.conservation_spec.proofs.Misfits.{cleared-already, fits, is-done}
 
-module _ (os xs ys counts words first second : List ℕ) where
+pub replayed : Replayed
+unfolding afterReplaying
+replayed q l v w e =
+    let f = fits q l e in
+    let first = l .totals .first in
+    let other = l .totals .other in
+    let a = cleared-already first (f .firstCleared) in
+    let b = cleared-already other (f .otherCleared) in
+    let es : List Event = eventsOf (entriesOf q) (l .words) in
+    let n = questions-of (q .operations) (q .xs) (q .ys) (q .counts) (l .words) (f .sameXs) (f .sameYs) (f .sameCounts) in
+    let start : cleared first other ≡ l .totals = ap₂ {C = Totals} (λ (t u : List ℕ). record { first = t; other = u }) (a .1) (b .1) in
+    let allowed = allowed-of (q .operations) (q .xs) (q .ys) (q .counts) (l .words) (cleared first other) v w in
+    let k = conserved first other es (a .0) (b .0) (le-trans (le-of-eq n) (f .few)) allowed in (
+      rw e (subst (λ (t : Totals). BothHold (afterEvents t es) es) start (k .0)),
+      subst (λ (t : Totals). Met t es) start (k .1),
+      n,
+    )
+
+-- ---- the call's contract
+module _ (q : Asking) (l : Lent) where
   abbrev es : List Event
-  es = eventsOf os xs ys counts words
+  es = eventsOf (entriesOf q) (l .words)
 
-  -- answer a, and these lists left
-  abbrev pub Outcome : Answer (Unit {0}) → List ℕ → List ℕ → List ℕ → Type 0
-  Outcome a words' first' second' =
-      (a ≡ replaying os xs ys counts words first second)
-      × ((first' ≡ totalsAfter os xs ys counts words first second .first)
-      × ((second' ≡ totalsAfter os xs ys counts words first second .other)
-      × ((words' ≡ wordsLeft os xs ys counts words first second)
-      × Conserves a (record { first = first; other = second }) (record { first = first'; other = second' }) es)))
-
-  pub refusal-outcome : (a : Answer (Unit {0})) → a ≡ replaying os xs ys counts words first second → isDone a ≡ false → Outcome a words first second
-  unfolding totalsAfter wordsLeft
-  refusal-outcome (refused n) e f = (e, rw (← e) (refl, (refl, (refl, tt))))
+  pub refusal-outcome : (a : Answer (Unit {0})) → a ≡ replaying q l → isDone a ≡ false → Replays q l a l
+  unfolding afterReplaying
+  refusal-outcome (refused n) e f = record { answered = e; left = rw (← e); conserves = tt }
   refusal-outcome (done u) e f = absurd (true≢false f)
 
-  module _ (a : Answer (Unit {0})) (is : a ≡ replaying os xs ys counts words first second) (carried : isDone a ≡ true) where
-    answered : replaying os xs ys counts words first second ≡ done tt
+  module _ (a : Answer (Unit {0})) (is : a ≡ replaying q l) (carried : isDone a ≡ true) where
+    answered : replaying q l ≡ done tt
     answered = sym is ∙ is-done a carried
 
     -- what asking them needs
-    pub ready : ((length xs ≡ length os) × (length ys ≡ length os) × (length counts ≡ length os)) × (allWithin counts (length words) ≡ true)
-    ready = let f = fits os xs ys counts words first second answered in ((f .sameXs, f .sameYs, f .sameCounts), f .within)
+    pub ready : ((length (q .xs) ≡ length (q .operations)) × (length (q .ys) ≡ length (q .operations)) × (length (q .counts) ≡ length (q .operations)))
+        × (allWithin (q .counts) (length (l .words)) ≡ true)
+    ready = let f = fits q l answered in ((f .sameXs, f .sameYs, f .sameCounts), f .within)
 
-    pub done-outcome : Words xs → Words ys → (words' first' second' : List ℕ)
-        → first' ≡ run (record { first = first; other = second }) es .first → second' ≡ run (record { first = first; other = second }) es .other → words' ≡ wordsAfter os xs ys counts words
-        → Outcome a words' first' second'
-    unfolding totalsAfter wordsLeft
-    done-outcome v w words' first' second' f o k =
-        let d = answered in
-        let t : Totals = record { first = first'; other = second' } in
-        let r = replayed os xs ys counts words first second v w d in
-        let h : Holds t es = rw (f, o) (rw d at (r .0)) in
-        (is, (rw d f, (rw d o, (rw d k, subst (λ (b : Answer (Unit {0})). Conserves b (record { first = first; other = second }) t es) (sym (is-done a carried)) (h, r .1)))))
+    pub done-outcome : Words (q .xs) → Words (q .ys) → (after : Lent) → after ≡ afterAsking q l → Replays q l a after
+    unfolding afterReplaying
+    done-outcome v w after e =
+        let r = replayed q l v w answered in
+        let is-after : after ≡ afterReplaying q l = rw answered e in
+        let h : BothHold (after .totals) es = subst (λ (k : Lent). BothHold (k .totals) es) (sym is-after) (r .0) in
+        record {
+          answered = is;
+          left = is-after;
+          conserves = subst (λ (b : Answer (Unit {0})). Conserves b es (l .totals) (after .totals)) (sym (is-done a carried)) (h, r .1);
+        }

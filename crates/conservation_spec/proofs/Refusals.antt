@@ -1,5 +1,5 @@
 -- The refusals of `replay`, as they are stated, and that they change nothing.
-use mathlib.Core.Path.{_≡_, refl, sym, ap, _∙_}
+use mathlib.Core.Path.{_≡_, refl, sym, ap}
 use mathlib.Core.Logic.{_⊎_, _≢_, inl, inr}
 use mathlib.Core.Bool.{Bool, true, false, _&&_}
 use mathlib.Core.List.{List, [], _∷_}
@@ -7,24 +7,23 @@ use Prim.Native.Nat.{ℕ, zero, suc, _≤_, _<_}
 use native.Mathlib.Omega.{arith}
 use borrow.Author.Tests.{eq-eqb, ne-eqb, le-leb}
 use lib.Dec.{eqb}
-use lib.ListN.{length, getD, replicate}
+use lib.ListN.{length, getD}
 use Rattle.pattern_spec.specs.Answer.{refused}
-use Rattle.accumulator_spec.proofs.Answers.{clearing-done}
-use Rattle.conservation_spec.specs.Replay.{allZero, isCleared, allWithin, replaying, totalsAfter, wordsLeft}
-use Rattle.conservation_spec.specs.ReplayTheorems.{ReplayRefused, ReplayUnchanged}
-use Rattle.conservation_spec.proofs.Misfits.{cleared-already, within-at, unequal, too-many, first-not-cleared, second-not-cleared, past-words, nothing-wrong}
+use Rattle.accumulator_spec.specs.Totals.{isCleared}
+use Rattle.accumulator_spec.specs.Columns.{zeros}
+use Rattle.accumulator_spec.proofs.Zeros.{cleared-zeros}
+use Rattle.conservation_spec.specs.Lists.{mostQuestions}
+use Rattle.conservation_spec.specs.Replay.{Asking, Lent, allEqual, allWithin, replaying, afterReplaying}
+use Rattle.conservation_spec.specs.Theorems.{ReplayRefused, ReplayUnchanged}
+use Rattle.conservation_spec.proofs.Misfits.{within-at, unequal, too-many, first-not-cleared, other-not-cleared, past-words, nothing-wrong}
 
 -- ---- the conditions as truth values
 by-cases : (b : Bool) → (b ≡ true → ⊥) → b ≡ false
 by-cases true n = absurd (n refl)
 by-cases false n = refl
 
-not-cleared : (t : List ℕ) → t ≢ replicate 21 0 → isCleared t ≡ false
-not-cleared t n = by-cases (isCleared t) (λ (e : isCleared t ≡ true). let c = cleared-already t e in n (sym (c .1) ∙ sym (clearing-done t (c .0) .1)))
-
-is-cleared : (t : List ℕ) → t ≡ replicate 21 0 → isCleared t ≡ true
-unfolding allZero
-is-cleared t e = ap isCleared e
+not-cleared : (t : List ℕ) → t ≢ zeros → isCleared t ≡ false
+not-cleared t n = by-cases (isCleared t) (λ (e : isCleared t ≡ true). n (cleared-zeros t .0 e))
 
 all-within : (ns : List ℕ) (most : ℕ) → ((i : ℕ) → getD ns i 0 ≤ most) → allWithin ns most ≡ true
 unfolding allWithin
@@ -39,48 +38,48 @@ inside-or-zero (n ∷ ns) (suc i) h = let k = inside-or-zero ns i h in omega ari
 not-within : (ns : List ℕ) (most i : ℕ) → most < getD ns i 0 → allWithin ns most ≡ false
 not-within ns most i h = by-cases (allWithin ns most) (λ (e : allWithin ns most ≡ true). let k = within-at ns most i e (inside-or-zero ns i (omega arith)) in omega arith)
 
-module _ (os xs ys counts words first second : List ℕ) where
-  unequal-lengths : (length xs ≢ length os) ⊎ (length ys ≢ length os) ⊎ (length counts ≢ length os)
-      → eqb (length xs) (length os) && (eqb (length ys) (length os) && eqb (length counts) (length os)) ≡ false
-  unequal-lengths (inl n) = rw (ne-eqb (length xs) (length os) n)
-  unequal-lengths (inr (inl n)) = go (eqb (length xs) (length os))
+module _ (q : Asking) (l : Lent) where
+  abbrev n : ℕ
+  n = length (q .operations)
+
+  unequal-lengths : (length (q .xs) ≢ n) ⊎ (length (q .ys) ≢ n) ⊎ (length (q .counts) ≢ n) → allEqual q ≡ false
+  unequal-lengths (inl h) = rw (ne-eqb (length (q .xs)) n h)
+  unequal-lengths (inr (inl h)) = go (eqb (length (q .xs)) n)
     where
-      go : (b : Bool) → b && (eqb (length ys) (length os) && eqb (length counts) (length os)) ≡ false
-      go true = rw (ne-eqb (length ys) (length os) n)
+      go : (b : Bool) → b && (eqb (length (q .ys)) n && eqb (length (q .counts)) n) ≡ false
+      go true = rw (ne-eqb (length (q .ys)) n h)
       go false = refl
-  unequal-lengths (inr (inr n)) = go (eqb (length xs) (length os)) (eqb (length ys) (length os))
+  unequal-lengths (inr (inr h)) = go (eqb (length (q .xs)) n) (eqb (length (q .ys)) n)
     where
-      go : (b c : Bool) → b && (c && eqb (length counts) (length os)) ≡ false
-      go true true = ne-eqb (length counts) (length os) n
+      go : (b c : Bool) → b && (c && eqb (length (q .counts)) n) ≡ false
+      go true true = ne-eqb (length (q .counts)) n h
       go true false = refl
       go false c = refl
 
-  equal-lengths : length xs ≡ length os → length ys ≡ length os → length counts ≡ length os
-      → eqb (length xs) (length os) && (eqb (length ys) (length os) && eqb (length counts) (length os)) ≡ true
-  equal-lengths a b c = rw (eq-eqb (length xs) (length os) a, eq-eqb (length ys) (length os) b, eq-eqb (length counts) (length os) c)
+  equal-lengths : length (q .xs) ≡ n → length (q .ys) ≡ n → length (q .counts) ≡ n → allEqual q ≡ true
+  equal-lengths a b c = rw (eq-eqb (length (q .xs)) n a, eq-eqb (length (q .ys)) n b, eq-eqb (length (q .counts)) n c)
 
-  not-both-cleared : (same : eqb (length xs) (length os) && (eqb (length ys) (length os) && eqb (length counts) (length os)) ≡ true) → length os ≤ 32768
-      → (first ≢ replicate 21 0) ⊎ (second ≢ replicate 21 0) → replaying os xs ys counts words first second ≡ refused 103
-  not-both-cleared s few (inl n) = sym (first-not-cleared os xs ys counts words first second s few (not-cleared first n))
-  not-both-cleared s few (inr n) = go (isCleared first) refl
+  not-both-cleared : (same : allEqual q ≡ true) → n ≤ mostQuestions → (l .totals .first ≢ zeros) ⊎ (l .totals .other ≢ zeros) → replaying q l ≡ refused 103
+  not-both-cleared s few (inl h) = sym (first-not-cleared q l s few (not-cleared (l .totals .first) h))
+  not-both-cleared s few (inr h) = go (isCleared (l .totals .first)) refl
     where
-      go : (b : Bool) → isCleared first ≡ b → replaying os xs ys counts words first second ≡ refused 103
-      go true e = sym (second-not-cleared os xs ys counts words first second s few e (not-cleared second n))
-      go false e = sym (first-not-cleared os xs ys counts words first second s few e)
+      go : (b : Bool) → isCleared (l .totals .first) ≡ b → replaying q l ≡ refused 103
+      go true e = sym (other-not-cleared q l s few e (not-cleared (l .totals .other) h))
+      go false e = sym (first-not-cleared q l s few e)
 
 pub replay-refused : ReplayRefused
-replay-refused os xs ys counts words first second = (
-  λ n. sym (unequal os xs ys counts words first second (unequal-lengths os xs ys counts words first second n)),
-  λ a b c. let s = equal-lengths os xs ys counts words first second a b c in (
-    λ h. sym (too-many os xs ys counts words first second s h),
-    not-both-cleared os xs ys counts words first second s,
-    λ few f g. (
-      λ i h. sym (past-words os xs ys counts words first second s few (is-cleared first f) (is-cleared second g) (not-within counts (length words) i h)),
-      λ h. sym (nothing-wrong os xs ys counts words first second s few (is-cleared first f) (is-cleared second g) (all-within counts (length words) h)),
+replay-refused q l = (
+  λ h. sym (unequal q l (unequal-lengths q l h)),
+  λ a b c. let s = equal-lengths q l a b c in (
+    λ h. sym (too-many q l s h),
+    not-both-cleared q l s,
+    λ few f g. let first = cleared-zeros (l .totals .first) .1 f in let other = cleared-zeros (l .totals .other) .1 g in (
+      λ i h. sym (past-words q l s few first other (not-within (q .counts) (length (l .words)) i h)),
+      λ h. sym (nothing-wrong q l s few first other (all-within (q .counts) (length (l .words)) h)),
     ),
   ),
 )
 
 pub replay-unchanged : ReplayUnchanged
-unfolding totalsAfter wordsLeft
-replay-unchanged os xs ys counts words first second m e = rw e (refl, refl)
+unfolding afterReplaying
+replay-unchanged q l m e = rw e

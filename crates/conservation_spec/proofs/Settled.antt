@@ -1,48 +1,52 @@
 -- One question by the pair that came back: whether it enters, and what it leaves on both totals.
-use mathlib.Core.Path.{_≡_, refl, sym, ap, _∙_, subst}
-use mathlib.Core.Bool.{true, false, not, _&&_}
+use mathlib.Core.Path.{_≡_, sym, ap, ap₂, _∙_, subst}
+use mathlib.Core.Bool.{true, false}
 use mathlib.Core.List.{List, [], _∷_}
 use Prim.Native.Nat.{ℕ}
 use borrow.Author.Tests.{ne-eqb}
-use Rattle.pattern_spec.specs.Answer.{refused}
+use Rattle.pattern_spec.specs.Answer.{Answer, refused}
 use Rattle.rounding_spec.specs.Format.{binary32}
 use Rattle.pattern_spec.specs.Classes.{flip}
 use Rattle.augmented_spec.specs.declared.Pair.{Pair}
 use Rattle.augmented_spec.specs.Direct.{operationOf}
-use Rattle.worksheet_spec.specs.Filling.{filled, HasDirectPair}
+use Rattle.worksheet_spec.specs.Filling.{FilledSheet, filled, HasDirectPair, Fills}
 use Rattle.worksheet_spec.proofs.Theorems.{filled-pair}
 use Rattle.accumulator_spec.specs.Totals.{Term, ofPattern, ofProduct, afterAdding}
 use Rattle.accumulator_spec.specs.Columns.{column}
-use Rattle.conservation_spec.specs.Lists.{Question, answer, operation, direct, finitePair, enters, setTerms, Totals, asked}
+use Rattle.conservation_spec.specs.Lists.{Posed, sheetFor, operationFor, directFor, pairEnters, enters, setTerms, Totals}
+use Rattle.conservation_spec.specs.Replay.{Settles}
 
-module _ (q : Question) where
+module _ (q : Posed) where
   -- the pair that came back is the direct pair
-  enters-is : (n : ℕ) (p : Pair) → filled n p ≡ answer q → enters q ≡ finitePair p && not (p .flags .inexact)
+  enters-is : (n : ℕ) (p : Pair) → filled n p ≡ sheetFor q → enters q ≡ pairEnters p
   unfolding enters
   enters-is n p e =
-      let d : p ≡ direct q = subst (HasDirectPair (q .operation) (q .x) (q .y)) (sym e) (filled-pair (q .operation) (q .x) (q .y) (q .words)) in
+      let d : p ≡ directFor q = subst (HasDirectPair (q .operation) (q .x) (q .y)) (sym e) (filled-pair (q .operation) (q .x) (q .y) (q .words)) in
       rw (← e, d)
 
-  refused-out : (n : ℕ) → refused n ≡ answer q → enters q ≡ false
+  refused-out : (n : ℕ) → refused n ≡ sheetFor q → enters q ≡ false
   unfolding enters
   refused-out n e = rw (← e)
 
-  module _ (t : Totals) where
-    out : enters q ≡ false → (t .first ≡ asked q t .first) × (t .other ≡ asked q t .other)
-    out e = rw e (refl, refl)
+  -- what a call of filling and the adding calls leave
+  module _ (t : Totals) {words : List ℕ} {answer : Answer FilledSheet} (f : Fills (q .operation) (q .x) (q .y) answer (q .words) words) where
+    out : enters q ≡ false → Settles q t words t
+    out e = (f .1, rw e)
 
-    pub refused-adds-nothing : (n : ℕ) → refused n ≡ answer q → (t .first ≡ asked q t .first) × (t .other ≡ asked q t .other)
-    refused-adds-nothing n e = out (refused-out n e)
+    pub refused-settles : (n : ℕ) → answer ≡ refused n → Settles q t words t
+    refused-settles n e = out (refused-out n (sym e ∙ f .0))
 
-    pub outside-adds-nothing : (n : ℕ) (p : Pair) → filled n p ≡ answer q → finitePair p && not (p .flags .inexact) ≡ false → (t .first ≡ asked q t .first) × (t .other ≡ asked q t .other)
-    outside-adds-nothing n p e b = out (enters-is n p e ∙ b)
+    pub outside-settles : (n : ℕ) (p : Pair) → answer ≡ filled n p → pairEnters p ≡ false → Settles q t words t
+    outside-settles n p e b = out (enters-is n p (sym e ∙ f .0) ∙ b)
 
-    pub entering-adds : (n : ℕ) (p : Pair) → filled n p ≡ answer q → finitePair p && not (p .flags .inexact) ≡ true → (first other : List ℕ)
-        → first ≡ column (t .first) (ofPattern (p .first) ∷ ofPattern (p .second) ∷ []) → other ≡ column (t .other) (setTerms (operation q) (q .x) (q .y))
-        → (first ≡ asked q t .first) × (other ≡ asked q t .other)
-    entering-adds n p e b first other f o = rw (enters-is n p e ∙ b, ← e) (f, o)
+    pub entering-settles : (n : ℕ) (p : Pair) → answer ≡ filled n p → pairEnters p ≡ true → (first other : List ℕ)
+        → first ≡ column (t .first) (ofPattern (p .first) ∷ ofPattern (p .second) ∷ []) → other ≡ column (t .other) (setTerms (operationFor q) (q .x) (q .y))
+        → Settles q t words (record { first = first; other = other })
+    entering-settles n p e b first other g h =
+        let k = sym e ∙ f .0 in
+        (f .1, rw (enters-is n p k ∙ b, ← k) (ap₂ {C = Totals} (λ (u v : List ℕ). record { first = u; other = v }) g h))
 
--- ---- terms one after the other
+-- ---- terms one afterEvent the other
 pub one-term : (t a : List ℕ) (x : Term) → a ≡ afterAdding t x → a ≡ column t (x ∷ [])
 unfolding column
 one-term t a x e = e

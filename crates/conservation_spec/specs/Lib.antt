@@ -1,4 +1,4 @@
 pub mod Lists
-pub mod Theorems
+pub mod Claim
 pub mod Replay
-pub mod ReplayTheorems
+pub mod Theorems

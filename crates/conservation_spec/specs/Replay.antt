@@ -1,62 +1,101 @@
--- `replay`: a list of questions from lent arrays, over two totals. Document 01 has no such call: its answers are ours (docs/DECISIONS.md).
+-- `replay`, a call of our own: a list of questions from lent arrays, over two cleared totals (R8.12, R8.13).
 use Prim.Native.Nat.{ℕ}
+use mathlib.Core.Path.{_≡_}
 use mathlib.Core.Bool.{Bool, true, not, cond, _&&_}
 use mathlib.Core.List.{List, [], _∷_, _++_}
 use lib.Dec.{eqb, leb, ltb}
 use lib.ListN.{length, take, drop}
 use Rattle.pattern_spec.specs.Answer.{Answer, refused, done, isDone}
 use Rattle.worksheet_spec.specs.Filling.{afterFilling}
-use Rattle.conservation_spec.specs.Lists.{Totals, Event, asks, run}
+use Rattle.accumulator_spec.specs.Totals.{isCleared}
+use Rattle.conservation_spec.specs.Lists.{mostQuestions, Posed, Totals, Event, asks, afterQuestion, afterEvents}
+use Rattle.conservation_spec.specs.Claim.{Conserves}
 
--- ---- the questions: the ith has the ith operation number and patterns, and the first counts[i] of the lent words. These are as the last question
--- left them, and each sheet is written over the one before it: of the words a question's answer depends on their number alone.
-unfoldable pub eventsOf : List ℕ → List ℕ → List ℕ → List ℕ → List ℕ → List Event
-eventsOf [] xs ys counts words = []
-eventsOf (o ∷ os) [] ys counts words = []
-eventsOf (o ∷ os) (x ∷ xs) [] counts words = []
-eventsOf (o ∷ os) (x ∷ xs) (y ∷ ys) [] words = []
-eventsOf (o ∷ os) (x ∷ xs) (y ∷ ys) (n ∷ counts) words =
-    asks (record { operation = o; x = x; y = y; words = take n words }) ∷ eventsOf os xs ys counts (afterFilling o x y (take n words) ++ drop n words)
+-- ---- what is lent
+-- the arrays that say what is asked: operation numbers, patterns, and how many words each question is lent
+pub record Asking : Type 0 where
+  pub operations : List ℕ
+  pub xs : List ℕ
+  pub ys : List ℕ
+  pub counts : List ℕ
 
--- the lent words after them
-unfoldable pub wordsAfter : List ℕ → List ℕ → List ℕ → List ℕ → List ℕ → List ℕ
-wordsAfter [] xs ys counts words = words
-wordsAfter (o ∷ os) [] ys counts words = words
-wordsAfter (o ∷ os) (x ∷ xs) [] counts words = words
-wordsAfter (o ∷ os) (x ∷ xs) (y ∷ ys) [] words = words
-wordsAfter (o ∷ os) (x ∷ xs) (y ∷ ys) (n ∷ counts) words = wordsAfter os xs ys counts (afterFilling o x y (take n words) ++ drop n words)
+-- the arrays that are written: the words that the questions share, and both totals
+pub record Lent : Type 0 where
+  pub words : List ℕ
+  pub totals : Totals
+
+-- ---- the questions, in order: the ith has the ith of each array
+pub record Entry : Type 0 where
+  pub operation : ℕ
+  pub x : ℕ
+  pub y : ℕ
+  pub count : ℕ
+
+unfoldable pub entries : List ℕ → List ℕ → List ℕ → List ℕ → List Entry
+entries [] xs ys counts = []
+entries (o ∷ os) [] ys counts = []
+entries (o ∷ os) (x ∷ xs) [] counts = []
+entries (o ∷ os) (x ∷ xs) (y ∷ ys) [] = []
+entries (o ∷ os) (x ∷ xs) (y ∷ ys) (n ∷ counts) = record { operation = o; x = x; y = y; count = n } ∷ entries os xs ys counts
+
+abbrev pub entriesOf : Asking → List Entry
+entriesOf q = entries (q .operations) (q .xs) (q .ys) (q .counts)
+
+-- Each is lent as many of the first words as its count says, as the question before it left them: a sheet is written over the one before.
+abbrev pub posedOn : List ℕ → Entry → Posed
+posedOn words e = record { operation = e .operation; x = e .x; y = e .y; words = take (e .count) words }
+
+abbrev pub wordsAfter : List ℕ → Entry → List ℕ
+wordsAfter words e = afterFilling (e .operation) (e .x) (e .y) (take (e .count) words) ++ drop (e .count) words
+
+unfoldable pub eventsOf : List Entry → List ℕ → List Event
+eventsOf [] words = []
+eventsOf (e ∷ es) words = asks (posedOn words e) ∷ eventsOf es (wordsAfter words e)
+
+unfoldable pub wordsAfterAll : List Entry → List ℕ → List ℕ
+wordsAfterAll [] words = words
+wordsAfterAll (e ∷ es) words = wordsAfterAll es (wordsAfter words e)
+
+-- what they leave
+abbrev pub afterAsking : Asking → Lent → Lent
+afterAsking q l =
+    record {
+      words = wordsAfterAll (entriesOf q) (l .words);
+      totals = afterEvents (l .totals) (eventsOf (entriesOf q) (l .words));
+    }
 
 -- ---- misfits
-unfoldable pub allZero : List ℕ → Bool
-allZero [] = true
-allZero (w ∷ ws) = eqb w 0 && allZero ws
-
--- 21 zeros
-abbrev pub isCleared : List ℕ → Bool
-isCleared total = eqb (length total) 21 && allZero total
+-- arrays of one length
+abbrev pub allEqual : Asking → Bool
+allEqual q =
+    let n = length (q .operations) in eqb (length (q .xs)) n && (eqb (length (q .ys)) n && eqb (length (q .counts)) n)
 
 -- no count is past the lent words
 unfoldable pub allWithin : List ℕ → ℕ → Bool
 allWithin [] most = true
 allWithin (n ∷ ns) most = leb n most && allWithin ns most
 
--- tried in this order: 101, arrays of unequal length; 102, more than 32,768 questions; 103, a total that is not cleared; 104, a word count past the
--- lent words (R8.12).
-unfoldable pub replaying : List ℕ → List ℕ → List ℕ → List ℕ → List ℕ → List ℕ → List ℕ → Answer (Unit {0})
-replaying operations xs ys counts words first second =
-    cond (not (eqb (length xs) (length operations) && (eqb (length ys) (length operations) && eqb (length counts) (length operations)))) (refused 101)
-    (cond (ltb 32768 (length operations)) (refused 102)
-    (cond (not (isCleared first && isCleared second)) (refused 103)
-    (cond (not (allWithin counts (length words))) (refused 104)
+-- ---- the call
+-- refused, by these numbers in this order, or carried out (R8.12)
+unfoldable pub replaying : Asking → Lent → Answer (Unit {0})
+replaying q l =
+    cond (not (allEqual q)) (refused 101)
+    (cond (ltb mostQuestions (length (q .operations))) (refused 102)
+    (cond (not (isCleared (l .totals .first) && isCleared (l .totals .other))) (refused 103)
+    (cond (not (allWithin (q .counts) (length (l .words)))) (refused 104)
     (done tt))))
 
--- ---- what is left: nothing is changed where it is refused
-unfoldable pub totalsAfter : List ℕ → List ℕ → List ℕ → List ℕ → List ℕ → List ℕ → List ℕ → Totals
-totalsAfter operations xs ys counts words first second =
-    cond (isDone (replaying operations xs ys counts words first second))
-    (run (record { first = first; other = second }) (eventsOf operations xs ys counts words))
-    (record { first = first; other = second })
+-- what it leaves: nothing is changed where it is refused
+unfoldable pub afterReplaying : Asking → Lent → Lent
+afterReplaying q l = cond (isDone (replaying q l)) (afterAsking q l) l
 
-unfoldable pub wordsLeft : List ℕ → List ℕ → List ℕ → List ℕ → List ℕ → List ℕ → List ℕ → List ℕ
-wordsLeft operations xs ys counts words first second =
-    cond (isDone (replaying operations xs ys counts words first second)) (wordsAfter operations xs ys counts words) words
+-- a call of `replay`: its answer, what was lent before and after it, and the claim about its questions (R7.13)
+pub record Replays (q : Asking) (before : Lent) (answer : Answer (Unit {0})) (after : Lent) : Type 0 where
+  pub answered : answer ≡ replaying q before
+  pub left : after ≡ afterReplaying q before
+  pub conserves : Conserves answer (eventsOf (entriesOf q) (before .words)) (before .totals) (after .totals)
+
+-- ---- one question of it: its sheet in the lent words, and its terms on both totals
+abbrev pub Settles : Posed → Totals → List ℕ → Totals → Type 0
+Settles q before words after =
+    (words ≡ afterFilling (q .operation) (q .x) (q .y) (q .words)) × (after ≡ afterQuestion q before)

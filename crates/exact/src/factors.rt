@@ -7,7 +7,6 @@ ghost use Rattle.pattern_spec.specs.Exact.{times};
 ghost use Rattle.pattern_spec.specs.Classes.{valueOf};
 ghost use Rattle.pattern_spec.specs.Inner.{Operand, Bounded, ProductIs};
 
-// The exact product, in units of 2^-298.
 pub fn times(a: Class, b: Class) -> Class
     requires { ⌜ Bounded Operand a ⌝ }
     requires { ⌜ Bounded Operand b ⌝ }

@@ -18,14 +18,13 @@ pub struct Signed {
     pub sig: u64,
 }
 
-// ±m * 2^gap ± n, the gap taken modulo 32. An exact zero has its sign already.
 pub fn sum(s: bool, m: u32, gap: u16, t: bool, n: u32) -> Signed
     ensures { λ r. ⌜ plusFinite s (m * 2 ^ (gap % 32)) t n ≡ finite (r .sign) (r .sig) ⌝ }
 {
     signed_sum(s, (m as u64) << (gap % 32), t, n as u64)
 }
 
-// ±a ± b, exactly. Signs are as good as random, so nothing branches on them.
+// Signs are as good as random, so nothing branches on them.
 pub fn signed_sum(s: bool, a: u64, t: bool, b: u64) -> Signed
     requires { ⌜ (a < 2 ^ 63) × (b < 2 ^ 63) ⌝ }
     ensures { λ r. ⌜ plusFinite s a t b ≡ finite (r .sign) (r .sig) ⌝ }

@@ -7,9 +7,8 @@ use lib.Dec.{eqb}
 use Rattle.pattern_spec.specs.Answer.{Answer, refused, done, refusalOf}
 use Rattle.augmented_spec.specs.Direct.{none}
 use Rattle.worksheet_spec.specs.Filling.{FilledSheet, filled, filling, afterFilling, HasDirectPair}
-use Rattle.conservation_spec.specs.Lists.{Totals, Event}
-use Rattle.conservation_spec.specs.Replay.{eventsOf, replaying, totalsAfter, wordsLeft}
-use Rattle.conservation_spec.specs.ReplayTheorems.{Conserves}
+use Rattle.conservation_spec.specs.Claim.{Conserves}
+use Rattle.conservation_spec.specs.Replay.{Asking, Lent, entriesOf, eventsOf, replaying, afterReplaying}
 use Rattle.jirmeklo.specs.declared.sheets.FlatFilled.{FlatFilled}
 
 -- ---- filling a sheet
@@ -31,8 +30,8 @@ filledAnswer r =
 
 -- r is answered, and the lent words are `after` where they were `before`; a sheet that is filled has the direct pair
 -- and its flags (R7.4)
-abbrev pub Fills : ℕ → ℕ → ℕ → FlatFilled → List ℕ → List ℕ → Type 0
-Fills operation x y r before after =
+abbrev pub FillsNumbers : ℕ → ℕ → ℕ → FlatFilled → List ℕ → List ℕ → Type 0
+FillsNumbers operation x y r before after =
     (r ≡ filledNumbers (filling operation x y before))
     × (after ≡ afterFilling operation x y before)
     × HasDirectPair operation x y (filledAnswer r)
@@ -42,29 +41,9 @@ Fills operation x y r before after =
 abbrev pub replayAnswer : ℕ → Answer (Unit {0})
 replayAnswer r = cond (eqb r 0) (done tt) (refused r)
 
--- the arrays that say what is asked
-pub record Asked : Type 0 where
-  pub operations : List ℕ
-  pub xs : List ℕ
-  pub ys : List ℕ
-  pub counts : List ℕ
-
--- the arrays that are written: the words that the questions share (R8.13), and the two totals
-pub record Lent : Type 0 where
-  pub words : List ℕ
-  pub first : List ℕ
-  pub second : List ℕ
-
-abbrev pub totals : Lent → Totals
-totals l = record { first = l .first; other = l .second }
-
-abbrev pub events : Asked → Lent → List Event
-events q l = eventsOf (q .operations) (q .xs) (q .ys) (q .counts) (l .words)
-
--- r is answered, and the arrays that are written are `after` where they were `before`
-pub record Replays (r : ℕ) (q : Asked) (before after : Lent) : Type 0 where
-  pub answered : r ≡ refusalOf (replaying (q .operations) (q .xs) (q .ys) (q .counts) (before .words) (before .first) (before .second))
-  pub totalled : totals after ≡ totalsAfter (q .operations) (q .xs) (q .ys) (q .counts) (before .words) (before .first) (before .second)
-  pub written : after .words ≡ wordsLeft (q .operations) (q .xs) (q .ys) (q .counts) (before .words) (before .first) (before .second)
+-- r is answered, and what is lent is `after` where it was `before`
+pub record ReplaysNumber (q : Asking) (before : Lent) (r : ℕ) (after : Lent) : Type 0 where
+  pub answered : r ≡ refusalOf (replaying q before)
+  pub left : after ≡ afterReplaying q before
   -- where it is carried out, the claim about lists holds of the questions and of both totals (R7.13)
-  pub conserved : Conserves (replayAnswer r) (totals before) (totals after) (events q before)
+  pub conserves : Conserves (replayAnswer r) (eventsOf (entriesOf q) (before .words)) (before .totals) (after .totals)

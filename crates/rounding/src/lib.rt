@@ -1,14 +1,18 @@
 // Rounding of an exact magnitude to binary32: the one place where any operation rounds.
 use choose::choose;
+use choose::choose_exponent;
+use choose::choose_sign;
 use rounding_spec::Ties;
 ghost use mathlib.Core.Path.{_≡_};
 ghost use Prim.Native.Nat.{suc, _+_, _-_, _*_, _/_, _^_, _≤_, _<_, max};
-ghost use lib.Dec.{ltb};
-ghost use Rattle.rounding_spec.specs.Format.{binary32};
+ghost use mathlib.Core.Bool.{cond};
+ghost use lib.Dec.{eqb, ltb};
+ghost use lib.Ieee.{unlike};
+ghost use Rattle.rounding_spec.specs.Format.{binary32, limit};
 ghost use Rattle.rounding_spec.specs.Round.{keep, leftOver, roundedUp};
 ghost use Rattle.rounding_spec.specs.Nearest.{dist};
 ghost use Rattle.rounding_spec.specs.Inner.{tieBit, packed};
-ghost use Rattle.rounding_spec.specs.Value.{encode, roundFinite};
+ghost use Rattle.rounding_spec.specs.Value.{finite, encode, roundFinite};
 
 const INFINITY: u64 = 0x7f80_0000;
 
@@ -61,7 +65,6 @@ fn last_place(digits: u64) -> u64
     if digits <= 173 { 149 } else { digits - 24 }
 }
 
-// n / 2^shift to the nearest whole number.
 fn kept(ties: Ties, n: u64, shift: u64) -> u64
     requires { ⌜ 0 < shift ⌝ }
     ensures { λ r. ⌜ r ≡ keep ties shift n ⌝ }
@@ -98,7 +101,6 @@ pub struct Left {
     pub up: bool,
 }
 
-// How far q * 2^shift is from n, where q is n / 2^shift rounded down or up.
 fn left_over(n: u64, shift: u64, q: u64) -> Left
     requires { ⌜ (n / 2 ^ shift ≤ q) × (q ≤ suc (n / 2 ^ shift)) ⌝ }
     requires { ⌜ (0 < n) × (2 * (q * 2 ^ shift) ≤ 2 * n + 2 ^ shift) ⌝ }
@@ -132,7 +134,6 @@ fn left_far(n: u64, q: u64) -> Left
     }
 }
 
-// What is added to the remainder, so that more than a half means up.
 fn tie_bit(ties: Ties, q: u64) -> u64
     ensures { λ r. ⌜ r ≡ tieBit ties q ⌝ }
 {
@@ -140,6 +141,20 @@ fn tie_bit(ties: Ties, q: u64) -> u64
         Ties::ToEven => q % 2,
         Ties::ToZero => 0,
     }
+}
+
+// A rest on the side of the rounded number that `up` says; a zero has that number's sign. One more digit keeps the count of leading zeros
+// below 64, so that zero needs no branch.
+pub fn rest_pattern(sign: bool, up: bool, rest: u64, unit: u16) -> u32
+    requires { ⌜ (rest < 2 ^ 24) × (rest * 2 ^ unit < limit binary32) ⌝ }
+    ensures { λ r. ⌜ r ≡ encode binary32 (finite (cond (eqb rest 0) sign (unlike sign up)) (rest * 2 ^ unit)) ⌝ }
+{
+    let zero = rest == 0;
+    let room = (u64::leading_zeros(2 * rest + 1) - 39) as u16;
+    let shift = choose_exponent(room < unit, room, unit);
+    let exp = choose_exponent(zero, 0, unit - shift);
+    let minus = choose_sign(zero, sign, sign != up);
+    packed(minus, exp as u64, rest << shift)
 }
 
 // A carry out of the fraction runs into the exponent field by itself.

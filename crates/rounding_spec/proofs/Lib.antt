@@ -13,6 +13,7 @@ pub mod Bits
 pub mod Orders
 pub mod Scaled
 pub mod Codec
+pub mod Packed
 pub mod Signalling
 pub mod Predecessor
 pub mod TieDown

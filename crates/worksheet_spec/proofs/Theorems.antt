@@ -15,7 +15,7 @@ use Rattle.augmented_spec.specs.Direct.{sum, difference, product}
 use Rattle.worksheet_spec.specs.Constants.{psi, two, half, kappa, twoTo24, twoTo48, twoToMinus24, plusZero, smallest, twoTo127, twoTo102, twoToMinus102, twoToMinus126}
 use Rattle.worksheet_spec.specs.Lines.{mostLines, Step, add, subtract, multiply, fused, Line, line, value, minus, equal, zero}
 use Rattle.worksheet_spec.specs.Sheets.{sumInOrder, swaps, sumSheet, productSheet, sheetOf}
-use Rattle.worksheet_spec.specs.Theorems.{positivePattern, ConstantPatterns, StepNumbers, SheetSizes, EachLine, Derived, FirstLine, stepsOf, recompositionSteps, finishStep, edgeSteps, openingSteps, halvedSteps, sumSteps, tinySteps, middleSteps, ProductSteps, InOrder, LineCount, FootIsPair, OperationNumbers, FillingRefused, SheetFilled, FilledPair, All}
+use Rattle.worksheet_spec.specs.Theorems.{positivePattern, ConstantPatterns, StepNumbers, EachLine, Derived, FirstLine, stepsOf, recompositionSteps, finishStep, edgeSteps, openingSteps, halvedSteps, sumSteps, tinySteps, middleSteps, ProductSteps, InOrder, LineCount, FootIsPair, OperationNumbers, FillingRefused, SheetFilled, FilledPair, All}
 use Rattle.worksheet_spec.proofs.Patterns.{Pattern, pattern-of}
 use Rattle.worksheet_spec.proofs.EachLine as lines
 use Rattle.worksheet_spec.proofs.Derived as derivation
@@ -50,9 +50,6 @@ constant-patterns = (
 
 pub step-numbers : StepNumbers
 step-numbers = (refl, refl, refl, refl)
-
-pub sheet-sizes : SheetSizes
-sheet-sizes = (refl, refl, refl)
 
 -- ---- the lines
 pub each-line : EachLine
@@ -154,4 +151,4 @@ pub filled-pair : FilledPair
 filled-pair = answers.filled-pair
 
 pub all : All
-all = (constant-patterns, step-numbers, sheet-sizes, each-line, derived, first-line, in-order, line-count, foot-is-pair, operation-numbers, filling-refused, sheet-filled, filled-pair)
+all = (constant-patterns, step-numbers, each-line, derived, first-line, in-order, line-count, foot-is-pair, operation-numbers, filling-refused, sheet-filled, filled-pair)

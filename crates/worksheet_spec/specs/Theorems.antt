@@ -32,12 +32,9 @@ ConstantPatterns =
     × (twoTo127 ≡ positivePattern (2 ^ 127 * 2 ^ 149)) × (twoTo102 ≡ positivePattern (2 ^ 102 * 2 ^ 149))
     × (twoToMinus102 ≡ positivePattern (2 ^ 47)) × (twoToMinus126 ≡ positivePattern (2 ^ 23))
 
--- ---- the numbers of steps (R5.22), and the sizes (R5.21, R5.22, R8.5)
+-- ---- the numbers of steps (R5.22)
 abbrev pub StepNumbers : Type 0
 StepNumbers = (stepNumber add ≡ 1) × (stepNumber subtract ≡ 2) × (stepNumber multiply ≡ 3) × (stepNumber fused ≡ 4)
-
-abbrev pub SheetSizes : Type 0
-SheetSizes = (lineSize ≡ 5) × (mostLines ≡ 13) × (sheetSize ≡ 65)
 
 -- ---- each line by itself: its result is the step's on its operands (R7.3)
 unfoldable pub Each : List Line → Type 0
@@ -190,5 +187,5 @@ FilledPair = (o x y : ℕ) (words : List ℕ) → HasDirectPair o x y (filling o
 -- ---- all of them
 abbrev pub All : Type 0
 All =
-    ConstantPatterns × StepNumbers × SheetSizes × EachLine × Derived × FirstLine × InOrder × LineCount × FootIsPair × OperationNumbers
+    ConstantPatterns × StepNumbers × EachLine × Derived × FirstLine × InOrder × LineCount × FootIsPair × OperationNumbers
     × FillingRefused × SheetFilled × FilledPair

@@ -1,9 +1,8 @@
 use borrow.Author.Needs.{needs}
 use mathlib.Core.Path.{refl}
 use borrow.Author.Tests.{eq-eqb, ne-eqb}
-use lib.ListN.{getD}
-use Rattle.accumulator_spec.specs.Totals.{numberSize, mostTerms}
-use Rattle.accumulator_spec.proofs.Placed.{total-placed}
+use Rattle.accumulator_spec.specs.Totals.{mostTerms, count}
+use Rattle.accumulator_spec.proofs.TermAdded.{total-term}
 use Rattle.accumulator_add.proofs.add.Statement.{statement}
 use Rattle.accumulator_add.proofs.add.Tie as tie
 
@@ -12,12 +11,6 @@ slice-read-n c = search needs
 
 returns : tie.Need-returns
 returns c = rw (eq-eqb _ mostTerms (c .if1 .taken)) (refl, refl)
-
-cast-w : tie.Need-cast-w
-cast-w c = search needs
-
-mul-add : tie.Need-mul-add
-mul-add c = search needs
 
 sub-add : tie.Need-sub-add
 sub-add c = search needs
@@ -45,8 +38,9 @@ returns-2 c =
     let b = c .before .before .before .before .before .before .before in
     let a = b .args in
     let t = a .total .now in
-    rw (ne-eqb (getD t numberSize 0) mostTerms (c .before .before .before .before .if1 .left))
-    (refl, total-placed t (λ i. c .before .before .before .before .before .before .slice-known .given i .fits) (a .minus) (a .sig) (a .exp) (b .pre .2) (c .before .before .add .last .0) (c .before .before .add .ensures) (b .pre .0) (getD t numberSize 0))
+    let k = c .before .before .add in
+    rw (ne-eqb (count t) mostTerms (c .before .before .before .before .if1 .left))
+    (refl, total-term t (a .minus) (a .sig) (a .exp) (count t) (k .last .0) (b .pre .0) (k .ensures))
 
 pub add-spec : {M : Type 1} → statement M
 add-spec =
@@ -54,8 +48,6 @@ add-spec =
     (tie.spec
     slice-read-n
     returns
-    cast-w
-    mul-add
     sub-add
     part-add-start
     part-add-end

@@ -10,7 +10,7 @@ use Rattle.pattern_spec.proofs.Classified.{class-operand}
 use Rattle.accumulator_spec.specs.Totals.{ofPattern}
 use Rattle.accumulator_spec.proofs.Adding.{fit-bounds}
 use Rattle.accumulator_spec.proofs.Terms.{tried, special}
-use Rattle.accumulator_fit.proofs.Lent.{sound}
+use Rattle.accumulator_words.proofs.Lent.{sound}
 use Rattle.accumulator_add.specs.Inner.{numbered, hasRoom}
 use Rattle.accumulator_add.proofs.Numbers.{lent-adds, room-numbered}
 use Rattle.accumulator_add.proofs.Scaled.{pattern-value, finer-digits}
@@ -69,7 +69,8 @@ returns-2 c =
     let a = f .before .before .before .before .args in
     let s = sound (a .total .now) (sym (f .before .refusal .ensures) ∙ f .if1 .left) in
     let v = pattern-value _ _ (e .before .before .classify .ensures) ∙ ap (λ (v : Class). finer binary32 (valueOf v)) (e .a .given .1) ∙ finer-digits _ _ _ in
-    tried (a .total .now) (ofPattern (a .x)) (s .0) (s .1) _ _ v (hasRoom (a .total .now)) _ _ refl (ap numbered (k .add .ensures .0) ∙ room-numbered (hasRoom (a .total .now))) (k .add .ensures .1)
+    let room = hasRoom (a .total .now) in
+    tried (a .total .now) (ofPattern (a .x)) (s .0) (s .1) _ _ v room _ _ refl (ap numbered (k .add .ensures .0) ∙ room-numbered room) (k .add .ensures .1)
 
 same-length-3 : tie.Need-same-length-3
 same-length-3 c = search needs
@@ -80,7 +81,8 @@ returns-3 c =
     let f = c .before .before .before in
     let a = f .before .before .before .before .args in
     let s = sound (a .total .now) (sym (f .before .refusal .ensures) ∙ f .if1 .left) in
-    special (a .total .now) (ofPattern (a .x)) (s .0) (s .1) (ap isFinite (pattern-value _ _ (c .before .before .classify .ensures) ∙ ap (λ (v : Class). finer binary32 (valueOf v)) (c .enum-told .given .1)))
+    let v = pattern-value _ _ (c .before .before .classify .ensures) ∙ ap (λ (v : Class). finer binary32 (valueOf v)) (c .enum-told .given .1) in
+    special (a .total .now) (ofPattern (a .x)) (s .0) (s .1) (ap isFinite v)
 
 same-length-4 : tie.Need-same-length-4
 same-length-4 c = search needs
@@ -91,7 +93,8 @@ returns-4 c =
     let f = c .before .before .before in
     let a = f .before .before .before .before .args in
     let s = sound (a .total .now) (sym (f .before .refusal .ensures) ∙ f .if1 .left) in
-    special (a .total .now) (ofPattern (a .x)) (s .0) (s .1) (ap isFinite (pattern-value _ _ (c .before .before .classify .ensures) ∙ ap (λ (v : Class). finer binary32 (valueOf v)) (c .enum-told2 .given .1)))
+    let v = pattern-value _ _ (c .before .before .classify .ensures) ∙ ap (λ (v : Class). finer binary32 (valueOf v)) (c .enum-told2 .given .1) in
+    special (a .total .now) (ofPattern (a .x)) (s .0) (s .1) (ap isFinite v)
 
 pub add-pattern-spec : {M : Type 1} → statement M
 add-pattern-spec =

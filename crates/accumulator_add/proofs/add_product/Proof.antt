@@ -6,7 +6,7 @@ use Rattle.pattern_spec.specs.Classes.{valueOf}
 use Rattle.accumulator_spec.specs.Totals.{ofProduct}
 use Rattle.accumulator_spec.proofs.Adding.{fit-bounds}
 use Rattle.accumulator_spec.proofs.Terms.{tried, special}
-use Rattle.accumulator_fit.proofs.Lent.{sound}
+use Rattle.accumulator_words.proofs.Lent.{sound}
 use Rattle.accumulator_add.specs.Inner.{numbered, hasRoom}
 use Rattle.accumulator_add.proofs.Numbers.{lent-adds, room-numbered}
 use Rattle.accumulator_add.proofs.add_product.Statement.{statement}
@@ -57,7 +57,8 @@ returns-2 c =
     let a = f .before .before .before .before .args in
     let s = sound (a .total .now) (sym (f .before .refusal .ensures) ∙ f .if1 .left) in
     let v = rw (e .p .given .1) at (e .before .before .product .ensures) in
-    tried (a .total .now) (ofProduct (a .x) (a .y)) (s .0) (s .1) _ _ (v .is) (hasRoom (a .total .now)) _ _ refl (ap numbered (k .add .ensures .0) ∙ room-numbered (hasRoom (a .total .now))) (k .add .ensures .1)
+    let room = hasRoom (a .total .now) in
+    tried (a .total .now) (ofProduct (a .x) (a .y)) (s .0) (s .1) _ _ (v .is) room _ _ refl (ap numbered (k .add .ensures .0) ∙ room-numbered room) (k .add .ensures .1)
 
 same-length-3 : tie.Need-same-length-3
 same-length-3 c = search needs

@@ -42,7 +42,9 @@ returns c =
     let k = a .before .before in
     let f = k .before in
     let b = f .before in
-    halves-finite (integer (b .args .number)) _ (f .rounded .ensures) _ _ _ (sym (a .a .given .1) ∙ k .classify .ensures) (b .pre) _ (m .moved .ensures) _ (c .before .rounded2 .ensures) _ (c .zero-takes .ensures)
+    let class = sym (a .a .given .1) ∙ k .classify .ensures in
+    let second = c .before .rounded2 .ensures in
+    halves-finite (integer (b .args .number)) _ (f .rounded .ensures) _ _ _ class (b .pre) _ (m .moved .ensures) _ second _ (c .zero-takes .ensures)
 
 returns-2 : tie.Need-returns-2
 unfolding valueOf

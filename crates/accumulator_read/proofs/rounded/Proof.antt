@@ -33,11 +33,14 @@ returns c =
     let b = c .before .before .before in
     let ws = b .args .t1 in
     let minus = leb (2 ^ 31) (getD ws 19 0) in
+    let m = c .before .before .magnitude in
     let d = c .before .first-digits in
-    let e : exactNumber (integer ws) ≡ finite minus (natAbs (integer ws)) = exact-top 19 ws (array-length numberSize ws _ (b .good .0)) (array-words numberSize ws _ (b .good .0)) minus refl in
+    let e : exactNumber (integer ws) ≡ finite minus (natAbs (integer ws)) =
+    exact-top 19 ws (array-length numberSize ws _ (b .good .0)) (array-words numberSize ws _ (b .good .0)) minus refl
+    in
     c .round .ensures
     ∙ ap (encode binary32)
-    (leading-rounds ToZero minus (natural (c .before .before .magnitude .result)) (d .result .sig) (d .result .exp) (d .ensures) ∙ ap (roundFinite ToZero binary32 minus) (c .before .before .magnitude .ensures)
+    (leading-rounds ToZero minus (natural (m .result)) (d .result .sig) (d .result .exp) (d .ensures) ∙ ap (roundFinite ToZero binary32 minus) (m .ensures)
     ∙ ap (round ToZero binary32) (sym e))
 
 pub rounded-spec : {M : Type 1} → statement M

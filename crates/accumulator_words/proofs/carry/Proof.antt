@@ -76,7 +76,8 @@ wide-requires c κs = search needs
 add-s : tie.Need-add-s Inv-loop μ-loop
 add-s c =
     let l = c .before .before .before .before .loop in
-    omega (arith, read-lt (c .before .before .before .before .before .before .before .args .minus) (getD (l .words) (l .i) 0) _ (c .before .slice-known2 .given (l .i) .fits) (l .inv .6), c .wide .ensures)
+    let s = c .before .before .before .before .before .before .before .args .minus in
+    omega (arith, read-lt s (getD (l .words) (l .i) 0) _ (c .before .slice-known2 .given (l .i) .fits) (l .inv .6), c .wide .ensures)
 
 cast-words : tie.Need-cast-words Inv-loop μ-loop
 cast-words c = omega arith
@@ -90,7 +91,8 @@ slice-write-words c = search needs
 add-low : tie.Need-add-low Inv-loop μ-loop
 add-low c =
     let l = c .before .before .before .before .loop in
-    omega (arith, read-lt (c .before .before .before .before .before .before .before .args .minus) (getD (l .words) (l .i) 0) _ (c .before .slice-known2 .given (l .i) .fits) (l .inv .6), c .wide .ensures)
+    let s = c .before .before .before .before .before .before .before .args .minus in
+    omega (arith, read-lt s (getD (l .words) (l .i) 0) _ (c .before .slice-known2 .given (l .i) .fits) (l .inv .6), c .wide .ensures)
 
 add-i : tie.Need-add-i Inv-loop μ-loop
 add-i c = search needs
@@ -114,7 +116,8 @@ loop-again c =
       (λ z. refl),
       rw (drop-set-lt (l .i + 1) (l .words) (l .i) _ (omega arith)) (drop-words (l .i + 1) (l .words) known),
       l .inv .6,
-      turned s (l .words) (l .i) (l .low + 4294967296 * l .high) _ _ in? (turn-xor s _ _ (omega arith) (l .inv .6) ∙ ap (turn s) (ap (λ (x : ℕ). (x + l .low) % 4294967296) e ∙ lowest (turn s w) (l .low) (l .high)))
+      turned s (l .words) (l .i) (l .low + 4294967296 * l .high) _ _ in?
+          (turn-xor s _ _ (omega arith) (l .inv .6) ∙ ap (turn s) (ap (λ (x : ℕ). (x + l .low) % 4294967296) e ∙ lowest (turn s w) (l .low) (l .high)))
           (ap (λ (x : ℕ). (x + l .low) / 4294967296 + l .high + 4294967296 * 0) e ∙ pending (turn s w) (l .low) (l .high))
           ∙ l .inv .7,
     )

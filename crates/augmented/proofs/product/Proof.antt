@@ -1,12 +1,75 @@
 use borrow.Author.Needs.{needs}
+use mathlib.Core.Path.{refl, sym, _∙_}
+use Rattle.rounding_spec.specs.Value.{Fits, encode}
+use Rattle.pattern_spec.specs.Classes.{valueOf}
+use Rattle.augmented_spec.proofs.Answered.{product-finite, product-special}
 use Rattle.augmented.proofs.product.Statement.{statement}
 use Rattle.augmented.proofs.product.Tie as tie
 
-of-patterns-requires : tie.Need-of-patterns-requires
-of-patterns-requires c κs = search needs
+product-requires : tie.Need-product-requires
+product-requires c κs = search needs
+
+enum-known-total : tie.Need-enum-known-total
+enum-known-total c = search needs
+
+of-number-requires : tie.Need-of-number-requires
+of-number-requires c κs = (rw (c .before .total .given .1) at (c .before .before .before .product .ensures)) .bounded .sig
+
+enum-known-total-2 : tie.Need-enum-known-total-2
+enum-known-total-2 c = search needs
+
+infinity-requires : tie.Need-infinity-requires
+infinity-requires c κs = search needs
+
+twice-requires : tie.Need-twice-requires
+twice-requires c κs = search needs
+
+enum-told : tie.Need-enum-told
+enum-told c = search needs
+
+twice-requires-2 : tie.Need-twice-requires-2
+twice-requires-2 c κs = search needs
 
 returns : tie.Need-returns
-returns c = c .of-patterns .ensures
+unfolding valueOf
+returns c =
+    let t = c .before .before in
+    let s = t .before .before in
+    let b = s .before in
+    let e = rw (t .total .given .1) at (s .product .ensures) in
+    c .of-number .ensures ∙ sym (product-finite (b .args .x) (b .args .y) _ _ (e .is))
+
+returns-2 : tie.Need-returns-2
+unfolding valueOf Fits
+returns-2 c =
+    let i = c .before in
+    let t = i .before .before in
+    let s = t .before .before in
+    let b = s .before in
+    let e = rw (t .total2 .given .1) at (s .product .ensures) in
+    product-special (b .args .x) (b .args .y) _ (e .is) refl tt _ (i .infinity .ensures) _ (c .twice .ensures)
+
+returns-3 : tie.Need-returns-3
+unfolding valueOf Fits encode
+returns-3 c =
+    let t = c .before in
+    let s = t .before .before in
+    let b = s .before in
+    let e = rw (t .enum-told .given .1) at (s .product .ensures) in
+    product-special (b .args .x) (b .args .y) _ (e .is) refl tt _ refl _ (c .twice2 .ensures)
 
 pub product-spec : {M : Type 1} → statement M
-product-spec = tie.close (tie.spec of-patterns-requires returns)
+product-spec =
+    tie.close
+    (tie.spec
+    product-requires
+    enum-known-total
+    of-number-requires
+    enum-known-total-2
+    infinity-requires
+    twice-requires
+    enum-told
+    twice-requires-2
+    returns
+    returns-2
+    returns-3)

@@ -1,26 +1,32 @@
 use borrow.Author.Needs.{needs}
-use mathlib.Core.Path.{_≡_, refl, sym, ap, _∙_}
-use Prim.Native.Nat.{_-_, _≤_}
+use mathlib.Core.Path.{_≡_, refl, sym, _∙_}
+use mathlib.Core.List.{List}
+use Prim.Native.Nat.{ℕ, _-_, _≤_, _<_}
 use native.Mathlib.Omega.{arith}
 use lib.ListN.{getD, length}
 use lib.Seq.{length-take-le, length-front}
-use Rattle.conservation_spec.specs.Lists.{Totals}
-use Rattle.conservation_spec.proofs.Events.{totalsFrom, wordsFrom, nothing-left, next-question}
+use Rattle.conservation_spec.specs.Replay.{Asking, Lent}
+use Rattle.conservation_spec.proofs.Events.{leftFrom, nothing-left, next-question}
 use Rattle.conservation_spec.proofs.Misfits.{within-at}
 use Rattle.conservation.proofs.ask_all.Statement.{statement}
 use Rattle.conservation.proofs.ask_all.Tie as tie
 
+abbrev lent : List ℕ → List ℕ → List ℕ → Lent
+lent words first other = record { words = words; totals = record { first = first; other = other } }
+
+abbrev asking : List ℕ → List ℕ → List ℕ → List ℕ → Asking
+asking operations xs ys counts = record { operations = operations; xs = xs; ys = ys; counts = counts }
+
 abbrev Inv-loop : tie.InvT-loop
-Inv-loop operations xs ys counts words₀ first₀ second₀ i₀ words first second i =
-    (i ≤ length operations) × (length words ≡ length words₀) × (length first ≡ length first₀) × (length second ≡ length second₀)
-    × (totalsFrom operations xs ys counts i words (record { first = first; other = second }) ≡ totalsFrom operations xs ys counts 0 words₀ (record { first = first₀; other = second₀ }))
-    × (wordsFrom operations xs ys counts i words ≡ wordsFrom operations xs ys counts 0 words₀)
+Inv-loop operations xs ys counts words₀ first₀ other₀ i₀ words first other i =
+    (i ≤ length operations) × (length words ≡ length words₀) × (length first ≡ length first₀) × (length other ≡ length other₀)
+    × (leftFrom (asking operations xs ys counts) i (lent words first other) ≡ leftFrom (asking operations xs ys counts) 0 (lent words₀ first₀ other₀))
 
 abbrev μ-loop : tie.MeasureT-loop
-μ-loop operations xs ys counts words₀ first₀ second₀ i₀ words first second i = length operations - i
+μ-loop operations xs ys counts words₀ first₀ other₀ i₀ words first other i = length operations - i
 
 loop-holds : tie.Need-loop-holds Inv-loop μ-loop
-loop-holds c = (omega arith, refl, refl, refl, refl, refl)
+loop-holds c = (omega arith, refl, refl, refl, refl)
 
 mul-n : tie.Need-mul-n Inv-loop μ-loop
 mul-n c = search needs
@@ -75,13 +81,16 @@ loop-less c = search needs
 loop-again : tie.Need-loop-again Inv-loop μ-loop
 loop-again c =
     let l = c .before .before .before .before .before .before .before .before .before .before .before .before .before .before .before .loop in
-    let start = c .before .before .before .before .before .before .before .before .before .before .before .before .before .before .before .before .before .before .before .before .before .before .before in
-    let a = start .args in
-    let p = start .pre .0 in
-    let s = c .before .before .before .before .before .before .settle in
-    let k = next-question (a .operations .now) (a .xs .now) (a .ys .now) (a .counts .now) (l .i) (omega arith) (p .0) (p .1) (p .2) (l .words) (l .first) (l .second) _ _ _ (s .ensures .0) (s .ensures .1 .0) (s .ensures .1 .1) in
+    let a = c .before .before .before .before .before .before .before .before .before .before .before .before .before .before .before .before .before .before .before .before .before .before
+    .before .args in
+    let inside : l .i < length (a .operations .now) = omega arith in
+    let settled = c .before .before .before .before .before .before in
+    let p = settled .before .before .before .before .before .before .before .before .before .before .before .before .before .before .before .before .before .pre .0 in
+    let s = settled .settle in
+    let q = asking (a .operations .now) (a .xs .now) (a .ys .now) (a .counts .now) in
+    let k = next-question q (l .i) inside (p .0) (p .1) (p .2) (l .words) _ _ _ (s .ensures) in
     let long = length-front (l .words) (s .last .1 .1 .1 .0) (getD (a .counts .now) (l .i) 0) (s .kept .1 .1 .1 .0) in
-    (omega arith, long ∙ l .inv .1, s .kept .1 .1 .1 .1 .0 ∙ l .inv .2, s .kept .1 .1 .1 .1 .1 .0 ∙ l .inv .3, k .0 ∙ l .inv .4, k .1 ∙ l .inv .5)
+    (omega arith, long ∙ l .inv .1, s .kept .1 .1 .1 .1 .0 ∙ l .inv .2, s .kept .1 .1 .1 .1 .1 .0 ∙ l .inv .3, k ∙ l .inv .4)
 
 same-length : tie.Need-same-length Inv-loop μ-loop
 same-length c = search needs
@@ -96,10 +105,8 @@ returns : tie.Need-returns Inv-loop μ-loop
 returns c =
     let l = c .before .loop in
     let a = c .before .before .before .before .before .before .before .before .before .args in
-    let t : Totals = record { first = l .first; other = l .second } in
-    let k = nothing-left (a .operations .now) (a .xs .now) (a .ys .now) (a .counts .now) (l .i) (l .words) t (omega arith) in
-    let e = sym (k .0) ∙ l .inv .4 in
-    (ap (λ (u : Totals). u .first) e, (ap (λ (u : Totals). u .other) e, sym (k .1) ∙ l .inv .5))
+    let k = nothing-left (asking (a .operations .now) (a .xs .now) (a .ys .now) (a .counts .now)) (l .i) (lent (l .words) (l .first) (l .other)) (omega arith) in
+    sym k ∙ l .inv .4
 
 pub ask-all-spec : {M : Type 1} → statement M
 ask-all-spec =

@@ -1,6 +1,7 @@
 use borrow.Author.Needs.{needs}
 use mathlib.Core.Path.{sym, _∙_}
 use borrow.Author.Tests.{not-true, not-false}
+use Rattle.conservation_spec.specs.Replay.{Asking, Lent}
 use Rattle.conservation_spec.proofs.Outcome.{refusal-outcome, ready, done-outcome}
 use Rattle.conservation.proofs.replay.Statement.{statement}
 use Rattle.conservation.proofs.replay.Tie as tie
@@ -23,15 +24,17 @@ same-length-3 c = search needs
 returns : tie.Need-returns
 returns c =
     let a = c .before .before .before .before .before .before .before .before .before .before .before .before .before .args in
-    refusal-outcome (a .operations .now) (a .xs .now) (a .ys .now) (a .counts .now) (a .words .now) (a .first .now) (a .second .now)
-    _ (c .before .before .answer .ensures) (not-true _ (sym (c .before .is-refusal .ensures) ∙ c .if1 .taken))
+    let q : Asking = record { operations = a .operations .now; xs = a .xs .now; ys = a .ys .now; counts = a .counts .now } in
+    let l : Lent = record { words = a .words .now; totals = record { first = a .first .now; other = a .other .now } } in
+    refusal-outcome q l _ (c .before .before .answer .ensures) (not-true _ (sym (c .before .is-refusal .ensures) ∙ c .if1 .taken))
 
 ask-all-requires : tie.Need-ask-all-requires
 ask-all-requires c κs =
     let go = c .before .before .before in
     let a = go .before .before .before .before .before .before .before .before .before .before .before .before .before .args in
-    ready (a .operations .now) (a .xs .now) (a .ys .now) (a .counts .now) (a .words .now) (a .first .now) (a .second .now)
-    _ (go .before .before .answer .ensures) (not-false _ (sym (go .before .is-refusal .ensures) ∙ go .if1 .left))
+    let q : Asking = record { operations = a .operations .now; xs = a .xs .now; ys = a .ys .now; counts = a .counts .now } in
+    let l : Lent = record { words = a .words .now; totals = record { first = a .first .now; other = a .other .now } } in
+    ready q l _ (go .before .before .answer .ensures) (not-false _ (sym (go .before .is-refusal .ensures) ∙ go .if1 .left))
 
 same-length-4 : tie.Need-same-length-4
 same-length-4 c = search needs
@@ -48,9 +51,10 @@ returns-2 c =
     let start = go .before .before .before .before .before .before .before .before .before in
     let a = start .before .before .before .before .args in
     let k = c .before .before .before .before .before .before .ask-all .ensures in
-    done-outcome (a .operations .now) (a .xs .now) (a .ys .now) (a .counts .now) (a .words .now) (a .first .now) (a .second .now)
-    _ (go .before .before .answer .ensures) (not-false _ (sym (go .before .is-refusal .ensures) ∙ go .if1 .left))
-    (λ i. start .before .before .shared-slice-known2 .given i .fits) (λ i. start .before .shared-slice-known3 .given i .fits) _ _ _ (k .0) (k .1 .0) (k .1 .1)
+    let q : Asking = record { operations = a .operations .now; xs = a .xs .now; ys = a .ys .now; counts = a .counts .now } in
+    let l : Lent = record { words = a .words .now; totals = record { first = a .first .now; other = a .other .now } } in
+    done-outcome q l _ (go .before .before .answer .ensures) (not-false _ (sym (go .before .is-refusal .ensures) ∙ go .if1 .left))
+    (λ i. start .before .before .shared-slice-known2 .given i .fits) (λ i. start .before .shared-slice-known3 .given i .fits) _ k
 
 pub replay-spec : {M : Type 1} → statement M
 replay-spec =

@@ -59,11 +59,13 @@ loop-again : tie.Need-loop-again Inv-loop μ-loop
 loop-again c =
     let l = c .before .before .before .loop in
     let a = c .before .before .before .before in
-    let e = array-length numberSize (a .args .t1) _ (a .good .0) in
+    let ws = a .args .t1 in
+    let e = array-length numberSize ws _ (a .good .0) in
+    let k = array-words numberSize ws _ (a .good .0) in
     let w = word-lt (c .before) in (
       omega arith,
       omega arith,
-      taken-in (a .args .t1) (l .i) (c .before .wide .result) (omega arith) (omega arith) (c .before .wide .ensures) (array-words numberSize (a .args .t1) _ (a .good .0)) (l .sig) (l .exp) (c .if1 .taken) (l .inv .2),
+      taken-in ws (l .i) (c .before .wide .result) (omega arith) (omega arith) (c .before .wide .ensures) k (l .sig) (l .exp) (c .if1 .taken) (l .inv .2),
     )
 
 sub-choose : tie.Need-sub-choose Inv-loop μ-loop
@@ -83,11 +85,13 @@ loop-again-2 c =
     let l = c .before .before .before .before .loop in
     let a = c .before .before .before .before .before in
     let w = c .before .before .wide in
-    let e = array-length numberSize (a .args .t1) _ (a .good .0) in (
+    let ws = a .args .t1 in
+    let e = array-length numberSize ws _ (a .good .0) in
+    let k = array-words numberSize ws _ (a .good .0) in (
       omega arith,
       rw (c .choose .ensures) (omega (arith, sticky-half (w .result) (l .sig))),
       rw (c .choose .ensures)
-          (made-sticky (a .args .t1) (l .i) (w .result) (omega arith) (omega arith) (w .ensures) (array-words numberSize (a .args .t1) _ (a .good .0)) (l .sig) (l .exp) (c .before .if1 .left) (l .inv .2)),
+          (made-sticky ws (l .i) (w .result) (omega arith) (omega arith) (w .ensures) k (l .sig) (l .exp) (c .before .if1 .left) (l .inv .2)),
     )
 
 returns : tie.Need-returns Inv-loop μ-loop

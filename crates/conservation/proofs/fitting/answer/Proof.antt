@@ -1,7 +1,8 @@
 use borrow.Author.Needs.{needs}
 use mathlib.Core.Path.{sym, _∙_}
 use borrow.Author.Tests.{not-true, not-false}
-use Rattle.conservation_spec.proofs.Misfits.{unequal, too-many, first-not-cleared, second-not-cleared, past-words, nothing-wrong}
+use Rattle.conservation_spec.proofs.Misfits.{unequal, too-many, first-not-cleared, other-not-cleared, past-words, nothing-wrong}
+use Rattle.conservation_spec.specs.Replay.{Asking, Lent}
 use Rattle.conservation.proofs.fitting.answer.Statement.{statement}
 use Rattle.conservation.proofs.fitting.answer.Tie as tie
 
@@ -11,14 +12,17 @@ all-equal-requires c κs = search needs
 returns : tie.Need-returns
 returns c =
     let a = c .before .before .before .before .before .before .before .before .before .args in
-    unequal (a .operations .now) (a .xs .now) (a .ys .now) (a .counts .now) (a .words .now) (a .first .now) (a .second .now) (sym (c .before .all-equal .ensures) ∙ not-true _ (c .if1 .taken))
+    let q : Asking = record { operations = a .operations .now; xs = a .xs .now; ys = a .ys .now; counts = a .counts .now } in
+    let l : Lent = record { words = a .words .now; totals = record { first = a .first .now; other = a .other .now } } in
+    unequal q l (sym (c .before .all-equal .ensures) ∙ not-true _ (c .if1 .taken))
 
 returns-2 : tie.Need-returns-2
 returns-2 c =
     let same = c .before in
     let a = same .before .before .before .before .before .before .before .before .before .args in
-    too-many (a .operations .now) (a .xs .now) (a .ys .now) (a .counts .now) (a .words .now) (a .first .now) (a .second .now)
-    (sym (same .before .all-equal .ensures) ∙ not-false _ (same .if1 .left)) (c .if2 .taken)
+    let q : Asking = record { operations = a .operations .now; xs = a .xs .now; ys = a .ys .now; counts = a .counts .now } in
+    let l : Lent = record { words = a .words .now; totals = record { first = a .first .now; other = a .other .now } } in
+    too-many q l (sym (same .before .all-equal .ensures) ∙ not-false _ (same .if1 .left)) (c .if2 .taken)
 
 is-cleared-requires : tie.Need-is-cleared-requires
 is-cleared-requires c κs = search needs
@@ -28,8 +32,9 @@ returns-3 c =
     let few = c .before .before in
     let same = few .before in
     let a = same .before .before .before .before .before .before .before .before .before .args in
-    first-not-cleared (a .operations .now) (a .xs .now) (a .ys .now) (a .counts .now) (a .words .now) (a .first .now) (a .second .now)
-    (sym (same .before .all-equal .ensures) ∙ not-false _ (same .if1 .left)) (few .if2 .left) (sym (c .before .is-cleared .ensures) ∙ not-true _ (c .if3 .taken))
+    let q : Asking = record { operations = a .operations .now; xs = a .xs .now; ys = a .ys .now; counts = a .counts .now } in
+    let l : Lent = record { words = a .words .now; totals = record { first = a .first .now; other = a .other .now } } in
+    first-not-cleared q l (sym (same .before .all-equal .ensures) ∙ not-false _ (same .if1 .left)) (few .if2 .left) (sym (c .before .is-cleared .ensures) ∙ not-true _ (c .if3 .taken))
 
 is-cleared-requires-2 : tie.Need-is-cleared-requires-2
 is-cleared-requires-2 c κs = search needs
@@ -40,31 +45,34 @@ returns-4 c =
     let few = first .before .before in
     let same = few .before in
     let a = same .before .before .before .before .before .before .before .before .before .args in
-    second-not-cleared (a .operations .now) (a .xs .now) (a .ys .now) (a .counts .now) (a .words .now) (a .first .now) (a .second .now)
-    (sym (same .before .all-equal .ensures) ∙ not-false _ (same .if1 .left)) (few .if2 .left) (sym (first .before .is-cleared .ensures) ∙ not-false _ (first .if3 .left)) (sym (c .before .is-cleared2 .ensures) ∙ not-true _ (c .if4 .taken))
+    let q : Asking = record { operations = a .operations .now; xs = a .xs .now; ys = a .ys .now; counts = a .counts .now } in
+    let l : Lent = record { words = a .words .now; totals = record { first = a .first .now; other = a .other .now } } in
+    other-not-cleared q l (sym (same .before .all-equal .ensures) ∙ not-false _ (same .if1 .left)) (few .if2 .left) (sym (first .before .is-cleared .ensures) ∙ not-false _ (first .if3 .left)) (sym (c .before .is-cleared2 .ensures) ∙ not-true _ (c .if4 .taken))
 
 all-within-requires : tie.Need-all-within-requires
 all-within-requires c κs = search needs
 
 returns-5 : tie.Need-returns-5
 returns-5 c =
-    let second = c .before .before in
-    let first = second .before .before in
+    let other = c .before .before in
+    let first = other .before .before in
     let few = first .before .before in
     let same = few .before in
     let a = same .before .before .before .before .before .before .before .before .before .args in
-    past-words (a .operations .now) (a .xs .now) (a .ys .now) (a .counts .now) (a .words .now) (a .first .now) (a .second .now)
-    (sym (same .before .all-equal .ensures) ∙ not-false _ (same .if1 .left)) (few .if2 .left) (sym (first .before .is-cleared .ensures) ∙ not-false _ (first .if3 .left)) (sym (second .before .is-cleared2 .ensures) ∙ not-false _ (second .if4 .left)) (sym (c .before .all-within .ensures) ∙ not-true _ (c .if5 .taken))
+    let q : Asking = record { operations = a .operations .now; xs = a .xs .now; ys = a .ys .now; counts = a .counts .now } in
+    let l : Lent = record { words = a .words .now; totals = record { first = a .first .now; other = a .other .now } } in
+    past-words q l (sym (same .before .all-equal .ensures) ∙ not-false _ (same .if1 .left)) (few .if2 .left) (sym (first .before .is-cleared .ensures) ∙ not-false _ (first .if3 .left)) (sym (other .before .is-cleared2 .ensures) ∙ not-false _ (other .if4 .left)) (sym (c .before .all-within .ensures) ∙ not-true _ (c .if5 .taken))
 
 returns-6 : tie.Need-returns-6
 returns-6 c =
-    let second = c .before .before in
-    let first = second .before .before in
+    let other = c .before .before in
+    let first = other .before .before in
     let few = first .before .before in
     let same = few .before in
     let a = same .before .before .before .before .before .before .before .before .before .args in
-    nothing-wrong (a .operations .now) (a .xs .now) (a .ys .now) (a .counts .now) (a .words .now) (a .first .now) (a .second .now)
-    (sym (same .before .all-equal .ensures) ∙ not-false _ (same .if1 .left)) (few .if2 .left) (sym (first .before .is-cleared .ensures) ∙ not-false _ (first .if3 .left)) (sym (second .before .is-cleared2 .ensures) ∙ not-false _ (second .if4 .left)) (sym (c .before .all-within .ensures) ∙ not-false _ (c .if5 .left))
+    let q : Asking = record { operations = a .operations .now; xs = a .xs .now; ys = a .ys .now; counts = a .counts .now } in
+    let l : Lent = record { words = a .words .now; totals = record { first = a .first .now; other = a .other .now } } in
+    nothing-wrong q l (sym (same .before .all-equal .ensures) ∙ not-false _ (same .if1 .left)) (few .if2 .left) (sym (first .before .is-cleared .ensures) ∙ not-false _ (first .if3 .left)) (sym (other .before .is-cleared2 .ensures) ∙ not-false _ (other .if4 .left)) (sym (c .before .all-within .ensures) ∙ not-false _ (c .if5 .left))
 
 pub answer-spec : {M : Type 1} → statement M
 answer-spec =

@@ -1,8 +1,8 @@
 use borrow.Author.Needs.{needs}
 use mathlib.Core.Path.{sym, ap, _∙_}
 use Rattle.worksheet.specs.Answers.{answerFilled}
-use Rattle.conservation_spec.specs.Lists.{Question, Totals}
-use Rattle.conservation_spec.proofs.Settled.{refused-adds-nothing, outside-adds-nothing, entering-adds}
+use Rattle.conservation_spec.specs.Lists.{Posed, Totals}
+use Rattle.conservation_spec.proofs.Settled.{refused-settles, outside-settles, entering-settles}
 use Rattle.conservation.proofs.settling.settle.Statement.{statement}
 use Rattle.conservation.proofs.settling.settle.Tie as tie
 
@@ -42,10 +42,10 @@ returns c =
     let sheet = entered .before .before .before in
     let f = sheet .before .before .before .before .fill .ensures in
     let a = sheet .before .before .before .before .before .before .before .before .before .args in
-    let q : Question = record { operation = a .operation; x = a .x; y = a .y; words = a .words .now } in
-    let t : Totals = record { first = a .first .now; other = a .second .now } in
-    let k = entering-adds q t _ _ (sym (ap answerFilled (sheet .filled .given .1)) ∙ f .0) (sym (entered .before .enters .ensures) ∙ entered .if1 .taken) _ _ (c .before .before .before .before .before .before .add-two .ensures) (c .before .before .add-set .ensures) in
-    (f .1, (k .0, k .1))
+    let q : Posed = record { operation = a .operation; x = a .x; y = a .y; words = a .words .now } in
+    let t : Totals = record { first = a .first .now; other = a .other .now } in
+    entering-settles q t f _ _ (ap answerFilled (sheet .filled .given .1)) (sym (entered .before .enters .ensures) ∙ entered .if1 .taken) _ _
+    (c .before .before .before .before .before .before .add-two .ensures) (c .before .before .add-set .ensures)
 
 same-length-4 : tie.Need-same-length-4
 same-length-4 c = search needs
@@ -55,10 +55,9 @@ returns-2 c =
     let sheet = c .before .before .before in
     let f = sheet .before .before .before .before .fill .ensures in
     let a = sheet .before .before .before .before .before .before .before .before .before .args in
-    let q : Question = record { operation = a .operation; x = a .x; y = a .y; words = a .words .now } in
-    let t : Totals = record { first = a .first .now; other = a .second .now } in
-    let k = outside-adds-nothing q t _ _ (sym (ap answerFilled (sheet .filled .given .1)) ∙ f .0) (sym (c .before .enters .ensures) ∙ c .if1 .left) in
-    (f .1, (k .0, k .1))
+    let q : Posed = record { operation = a .operation; x = a .x; y = a .y; words = a .words .now } in
+    let t : Totals = record { first = a .first .now; other = a .other .now } in
+    outside-settles q t f _ _ (ap answerFilled (sheet .filled .given .1)) (sym (c .before .enters .ensures) ∙ c .if1 .left)
 
 same-length-5 : tie.Need-same-length-5
 same-length-5 c = search needs
@@ -67,10 +66,9 @@ returns-3 : tie.Need-returns-3
 returns-3 c =
     let f = c .before .before .before .before .fill .ensures in
     let a = c .before .before .before .before .before .before .before .before .before .args in
-    let q : Question = record { operation = a .operation; x = a .x; y = a .y; words = a .words .now } in
-    let t : Totals = record { first = a .first .now; other = a .second .now } in
-    let k = refused-adds-nothing q t _ (sym (ap answerFilled (c .enum-told .given .1)) ∙ f .0) in
-    (f .1, (k .0, k .1))
+    let q : Posed = record { operation = a .operation; x = a .x; y = a .y; words = a .words .now } in
+    let t : Totals = record { first = a .first .now; other = a .other .now } in
+    refused-settles q t f _ (ap answerFilled (c .enum-told .given .1))
 
 same-length-6 : tie.Need-same-length-6
 same-length-6 c = search needs
@@ -79,10 +77,9 @@ returns-4 : tie.Need-returns-4
 returns-4 c =
     let f = c .before .before .before .before .fill .ensures in
     let a = c .before .before .before .before .before .before .before .before .before .args in
-    let q : Question = record { operation = a .operation; x = a .x; y = a .y; words = a .words .now } in
-    let t : Totals = record { first = a .first .now; other = a .second .now } in
-    let k = refused-adds-nothing q t _ (sym (ap answerFilled (c .enum-told2 .given .1)) ∙ f .0) in
-    (f .1, (k .0, k .1))
+    let q : Posed = record { operation = a .operation; x = a .x; y = a .y; words = a .words .now } in
+    let t : Totals = record { first = a .first .now; other = a .other .now } in
+    refused-settles q t f _ (ap answerFilled (c .enum-told2 .given .1))
 
 pub settle-spec : {M : Type 1} → statement M
 settle-spec =

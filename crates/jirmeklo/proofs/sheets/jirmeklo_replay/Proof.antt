@@ -1,40 +1,34 @@
 use borrow.Author.Needs.{needs}
-use mathlib.Core.Path.{_≡_, ap, ap₂, sym, subst, _∙_}
+use mathlib.Core.Path.{_≡_, ap, sym, subst, _∙_}
 use mathlib.Core.List.{List}
 use Prim.Native.Nat.{ℕ}
-use Rattle.conservation_spec.specs.Lists.{Totals, Event}
 use Rattle.pattern_spec.specs.Answer.{refusalOf}
+use Rattle.conservation_spec.specs.Lists.{Totals, Event}
+use Rattle.conservation_spec.specs.Claim.{Conserves}
+use Rattle.conservation_spec.specs.Replay.{Asking, Lent, entriesOf, eventsOf, Replays}
 use Rattle.conservation.specs.Answers.{answerReplayed}
-use Rattle.conservation_spec.specs.Replay.{replaying, totalsAfter, wordsLeft}
-use Rattle.conservation_spec.specs.ReplayTheorems.{Conserves}
 use Rattle.conservation.specs.declared.Replayed.{Replayed}
 use Rattle.conservation.specs.declared.Replayed.the-variants as the-replayed
-use Rattle.jirmeklo.specs.Sheets.{replayAnswer, Asked, Lent, totals, events, Replays}
+use Rattle.jirmeklo.specs.Sheets.{replayAnswer, ReplaysNumber}
 use Rattle.jirmeklo.proofs.sheets.jirmeklo_replay.Statement.{statement}
 use Rattle.jirmeklo.proofs.sheets.jirmeklo_replay.Tie as tie
 
 -- what the answer promises, its number promises
-module _ (start end : Totals) (es : List Event) where
-  by-number : (a : Replayed) → Conserves (answerReplayed a) start end es → Conserves (replayAnswer (refusalOf (answerReplayed a))) start end es
-  by-number the-replayed.Done h = h
-  by-number the-replayed.Unequal h = tt
-  by-number the-replayed.TooMany h = tt
-  by-number the-replayed.NotCleared h = tt
-  by-number the-replayed.PastWords h = tt
+by-number : (a : Replayed) (es : List Event) (start end : Totals) → Conserves (answerReplayed a) es start end → Conserves (replayAnswer (refusalOf (answerReplayed a))) es start end
+by-number the-replayed.Done es start end h = h
+by-number the-replayed.Unequal es start end h = tt
+by-number the-replayed.TooMany es start end h = tt
+by-number the-replayed.NotCleared es start end h = tt
+by-number the-replayed.PastWords es start end h = tt
 
-module _ (a : Replayed) (r : ℕ) (n : r ≡ refusalOf (answerReplayed a)) (q : Asked) (before after : Lent) where
-  numbered : answerReplayed a ≡ replaying (q .operations) (q .xs) (q .ys) (q .counts) (before .words) (before .first) (before .second)
-      → after .first ≡ totalsAfter (q .operations) (q .xs) (q .ys) (q .counts) (before .words) (before .first) (before .second) .first
-      → after .second ≡ totalsAfter (q .operations) (q .xs) (q .ys) (q .counts) (before .words) (before .first) (before .second) .other
-      → after .words ≡ wordsLeft (q .operations) (q .xs) (q .ys) (q .counts) (before .words) (before .first) (before .second)
-      → Conserves (answerReplayed a) (totals before) (totals after) (events q before)
-      → Replays r q before after
-  numbered e f s w h = record {
-    answered = n ∙ ap refusalOf e;
-    totalled = ap₂ {C = Totals} (λ (t u : List ℕ). record { first = t; other = u }) f s;
-    written = w;
-    conserved = subst (λ (k : ℕ). Conserves (replayAnswer k) (totals before) (totals after) (events q before)) (sym n) (by-number _ _ _ a h);
-  }
+numbered : (a : Replayed) (r : ℕ) → r ≡ refusalOf (answerReplayed a) → (q : Asking) (before after : Lent) → Replays q before (answerReplayed a) after → ReplaysNumber q before r after
+numbered a r n q before after e =
+    let es : List Event = eventsOf (entriesOf q) (before .words) in
+    record {
+      answered = n ∙ ap refusalOf (e .answered);
+      left = e .left;
+      conserves = subst (λ (k : ℕ). Conserves (replayAnswer k) es (before .totals) (after .totals)) (sym n) (by-number a es (before .totals) (after .totals) (e .conserves));
+    }
 
 replay-requires : tie.Need-replay-requires
 replay-requires c κs = search needs
@@ -54,8 +48,7 @@ same-length-3 c = search needs
 returns : tie.Need-returns
 returns c =
     let r = c .before .before .before .before .before .before .before .replay in
-    let e = r .ensures in
-    numbered (r .result) _ (c .replay-number .ensures) _ _ _ (e .0) (e .1 .0) (e .1 .1 .0) (e .1 .1 .1 .0) (e .1 .1 .1 .1)
+    numbered (r .result) _ (c .replay-number .ensures) _ _ _ (r .ensures)
 
 pub jirmeklo-replay-spec : {M : Type 1} → statement M
 jirmeklo-replay-spec =

@@ -2,7 +2,7 @@
 ghost use mathlib.Core.Path.{_≡_};
 ghost use Prim.Native.Nat.{_≤_};
 ghost use lib.ListN.{length};
-ghost use Rattle.question.specs.Inner.{digitOr16, patternOf};
+ghost use Rattle.question.specs.Inner.{digitOr16, digitsValue};
 
 pub enum Pattern {
     Value(u32),
@@ -14,15 +14,15 @@ fn digit(byte: u8) -> u8
     ensures { λ r. ⌜ (r ≡ digitOr16 byte) × (r ≤ 16) ⌝ }
 {
     match byte {
-        48..=57 => byte - 48,
-        65..=70 => byte - 55,
+        b'0'..=b'9' => byte - b'0',
+        b'A'..=b'F' => byte - b'A' + 10,
         _ => 16,
     }
 }
 
 pub fn value(bytes: &[u8]) -> Pattern
     requires { ⌜ length (now bytes) ≡ 8 ⌝ }
-    ensures { λ r. ⌜ r ≡ patternOf (now (bytes .entry)) ⌝ }
+    ensures { λ r. ⌜ r ≡ digitsValue (now (bytes .entry)) ⌝ }
 {
     let mut n: u32 = 0;
     let mut i: usize = 0;

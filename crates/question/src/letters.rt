@@ -1,4 +1,7 @@
 // The letters of an operation.
+use augmented_spec::DIFFERENCE;
+use augmented_spec::PRODUCT;
+use augmented_spec::SUM;
 ghost use mathlib.Core.Path.{_≡_};
 ghost use Prim.Native.Nat.{_≤_};
 ghost use lib.ListN.{length};
@@ -22,13 +25,13 @@ pub fn operation(line: &[u8]) -> u32
     ensures { λ r. ⌜ r ≡ lettersOperation (now (line .entry)) ⌝ }
 {
     if starts_with(line, b"sum") {
-        return 1;
+        return SUM;
     }
     if starts_with(line, b"dif") {
-        return 2;
+        return DIFFERENCE;
     }
     if starts_with(line, b"mul") {
-        return 3;
+        return PRODUCT;
     }
     0
 }

@@ -1,5 +1,6 @@
 -- A hexadecimal digit's byte and its value, each from the other.
 use Prim.Native.Nat.{ℕ, _+_, _-_, _≤_, _<_}
+use Prim.Native.Char.{code}
 use mathlib.Core.Path.{_≡_, refl}
 use mathlib.Core.Logic.{_⊎_, inl, inr, ⊎-elim}
 use mathlib.Core.Bool.{Bool, true, false, _&&_, _||_}
@@ -18,19 +19,19 @@ or-and true false d e is = inr (and-true d e is)
 or-and false b d e is = inr (and-true d e is)
 
 -- 0-9 or A-F
-digit-range : (c : ℕ) → isDigit c ≡ true → ((48 ≤ c) × (c ≤ 57)) ⊎ ((65 ≤ c) × (c ≤ 70))
+digit-range : (c : ℕ) → isDigit c ≡ true → ((code "0" ≤ c) × (c ≤ code "9")) ⊎ ((code "A" ≤ c) × (c ≤ code "F"))
 digit-range c is =
-    ⊎-elim (λ w. inl (leb-true 48 c (w .0), leb-true c 57 (w .1))) (λ w. inr (leb-true 65 c (w .0), leb-true c 70 (w .1)))
-    (or-and (leb 48 c) (leb c 57) (leb 65 c) (leb c 70) is)
+    ⊎-elim (λ w. inl (leb-true (code "0") c (w .0), leb-true c (code "9") (w .1))) (λ w. inr (leb-true (code "A") c (w .0), leb-true c (code "F") (w .1)))
+    (or-and (leb (code "0") c) (leb c (code "9")) (leb (code "A") c) (leb c (code "F")) is)
 
 pub digit-low : (c : ℕ) → isDigit c ≡ true → digitValue c < 16
 digit-low c is =
-    ⊎-elim (λ w. rw (le-leb c 57 (w .1)) (omega (arith, w .1))) (λ w. let h : 57 < c = omega arith in rw (lt-leb c 57 h) (omega (arith, w .1))) (digit-range c is)
+    ⊎-elim (λ w. rw (le-leb c (code "9") (w .1)) (omega (arith, w .1))) (λ w. let h : code "9" < c = omega arith in rw (lt-leb c (code "9") h) (omega (arith, w .1))) (digit-range c is)
 
 pub byte-back : (c : ℕ) → isDigit c ≡ true → digit (digitValue c) ≡ c
 byte-back c is =
-    ⊎-elim (λ w. rw (le-leb c 57 (w .1), lt-ltb (c - 48) 10 (omega (arith, w .1))) (omega (arith, w .0)))
-    (λ w. let h : 57 < c = omega arith in rw (lt-leb c 57 h, le-ltb (c - 55) 10 (omega (arith, w .0))) (omega (arith, w .0))) (digit-range c is)
+    ⊎-elim (λ w. rw (le-leb c (code "9") (w .1), lt-ltb (c - code "0") 10 (omega (arith, w .1))) (omega (arith, w .0)))
+    (λ w. let h : code "9" < c = omega arith in rw (lt-leb c (code "9") h, le-ltb (c - (code "A" - 10)) 10 (omega (arith, w .0))) (omega (arith, w .0))) (digit-range c is)
 
 module _ (d : ℕ) (low : d < 16) where
   small : (b : Bool) → (b ≡ true → d < 10) → (b ≡ false → 10 ≤ d) → ((d < 10) ⊎ (10 ≤ d))
@@ -39,11 +40,12 @@ module _ (d : ℕ) (low : d < 16) where
 
   pub value-back : digitValue (digit d) ≡ d
   value-back =
-      ⊎-elim (λ h. rw (lt-ltb d 10 h, le-leb (48 + d) 57 (omega arith)) (omega arith)) (λ h. rw (le-ltb d 10 h, lt-leb (55 + d) 57 (omega arith)) (omega arith))
+      ⊎-elim (λ h. rw (lt-ltb d 10 h, le-leb (code "0" + d) (code "9") (omega arith)) (omega arith)) (λ h. rw (le-ltb d 10 h, lt-leb (code "A" - 10 + d) (code "9") (omega arith)) (omega arith))
       (small (ltb d 10) (ltb-true d 10) (ltb-false d 10))
 
   pub digit-is : isDigit (digit d) ≡ true
   digit-is =
-      ⊎-elim (λ h. rw (lt-ltb d 10 h, le-leb 48 (48 + d) (omega arith), le-leb (48 + d) 57 (omega arith)))
-      (λ h. rw (le-ltb d 10 h, lt-leb (55 + d) 57 (omega arith), le-leb 48 (55 + d) (omega arith), le-leb 65 (55 + d) (omega arith), le-leb (55 + d) 70 (omega arith)))
+      ⊎-elim (λ h. rw (lt-ltb d 10 h, le-leb (code "0") (code "0" + d) (omega arith), le-leb (code "0" + d) (code "9") (omega arith)))
+      (λ h. let c : ℕ = code "A" - 10 + d in
+      rw (le-ltb d 10 h, lt-leb c (code "9") (omega arith), le-leb (code "0") c (omega arith), le-leb (code "A") c (omega arith), le-leb c (code "F") (omega arith)))
       (small (ltb d 10) (ltb-true d 10) (ltb-false d 10))

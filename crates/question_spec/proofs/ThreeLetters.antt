@@ -9,7 +9,8 @@ use borrow.Author.Tests.{eqb-true}
 use lib.Dec.{eqb, lit<}
 use lib.ListN.{length, getD, take, drop-of-length-le}
 use lib.Seq.{drop-cons, getD-take, length-take-le}
-use Rattle.question_spec.specs.Questions.{sumLetters, difLetters, mulLetters, letters, starts, lettersOperation}
+use Rattle.augmented_spec.specs.Direct.{Operation, sum, difference, product, isOperation, operationNumber}
+use Rattle.question_spec.specs.Questions.{operationLetters, letters, starts, lettersOperation}
 use Rattle.question_spec.proofs.OneDigit.{and-true}
 
 as-three : (l : List ℕ) → length l ≡ 3 → getD l 0 0 ∷ getD l 1 0 ∷ getD l 2 0 ∷ [] ≡ l
@@ -20,64 +21,72 @@ as-three l e =
     let z = drop-of-length-le l {i = 3} (omega arith) in
     cc (a, b, c, z)
 
+pub three-letters : (o : Operation) → length (operationLetters o) ≡ 3
+three-letters sum = refl
+three-letters difference = refl
+three-letters product = refl
+
 module _ (line : List ℕ) where
-  at-three : (three : List ℕ) → take 3 line ≡ three → (getD line 0 0 ≡ getD three 0 0) × (getD line 1 0 ≡ getD three 1 0) × (getD line 2 0 ≡ getD three 2 0)
+  at-three : (three : List ℕ) → take 3 line ≡ three
+      → (getD line 0 0 ≡ getD three 0 0) × (getD line 1 0 ≡ getD three 1 0) × (getD line 2 0 ≡ getD three 2 0)
   at-three three e = (
     sym (getD-take 3 line 0 0 (lit< tt)) ∙ ap (λ (l : List ℕ). getD l 0 0) e,
     sym (getD-take 3 line 1 0 (lit< tt)) ∙ ap (λ (l : List ℕ). getD l 1 0) e,
     sym (getD-take 3 line 2 0 (lit< tt)) ∙ ap (λ (l : List ℕ). getD l 2 0) e,
   )
 
-  pub of-sum : take 3 line ≡ sumLetters → lettersOperation line ≡ 1
+  pub of-letters : (o : Operation) → take 3 line ≡ operationLetters o → lettersOperation line ≡ operationNumber o
   unfolding lettersOperation
-  of-sum e = let at = at-three sumLetters e in rw (at .0, at .1, at .2)
+  of-letters sum e = let at = at-three (operationLetters sum) e in rw (at .0, at .1, at .2)
+  of-letters difference e = let at = at-three (operationLetters difference) e in rw (at .0, at .1, at .2)
+  of-letters product e = let at = at-three (operationLetters product) e in rw (at .0, at .1, at .2)
 
-  pub of-dif : take 3 line ≡ difLetters → lettersOperation line ≡ 2
-  unfolding lettersOperation
-  of-dif e = let at = at-three difLetters e in rw (at .0, at .1, at .2)
-
-  pub of-mul : take 3 line ≡ mulLetters → lettersOperation line ≡ 3
-  unfolding lettersOperation
-  of-mul e = let at = at-three mulLetters e in rw (at .0, at .1, at .2)
-
-  started : 3 ≤ length line → (a b c : ℕ) → starts line (a ∷ b ∷ c ∷ []) ≡ true → take 3 line ≡ a ∷ b ∷ c ∷ []
-  started long a b c is =
-      let p = and-true (eqb (getD line 0 0) a) (eqb (getD line 1 0) b && eqb (getD line 2 0) c) is in
-      let q = and-true (eqb (getD line 1 0) b) (eqb (getD line 2 0) c) (p .1) in
+  started : 3 ≤ length line → (three : List ℕ) → length three ≡ 3 → starts line three ≡ true → take 3 line ≡ three
+  started long three full is =
+      let p = and-true (eqb (getD line 0 0) (getD three 0 0)) (eqb (getD line 1 0) (getD three 1 0) && eqb (getD line 2 0) (getD three 2 0)) is in
+      let q = and-true (eqb (getD line 1 0) (getD three 1 0)) (eqb (getD line 2 0) (getD three 2 0)) (p .1) in
       cc (
         as-three (take 3 line) (length-take-le 3 line long),
+        as-three three full,
         getD-take 3 line 0 0 (lit< tt),
         getD-take 3 line 1 0 (lit< tt),
         getD-take 3 line 2 0 (lit< tt),
-        eqb-true (getD line 0 0) a (p .0),
-        eqb-true (getD line 1 0) b (q .0),
-        eqb-true (getD line 2 0) c (q .1),
+        eqb-true (getD line 0 0) (getD three 0 0) (p .0),
+        eqb-true (getD line 1 0) (getD three 1 0) (q .0),
+        eqb-true (getD line 2 0) (getD three 2 0) (q .1),
       )
 
-none : (s d m : Bool) → (s ≡ true → ⊥) → (d ≡ true → ⊥) → (m ≡ true → ⊥) → _≡_ {A = ℕ} (cond s 1 (cond d 2 (cond m 3 0))) 0
+none : (s d m : Bool) → (s ≡ true → ⊥) → (d ≡ true → ⊥) → (m ≡ true → ⊥)
+    → cond s (operationNumber sum) (cond d (operationNumber difference) (cond m (operationNumber product) 0)) ≡ 0
 none true d m p q r = absurd (p refl)
 none false true m p q r = absurd (q refl)
 none false false true p q r = absurd (r refl)
 none false false false p q r = refl
 
-which : (s d m : Bool) (l : List ℕ) (o : ℕ) → (s ≡ true → l ≡ sumLetters) → (d ≡ true → l ≡ difLetters) → (m ≡ true → l ≡ mulLetters) → cond s 1 (cond d 2 (cond m 3 0)) ≡ o → o ≢ 0
-    → (l ≡ letters o) × (1 ≤ o) × (o ≤ 3)
+which : (s d m : Bool) (l : List ℕ) (o : ℕ)
+    → (s ≡ true → l ≡ operationLetters sum) → (d ≡ true → l ≡ operationLetters difference) → (m ≡ true → l ≡ operationLetters product)
+    → cond s (operationNumber sum) (cond d (operationNumber difference) (cond m (operationNumber product) 0)) ≡ o → o ≢ 0
+    → (l ≡ letters o) × (isOperation o ≡ true)
 unfolding letters
-which true d m l o p q r is n = (rw (sym is) (p refl), omega arith, omega arith)
-which false true m l o p q r is n = (rw (sym is) (q refl), omega arith, omega arith)
-which false false true l o p q r is n = (rw (sym is) (r refl), omega arith, omega arith)
+which true d m l o p q r is n = rw (sym is) (p refl, refl)
+which false true m l o p q r is n = rw (sym is) (q refl, refl)
+which false false true l o p q r is n = rw (sym is) (r refl, refl)
 which false false false l o p q r is n = absurd (n (sym is))
 
 module _ (line : List ℕ) (long : 3 ≤ length line) where
+  begun : (o : Operation) → starts line (operationLetters o) ≡ true → take 3 line ≡ operationLetters o
+  begun o = started line long (operationLetters o) (three-letters o)
+
   -- other letters are unknown
-  pub unknown : take 3 line ≢ sumLetters → take 3 line ≢ difLetters → take 3 line ≢ mulLetters → lettersOperation line ≡ 0
+  pub unknown : take 3 line ≢ operationLetters sum → take 3 line ≢ operationLetters difference → take 3 line ≢ operationLetters product
+      → lettersOperation line ≡ 0
   unfolding lettersOperation
   unknown p q r =
-      none (starts line sumLetters) (starts line difLetters) (starts line mulLetters) (λ e. p (started line long 115 117 109 e)) (λ e. q (started line long 100 105 102 e))
-      (λ e. r (started line long 109 117 108 e))
+      none (starts line (operationLetters sum)) (starts line (operationLetters difference)) (starts line (operationLetters product))
+      (λ e. p (begun sum e)) (λ e. q (begun difference e)) (λ e. r (begun product e))
 
-  pub known : (o : ℕ) → lettersOperation line ≡ o → o ≢ 0 → (take 3 line ≡ letters o) × (1 ≤ o) × (o ≤ 3)
+  pub known : (o : ℕ) → lettersOperation line ≡ o → o ≢ 0 → (take 3 line ≡ letters o) × (isOperation o ≡ true)
   unfolding lettersOperation
   known o =
-      which (starts line sumLetters) (starts line difLetters) (starts line mulLetters) (take 3 line) o (started line long 115 117 109) (started line long 100 105 102)
-      (started line long 109 117 108)
+      which (starts line (operationLetters sum)) (starts line (operationLetters difference)) (starts line (operationLetters product)) (take 3 line) o
+      (begun sum) (begun difference) (begun product)

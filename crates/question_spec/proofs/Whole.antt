@@ -4,13 +4,29 @@ use mathlib.Core.Path.{_≡_, refl, ap, _∙_}
 use mathlib.Core.Logic.{_⊎_, inl, inr, ⊎-elim}
 use mathlib.Core.Bool.{Bool, true, false, cond, not, _&&_, _||_}
 use mathlib.Core.List.{List, _∷_, _++_}
+use native.Mathlib.Decide.{decLe}
 use native.Mathlib.Omega.{arith}
-use borrow.Author.Tests.{eqb-true, eqb-false}
-use lib.Dec.{eqb}
+use borrow.Author.Tests.{eqb-true, eqb-false, leb-true}
+use lib.Dec.{eqb, leb}
 use lib.ListN.{length, getD, take, drop, take-append-drop, length-drop}
 use lib.Seq.{drop-cons, drop-drop, take-all, length-take-le}
 use Rattle.pattern_spec.specs.Answer.{refused}
-use Rattle.question_spec.specs.Questions.{Asked, letters, lettersOperation, allDigits, patternFrom, firstPattern, secondPattern, asked, reading, patternText, questionText}
+use Rattle.augmented_spec.specs.Direct.{sum, difference, product, isOperation, operationNumber}
+use Rattle.question_spec.specs.Ascii.{tab}
+use Rattle.question_spec.specs.Questions.{
+  Asked,
+  questionSize,
+  letters,
+  lettersOperation,
+  allDigits,
+  patternFrom,
+  firstPattern,
+  secondPattern,
+  asked,
+  readQuestion,
+  patternText,
+  questionText,
+}
 use Rattle.question_spec.proofs.OneDigit.{and-true}
 use Rattle.question_spec.proofs.EightDigits.{text-back, text-digits, text-value}
 use Rattle.question_spec.proofs.ThreeLetters.{known}
@@ -35,10 +51,10 @@ both true true e = (refl, refl)
 both true false e = let z : _≡_ {A = ℕ} 0 1 = cc in absurd (omega arith)
 both false b e = let z : _≡_ {A = ℕ} 0 1 = cc in absurd (omega arith)
 
--- a line of 21 bytes is its letters, a tab, a pattern, a tab and a pattern
-assembled : (line three first second : List ℕ) → length line ≡ 21 → getD line 3 0 ≡ 9 → getD line 12 0 ≡ 9 → take 3 line ≡ three → firstPattern line ≡ first → secondPattern line ≡ second
-    → line ≡ three ++ (9 ∷ first ++ (9 ∷ second))
-assembled line three first second full tab tab2 e f g =
+-- a line of the right length is its letters, a tab, a pattern, a tab and a pattern
+assembled : (line three first second : List ℕ) → length line ≡ questionSize → getD line 3 0 ≡ tab → getD line 12 0 ≡ tab → take 3 line ≡ three → firstPattern line ≡ first → secondPattern line ≡ second
+    → line ≡ three ++ (tab ∷ first ++ (tab ∷ second))
+assembled line three first second full first-tab second-tab e f g =
     let a = take-append-drop 3 line in
     let b = drop-cons line 3 0 (omega arith) in
     let c = take-append-drop 8 (drop 4 line) in
@@ -49,48 +65,50 @@ assembled line three first second full tab tab2 e f g =
     cc (a, b, c, d, h, l)
 
 module _ (line : List ℕ) (o x y : ℕ) where
-  eight : (n : ℕ) → length line ≡ 21 → n ≤ 13 → length (take 8 (drop n line)) ≡ 8
+  eight : (n : ℕ) → length line ≡ questionSize → n ≤ 13 → length (take 8 (drop n line)) ≡ 8
   eight n full h = length-take-le 8 (drop n line) (rw (length-drop n line) (omega arith))
 
-  pub is-text : reading line ≡ asked o x y → (line ≡ questionText o x y) × (1 ≤ o) × (o ≤ 3) × (x < 2 ^ 32) × (y < 2 ^ 32)
-  unfolding reading questionText
+  pub is-text : readQuestion line ≡ asked o x y → (line ≡ questionText o x y) × (isOperation o ≡ true) × (x < 2 ^ 32) × (y < 2 ^ 32)
+  unfolding readQuestion questionText
   is-text e =
       let p =
-      passed (eqb (length line) 21) (eqb (lettersOperation line) 0) (not (eqb (getD line 3 0) 9) || not (eqb (getD line 12 0) 9)) (allDigits (firstPattern line) && allDigits (secondPattern line))
-      (lettersOperation line) (patternFrom 0 (firstPattern line)) (patternFrom 0 (secondPattern line)) o x y e in
-      let full = eqb-true (length line) 21 (p .0) in
-      let tabs = both (eqb (getD line 3 0) 9) (eqb (getD line 12 0) 9) (p .2) in
+      passed (eqb (length line) questionSize) (eqb (lettersOperation line) 0) (not (eqb (getD line 3 0) tab) || not (eqb (getD line 12 0) tab))
+      (allDigits (firstPattern line) && allDigits (secondPattern line)) (lettersOperation line) (patternFrom 0 (firstPattern line)) (patternFrom 0 (secondPattern line)) o x y e in
+      let full = eqb-true (length line) questionSize (p .0) in
+      let tabs = both (eqb (getD line 3 0) tab) (eqb (getD line 12 0) tab) (p .2) in
       let digits = and-true (allDigits (firstPattern line)) (allDigits (secondPattern line)) (p .3) in
       let word = known line (omega arith) o (p .4) (λ z. eqb-false (lettersOperation line) 0 (p .1) (p .4 ∙ z)) in
       let first = text-back (firstPattern line) x (eight 4 full (omega arith)) (digits .0) (p .5) in
       let second = text-back (secondPattern line) y (eight 13 full (omega arith)) (digits .1) (p .6) in (
-        assembled line (letters o) (patternText x) (patternText y) full (eqb-true (getD line 3 0) 9 (tabs .0)) (eqb-true (getD line 12 0) 9 (tabs .1)) (word .0) (first .1) (second .1),
+        assembled line (letters o) (patternText x) (patternText y) full (eqb-true (getD line 3 0) tab (tabs .0)) (eqb-true (getD line 12 0) tab (tabs .1)) (word .0) (first .1) (second .1),
         word .1,
-        word .2,
         first .0,
         second .0,
       )
 
-one-of : (o : ℕ) → 1 ≤ o → o ≤ 3 → (o ≡ 1) ⊎ ((o ≡ 2) ⊎ (o ≡ 3))
-one-of o h k = split (eqb o 1) (eqb o 2) (eqb-true o 1) (eqb-false o 1) (eqb-true o 2) (eqb-false o 2)
-  where
-    split : (a b : Bool) → (a ≡ true → o ≡ 1) → (a ≡ false → o ≡ 1 → ⊥) → (b ≡ true → o ≡ 2) → (b ≡ false → o ≡ 2 → ⊥) → (o ≡ 1) ⊎ ((o ≡ 2) ⊎ (o ≡ 3))
-    split true b p p' q q' = inl (p refl)
-    split false true p p' q q' = inr (inl (q refl))
-    split false false p p' q q' = inr (inr (omega (arith, p' refl, q' refl)))
+-- the number of an operation is one of the three
+one-of : (o : ℕ) → isOperation o ≡ true → (o ≡ operationNumber sum) ⊎ ((o ≡ operationNumber difference) ⊎ (o ≡ operationNumber product))
+one-of o known =
+    let low = and-true (leb (operationNumber sum) o) (leb o (operationNumber product)) known in
+    let h = leb-true (operationNumber sum) o (low .0) in
+    let k = leb-true o (operationNumber product) (low .1) in
+    elim (decLe o (operationNumber sum)) [
+      | yes a ↦ inl (omega arith)
+      | no a ↦ elim (decLe o (operationNumber difference)) [ yes b ↦ inr (inl (omega arith)) | no b ↦ inr (inr (omega arith)) ]
+    ]
 
 module _ (x y : ℕ) (low : x < 2 ^ 32) (low2 : y < 2 ^ 32) where
-  sum-read : reading (questionText 1 x y) ≡ asked 1 x y
-  unfolding reading questionText letters lettersOperation
+  sum-read : readQuestion (questionText (operationNumber sum) x y) ≡ asked (operationNumber sum) x y
+  unfolding readQuestion questionText letters lettersOperation
   sum-read = rw (text-digits x, text-digits y, text-value x low, text-value y low2)
 
-  dif-read : reading (questionText 2 x y) ≡ asked 2 x y
-  unfolding reading questionText letters lettersOperation
-  dif-read = rw (text-digits x, text-digits y, text-value x low, text-value y low2)
+  difference-read : readQuestion (questionText (operationNumber difference) x y) ≡ asked (operationNumber difference) x y
+  unfolding readQuestion questionText letters lettersOperation
+  difference-read = rw (text-digits x, text-digits y, text-value x low, text-value y low2)
 
-  mul-read : reading (questionText 3 x y) ≡ asked 3 x y
-  unfolding reading questionText letters lettersOperation
-  mul-read = rw (text-digits x, text-digits y, text-value x low, text-value y low2)
+  product-read : readQuestion (questionText (operationNumber product) x y) ≡ asked (operationNumber product) x y
+  unfolding readQuestion questionText letters lettersOperation
+  product-read = rw (text-digits x, text-digits y, text-value x low, text-value y low2)
 
-  pub text-read : (o : ℕ) → 1 ≤ o → o ≤ 3 → reading (questionText o x y) ≡ asked o x y
-  text-read o h k = ⊎-elim (λ e. rw e sum-read) (⊎-elim (λ e. rw e dif-read) (λ e. rw e mul-read)) (one-of o h k)
+  pub text-read : (o : ℕ) → isOperation o ≡ true → readQuestion (questionText o x y) ≡ asked o x y
+  text-read o h = ⊎-elim (λ e. rw e sum-read) (⊎-elim (λ e. rw e difference-read) (λ e. rw e product-read)) (one-of o h)

@@ -1,40 +1,45 @@
--- Question lines (document 01, "Where a call says no": "Reading a question line").
--- A line is its bytes, without the newline.
+-- Question lines: how one is read, and the text of a question. A line is its bytes, without the newline (R8.3, R8.4).
 use Prim.Native.Nat.{ℕ, _+_, _*_, _-_, _/_, _%_}
+use Prim.Native.Char.{code}
 use mathlib.Core.Bool.{Bool, true, cond, not, _&&_, _||_}
 use mathlib.Core.List.{List, [], _∷_, _++_}
 use lib.Dec.{eqb, leb, ltb}
 use lib.ListN.{length, getD, take, drop}
 use Rattle.pattern_spec.specs.Answer.{Answer, refused, done}
+use Rattle.augmented_spec.specs.Direct.{Operation, sum, difference, product, operationNumber, operationOf}
+use Rattle.question_spec.specs.Ascii.{ascii, tab}
 
--- ---- "letters `sum`, `dif`, `mul`", by the operation's number: 1 to 3 (sum, difference, product)
-abbrev pub sumLetters : List ℕ
-sumLetters = 115 ∷ 117 ∷ 109 ∷ []
+-- bytes of a question line: three letters, a tab, a pattern, a tab, a pattern (R8.3)
+abbrev pub questionSize : ℕ
+questionSize = 21
 
-abbrev pub difLetters : List ℕ
-difLetters = 100 ∷ 105 ∷ 102 ∷ []
+-- ---- letters (R8.3)
+abbrev pub operationLetters : Operation → List ℕ
+operationLetters sum = ascii "sum"
+operationLetters difference = ascii "dif"
+operationLetters product = ascii "mul"
 
-abbrev pub mulLetters : List ℕ
-mulLetters = 109 ∷ 117 ∷ 108 ∷ []
-
--- by the number; any other, which no question has, is written as `mul`
+-- by the operation's number; a number that no question has is written as `mul`
 unfoldable pub letters : ℕ → List ℕ
-letters operation = cond (eqb operation 1) sumLetters (cond (eqb operation 2) difLetters mulLetters)
+letters operation = operationLetters (operationOf operation)
 
 -- whether the line's first three bytes are these
 abbrev pub starts : List ℕ → List ℕ → Bool
 starts line three = eqb (getD line 0 0) (getD three 0 0) && (eqb (getD line 1 0) (getD three 1 0) && eqb (getD line 2 0) (getD three 2 0))
 
--- the operation's number, or 0 where the letters are unknown
+-- the number of the operation whose letters the line starts with, or 0 where it starts with no operation's
 unfoldable pub lettersOperation : List ℕ → ℕ
-lettersOperation line = cond (starts line sumLetters) 1 (cond (starts line difLetters) 2 (cond (starts line mulLetters) 3 0))
+lettersOperation line =
+    cond (starts line (operationLetters sum)) (operationNumber sum)
+    (cond (starts line (operationLetters difference)) (operationNumber difference)
+    (cond (starts line (operationLetters product)) (operationNumber product) 0))
 
--- ---- "Patterns are eight upper-case hexadecimal digits": 0-9 are bytes 48 to 57, A-F 65 to 70
+-- ---- patterns: eight hexadecimal digits, A to F in upper case (R0.7, R8.4)
 abbrev pub isDigit : ℕ → Bool
-isDigit c = (leb 48 c && leb c 57) || (leb 65 c && leb c 70)
+isDigit c = (leb (code "0") c && leb c (code "9")) || (leb (code "A") c && leb c (code "F"))
 
 abbrev pub digitValue : ℕ → ℕ
-digitValue c = cond (leb c 57) (c - 48) (c - 55)
+digitValue c = cond (leb c (code "9")) (c - code "0") (c - (code "A" - 10))
 
 unfoldable pub allDigits : List ℕ → Bool
 allDigits [] = true
@@ -45,14 +50,14 @@ unfoldable pub patternFrom : ℕ → List ℕ → ℕ
 patternFrom n [] = n
 patternFrom n (c ∷ cs) = patternFrom (n * 16 + digitValue c) cs
 
--- ---- "3 letters, tab, pattern, tab, pattern, without newline"
 abbrev pub firstPattern : List ℕ → List ℕ
 firstPattern line = take 8 (drop 4 line)
 
 abbrev pub secondPattern : List ℕ → List ℕ
 secondPattern line = take 8 (drop 13 line)
 
--- what reading a line answers where it is not refused: the operation's number and the two patterns
+-- ---- reading a line
+-- what is answered where it is not refused: the operation's number and the two patterns
 pub record Asked : Type 0 where
   pub operation : ℕ
   pub x : ℕ
@@ -61,18 +66,18 @@ pub record Asked : Type 0 where
 abbrev pub asked : ℕ → ℕ → ℕ → Answer Asked
 asked operation x y = done (record { operation = operation; x = x; y = y })
 
--- "1 length other than 21; 2 letters unknown; 3 byte 3 or 12 (from 0) no tab; 4 a pattern byte outside 0-9, A-F.", tried in this order
-unfoldable pub reading : List ℕ → Answer Asked
-reading line =
-    cond (not (eqb (length line) 21)) (refused 1)
+-- R8.4, in this order (R8.2): 1 another length, 2 other letters, 3 no tab at byte 3 or 12, 4 a byte in a pattern that is no digit
+unfoldable pub readQuestion : List ℕ → Answer Asked
+readQuestion line =
+    cond (not (eqb (length line) questionSize)) (refused 1)
     (cond (eqb (lettersOperation line) 0) (refused 2)
-    (cond (not (eqb (getD line 3 0) 9) || not (eqb (getD line 12 0) 9)) (refused 3)
+    (cond (not (eqb (getD line 3 0) tab) || not (eqb (getD line 12 0) tab)) (refused 3)
     (cond (not (allDigits (firstPattern line) && allDigits (secondPattern line))) (refused 4)
     (asked (lettersOperation line) (patternFrom 0 (firstPattern line)) (patternFrom 0 (secondPattern line))))))
 
 -- ---- the text of a question
 abbrev pub digit : ℕ → ℕ
-digit d = cond (ltb d 10) (48 + d) (55 + d)
+digit d = cond (ltb d 10) (code "0" + d) (code "A" - 10 + d)
 
 -- the eight digits of a pattern
 abbrev pub patternText : ℕ → List ℕ
@@ -81,4 +86,4 @@ patternText x =
     ∷ digit (x / 4096 % 16) ∷ digit (x / 256 % 16) ∷ digit (x / 16 % 16) ∷ digit (x % 16) ∷ []
 
 unfoldable pub questionText : ℕ → ℕ → ℕ → List ℕ
-questionText operation x y = letters operation ++ (9 ∷ patternText x ++ (9 ∷ patternText y))
+questionText operation x y = letters operation ++ (tab ∷ patternText x ++ (tab ∷ patternText y))

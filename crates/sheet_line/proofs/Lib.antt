@@ -1,1 +1,3 @@
+pub mod Extended
+pub mod Ready
 pub mod Answering

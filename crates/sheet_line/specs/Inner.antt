@@ -1,11 +1,45 @@
--- What the crate's inner functions promise. No public contract cites it.
-use Prim.Native.Nat.{ℕ}
-use mathlib.Core.Bool.{cond, _&&_}
-use mathlib.Core.List.{List, [], _∷_}
-use Rattle.rounding_spec.specs.Format.{binary32}
-use Rattle.rounding_spec.specs.Value.{decode, isFinite}
-use Rattle.accumulator_spec.specs.Totals.{Term, ofPattern}
+-- What the functions of a line and of a position promise each other and the callers above.
+use Prim.Native.Nat.{ℕ, suc, _+_}
+use mathlib.Core.Path.{_≡_}
+use mathlib.Core.Bool.{Bool, false, _&&_}
+use mathlib.Core.List.{List}
+use lib.Dec.{leb, ltb}
+use lib.ListN.{length as size, take}
+use Rattle.question_spec.specs.Questions.{readQuestion}
+use Rattle.transcript_spec.specs.Texts.{lineRoom}
+use Rattle.transcript_spec.specs.Buffers.{Put}
+use Rattle.sheet_spec.specs.Printed.{lineText, afterLine}
+use Rattle.sheet_spec.specs.Positions.{goesOn, progressOf}
+use Rattle.sheet_spec.specs.declared.Position.{Position}
+use Rattle.sheet_spec.specs.declared.Progressed.{Progressed}
 
--- what the halves of a pair add
-abbrev pub halfTerms : ℕ → ℕ → List Term
-halfTerms first second = cond (isFinite (decode binary32 first) && isFinite (decode binary32 second)) (ofPattern first ∷ ofPattern second ∷ []) []
+-- the run goes on, and there is so much room where so much is needed
+unfoldable pub readyFor : Position → ℕ → ℕ → Bool
+readyFor p room need = leb need room && goesOn p
+
+-- another byte is taken, with so many left and so much room
+unfoldable pub takesMore : ℕ → Position → ℕ → Bool
+takesMore left p room = ltb 0 left && readyFor p room lineRoom
+
+-- the lent total and buffer of a call
+pub record Lent : Type 0 where
+  pub total : List ℕ
+  pub out : List ℕ
+
+abbrev pub lent : List ℕ → List ℕ → Lent
+lent total out = record { total = total; out = out }
+
+-- a position after its line, which is good or not, and whose text has so many bytes
+abbrev pub lineEnded : Position → ℕ → ℕ → Progressed
+lineEnded p good written =
+    record { position = record { lines = p .lines + 1; good = p .good + good; length = 0; stopped = false }; taken = 0; written = written }
+
+-- the open line, of these kept bytes, is ended
+pub record LineEnds (p : Position) (kept : List ℕ) (before : Lent) (r : Progressed) (after : Lent) : Type 0 where
+  -- all of its bytes are there
+  pub whole : size (take (p .length) kept) ≡ p .length
+  pub progress : progressOf (r .position) (after .total) ≡ afterLine (progressOf p (before .total)) (take (p .length) kept)
+  pub length : r .position .length ≡ 0
+  pub going : r .position .stopped ≡ false
+  pub taken : r .taken ≡ 0
+  pub text : Put (before .out) 0 (lineText (suc (p .lines)) (readQuestion (take (p .length) kept))) (r .written) (after .out)

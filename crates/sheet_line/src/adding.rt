@@ -2,7 +2,7 @@
 use pattern::both_finite;
 ghost use mathlib.Core.Path.{_≡_};
 ghost use Rattle.accumulator_spec.specs.Columns.{column};
-ghost use Rattle.sheet_line.specs.Inner.{halfTerms};
+ghost use Rattle.sheet_spec.specs.Printed.{halfTerms};
 
 // Both halves, if both are finite: those of inexact products too.
 pub fn halves(total: &mut [u32], first: u32, second: u32)

@@ -1,42 +1,62 @@
 // A line of the input answered: the text of its question's sheet, whose pair is added to the total, or of its refusal.
 mod adding;
+pub mod position;
 
 use question::Question;
+use sheet_spec::KEPT_BYTES;
+use sheet_spec::Position;
+use sheet_spec::Progressed;
 use worksheet::Filled;
+use worksheet_spec::SHEET_SIZE;
 ghost use mathlib.Core.Path.{_≡_};
+ghost use mathlib.Core.Bool.{true};
+ghost use Prim.Native.Nat.{_≤_};
+ghost use lib.ListN.{length};
 ghost use Rattle.pattern_spec.specs.Answer.{refusalOf};
-ghost use Rattle.worksheet_spec.specs.Filling.{filling, afterFilling};
 ghost use Rattle.accumulator_spec.specs.Columns.{column};
-ghost use Rattle.question_spec.specs.Questions.{reading};
-ghost use Rattle.question.specs.Answers.{answerOf};
-ghost use Rattle.sheet_spec.specs.Printed.{blank, filledText, pairTerms};
-ghost use Rattle.sheet_line.specs.Answers.{Answers, Writes};
+ghost use Rattle.question_spec.specs.Questions.{asked};
+ghost use Rattle.question.specs.Answers.{answerQuestion};
+ghost use Rattle.transcript_spec.specs.Texts.{lineRoom};
+ghost use Rattle.transcript_spec.specs.Buffers.{Writes};
+ghost use Rattle.sheet_spec.specs.Printed.{lineText, lineTerms};
+ghost use Rattle.sheet_spec.specs.Positions.{goesOn};
+ghost use Rattle.sheet_line.specs.Inner.{lent, LineEnds, lineEnded};
 
-// How many bytes were written, and of good lines 1 or 0.
-pub struct Answered {
-    pub written: usize,
-    pub good: u32,
+// The open line has ended. Its bytes have been taken one by one before, and a newline is the caller's to count.
+pub fn end_line(position: Position, line: &[u8; KEPT_BYTES], total: &mut [u32], out: &mut [u8]) -> Progressed
+    requires { ⌜ (goesOn position ≡ true) × (lineRoom ≤ length (now out)) ⌝ }
+    ensures { λ r. ⌜ LineEnds position (now (line .entry)) (lent (now (total .entry)) (now (out .entry))) r (lent (now (total .exit)) (now (out .exit))) ⌝ }
+{
+    let n = position.length;
+    let number = position.lines + 1;
+    let text = &line[..];
+    let question = question::read(&text[..n]);
+    let Question::Asked { operation, x, y } = question else {
+        let written = transcript::bad(out, number, refusal(question));
+        return ended(position, 0, written);
+    };
+    let written = answer(number, operation, x, y, total, out);
+    ended(position, 1, written)
 }
 
-pub fn line(bytes: &[u8], number: u32, total: &mut [u32], out: &mut [u8]) -> Answered
-    ensures { λ r. ⌜ Answers number (reading (now (bytes .entry))) r (now (total .entry)) (now (total .exit)) (now (out .entry)) (now (out .exit)) ⌝ }
+fn ended(position: Position, good: u32, written: usize) -> Progressed
+    requires { ⌜ (goesOn position ≡ true) × (good ≤ 1) ⌝ }
+    ensures { λ r. ⌜ r ≡ lineEnded position good written ⌝ }
 {
-    let question = question::read(bytes);
-    let Question::Asked { operation, x, y } = question else {
-        let n = refusal(question);
-        return Answered {
-            written: transcript::bad(out, number, n),
-            good: 0,
-        };
-    };
-    Answered {
-        written: asked(number, operation, x, y, total, out),
-        good: 1,
+    Progressed {
+        position: Position {
+            lines: position.lines + 1,
+            good: position.good + good,
+            length: 0,
+            stopped: false,
+        },
+        taken: 0,
+        written,
     }
 }
 
 fn refusal(question: Question) -> u32
-    ensures { λ r. ⌜ r ≡ refusalOf (answerOf question) ⌝ }
+    ensures { λ r. ⌜ r ≡ refusalOf (answerQuestion question) ⌝ }
 {
     match question {
         Question::Length => 1,
@@ -47,11 +67,12 @@ fn refusal(question: Question) -> u32
     }
 }
 
-fn asked(number: u32, operation: u32, x: u32, y: u32, total: &mut [u32], out: &mut [u8]) -> usize
-    ensures { λ r. ⌜ Writes (now (out .entry)) (filledText number operation x y (filling operation x y blank) (afterFilling operation x y blank)) r (now (out .exit)) ⌝ }
-    ensures { λ r. ⌜ now (total .exit) ≡ column (now (total .entry)) (pairTerms (filling operation x y blank)) ⌝ }
+// The sheet of a question.
+fn answer(number: u32, operation: u32, x: u32, y: u32, total: &mut [u32], out: &mut [u8]) -> usize
+    ensures { λ r. ⌜ Writes (now (out .entry)) (lineText number (asked operation x y)) r (now (out .exit)) ⌝ }
+    ensures { λ r. ⌜ now (total .exit) ≡ column (now (total .entry)) (lineTerms (asked operation x y)) ⌝ }
 {
-    let mut words = [0u32; 65];
+    let mut words = [0u32; SHEET_SIZE];
     let sheet = worksheet::fill(operation, x, y, &mut words);
     let Filled::Sheet { lines, pair } = sheet else {
         // No question that is read is refused.

@@ -8,10 +8,11 @@ use borrow.Author.Tests.{le-leb, lt-leb}
 use lib.Dec.{eqb}
 use lib.ListN.{length, take}
 use Rattle.pattern_spec.specs.Answer.{Answer}
-use Rattle.question_spec.specs.Questions.{Asked, reading}
+use Rattle.question_spec.specs.Ascii.{newline}
+use Rattle.question_spec.specs.Questions.{Asked, questionSize, readQuestion}
 use Rattle.transcript_spec.specs.Texts.{stopText}
-use Rattle.sheet_spec.specs.Printed.{linesFrom, lineText, Progress, start, afterAnswer, afterLine, closingText}
-use Rattle.sheet_spec.specs.States.{State, begin, stop, takeByte, byteText, takeBytes, bytesText, closeText}
+use Rattle.sheet_spec.specs.Printed.{linesFrom, lineText, Progress, start, afterAnswer, afterLine, closingText, mostInputLines}
+use Rattle.sheet_spec.specs.States.{State, keptBytes, begin, stop, takeByte, byteText, takeBytes, bytesText, closeText}
 use Rattle.sheet_spec.specs.Theorems.{ByteByByte, joined, readsText, AnyReads, NothingAfterStop}
 use Rattle.sheet_spec.proofs.Lines.{ending, output-is, Some, either, has-byte, some-line, first-bytes, take-again}
 
@@ -57,9 +58,9 @@ module _ (s : State) (stopped : s .stopped ≡ true) where
 pub nothing-after-stop : NothingAfterStop
 nothing-after-stop s bytes e = (stays s e bytes, silent s e bytes, no-end s e)
 
--- ---- one byte at a time: the line that has begun is `begun`, of which the state keeps 22 bytes
+-- ---- one byte at a time: the line that has begun is `begun`, of which the state keeps the first bytes
 abbrev at : Progress → List ℕ → State
-at p begun = record { progress = p; begun = take 22 begun; stopped = false }
+at p begun = record { progress = p; begun = take keptBytes begun; stopped = false }
 
 -- at the end of the input
 ended : (p : Progress) (begun : List ℕ) (room : ℕ) → (room ≡ 0 → begun ≡ []) → printed (at p begun) [] ≡ ending p room (linesFrom begun [])
@@ -67,13 +68,13 @@ unfolding bytesText takeBytes closeText ending linesFrom afterLine
 ended p [] room h = refl
 ended p (c ∷ begun) zero h = absurd (let e : _≡_ {A = ℕ} (suc (length begun)) 0 = ap length (h refl) in omega arith)
 ended p (c ∷ begun) (suc room) h =
-    rw (has-byte c begun, has-byte c (take 21 begun)) (ap₂ (λ (t : List ℕ) (a : Answer Asked). t ++ closingText (afterAnswer p a)) (ap (lineText (suc (p .lines))) (first-bytes (c ∷ begun))) (first-bytes (c ∷ begun)))
+    rw (has-byte c begun, has-byte c (take questionSize begun)) (ap₂ (λ (t : List ℕ) (a : Answer Asked). t ++ closingText (afterAnswer p a)) (ap (lineText (suc (p .lines))) (first-bytes (c ∷ begun))) (first-bytes (c ∷ begun)))
 
 -- no room: any byte stops
-stops : (p : Progress) (b : ℕ) (bs : List ℕ) → 32768 ≤ p .lines → printed (at p []) (b ∷ bs) ≡ stopText
+stops : (p : Progress) (b : ℕ) (bs : List ℕ) → mostInputLines ≤ p .lines → printed (at p []) (b ∷ bs) ≡ stopText
 unfolding byteText takeByte
 stops p b bs h =
-    one-byte (at p []) b bs ∙ rw (le-leb 32768 (p .lines) h) (ap (λ (t : List ℕ). stopText ++ t) (nothing-after (stop (at p [])) refl bs) ∙ append-nil stopText)
+    one-byte (at p []) b bs ∙ rw (le-leb mostInputLines (p .lines) h) (ap (λ (t : List ℕ). stopText ++ t) (nothing-after (stop (at p [])) refl bs) ∙ append-nil stopText)
 
 nothing-fits : (p : Progress) (lines : List (List ℕ)) → Some lines → ending p 0 lines ≡ stopText
 unfolding ending
@@ -81,46 +82,46 @@ nothing-fits p lines s = ap (ending p 0) (s .2)
 
 first-line : (b : ℕ) (bs : List ℕ) → Some (linesFrom [] (b ∷ bs))
 unfolding linesFrom
-first-line b bs = either (eqb b 10) [] (linesFrom [] bs) (linesFrom (b ∷ []) bs) (some-line bs b [])
+first-line b bs = either (eqb b newline) [] (linesFrom [] bs) (linesFrom (b ∷ []) bs) (some-line bs b [])
 
 -- room: a newline ends the line, any other byte goes on with it
-module _ (p : Progress) (begun : List ℕ) (b : ℕ) (bs : List ℕ) (room : p .lines < 32768) where
-  at-newline : eqb b 10 ≡ true → printed (at p begun) (b ∷ bs) ≡ lineText (suc (p .lines)) (reading begun) ++ printed (at (afterLine p begun) []) bs
+module _ (p : Progress) (begun : List ℕ) (b : ℕ) (bs : List ℕ) (room : p .lines < mostInputLines) where
+  at-newline : eqb b newline ≡ true → printed (at p begun) (b ∷ bs) ≡ lineText (suc (p .lines)) (readQuestion begun) ++ printed (at (afterLine p begun) []) bs
   unfolding byteText takeByte afterLine
   at-newline e =
       one-byte (at p begun) b bs
-      ∙ rw (lt-leb 32768 (p .lines) room, e) (ap (λ (a : Answer Asked). lineText (suc (p .lines)) a ++ printed (record { progress = afterAnswer p a; begun = []; stopped = false }) bs) (first-bytes begun))
+      ∙ rw (lt-leb mostInputLines (p .lines) room, e) (ap (λ (a : Answer Asked). lineText (suc (p .lines)) a ++ printed (record { progress = afterAnswer p a; begun = []; stopped = false }) bs) (first-bytes begun))
 
-  at-byte : eqb b 10 ≡ false → printed (at p begun) (b ∷ bs) ≡ printed (at p (begun ++ (b ∷ []))) bs
+  at-byte : eqb b newline ≡ false → printed (at p begun) (b ∷ bs) ≡ printed (at p (begun ++ (b ∷ []))) bs
   unfolding byteText takeByte
   at-byte e =
       one-byte (at p begun) b bs
-      ∙ rw (lt-leb 32768 (p .lines) room, e) (ap (λ (l : List ℕ). printed (record { progress = p; begun = l; stopped = false }) bs) (take-again 22 begun (b ∷ [])))
+      ∙ rw (lt-leb mostInputLines (p .lines) room, e) (ap (λ (l : List ℕ). printed (record { progress = p; begun = l; stopped = false }) bs) (take-again keptBytes begun (b ∷ [])))
 
-line-more : (p : Progress) (begun : List ℕ) (room : ℕ) → p .lines + suc room ≡ 32768 → afterLine p begun .lines + room ≡ 32768
+line-more : (p : Progress) (begun : List ℕ) (room : ℕ) → p .lines + suc room ≡ mostInputLines → afterLine p begun .lines + room ≡ mostInputLines
 unfolding afterLine
 line-more p begun room e = omega arith
 
-one-more : (p : Progress) (begun : List ℕ) (b : ℕ) (bs : List ℕ) (room : ℕ) → p .lines < 32768 → (c : Bool) → eqb b 10 ≡ c
+one-more : (p : Progress) (begun : List ℕ) (b : ℕ) (bs : List ℕ) (room : ℕ) → p .lines < mostInputLines → (c : Bool) → eqb b newline ≡ c
     → printed (at (afterLine p begun) []) bs ≡ ending (afterLine p begun) room (linesFrom [] bs)
     → printed (at p (begun ++ (b ∷ []))) bs ≡ ending p (suc room) (linesFrom (begun ++ (b ∷ [])) bs)
     → printed (at p begun) (b ∷ bs) ≡ ending p (suc room) (linesFrom begun (b ∷ bs))
 unfolding linesFrom ending
-one-more p begun b bs room h true e l m = at-newline p begun b bs h e ∙ rw e (ap (λ (t : List ℕ). lineText (suc (p .lines)) (reading begun) ++ t) l)
+one-more p begun b bs room h true e l m = at-newline p begun b bs h e ∙ rw e (ap (λ (t : List ℕ). lineText (suc (p .lines)) (readQuestion begun) ++ t) l)
 one-more p begun b bs room h false e l m = at-byte p begun b bs h e ∙ rw e m
 
-bytes-are : (input : List ℕ) (p : Progress) (begun : List ℕ) (room : ℕ) → p .lines + room ≡ 32768 → (room ≡ 0 → begun ≡ []) → printed (at p begun) input ≡ ending p room (linesFrom begun input)
+bytes-are : (input : List ℕ) (p : Progress) (begun : List ℕ) (room : ℕ) → p .lines + room ≡ mostInputLines → (room ≡ 0 → begun ≡ []) → printed (at p begun) input ≡ ending p room (linesFrom begun input)
 bytes-are [] p begun room e h = ended p begun room h
 bytes-are (b ∷ bs) p begun zero e h =
     let none = h refl in
     subst (λ (l : List ℕ). printed (at p l) (b ∷ bs) ≡ ending p 0 (linesFrom l (b ∷ bs))) (sym none)
     (stops p b bs (omega arith) ∙ sym (nothing-fits p (linesFrom [] (b ∷ bs)) (first-line b bs)))
 bytes-are (b ∷ bs) p begun (suc room) e h =
-    one-more p begun b bs room (omega arith) (eqb b 10) refl (bytes-are bs (afterLine p begun) [] room (line-more p begun room e) (λ z. refl))
+    one-more p begun b bs room (omega arith) (eqb b newline) refl (bytes-are bs (afterLine p begun) [] room (line-more p begun room e) (λ z. refl))
     (bytes-are bs p (begun ++ (b ∷ [])) (suc room) e (λ (z : suc room ≡ 0). absurd (omega arith)))
 
 pub byte-by-byte : ByteByByte
-byte-by-byte input = bytes-are input start [] 32768 refl (λ z. refl) ∙ sym (output-is input)
+byte-by-byte input = bytes-are input start [] mostInputLines refl (λ z. refl) ∙ sym (output-is input)
 
 -- ---- any way of cutting the input into reads
 pub states-join : (xs ys : List ℕ) (s : State) → takeBytes s (xs ++ ys) ≡ takeBytes (takeBytes s xs) ys

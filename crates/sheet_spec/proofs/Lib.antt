@@ -3,3 +3,4 @@ pub mod Bytes
 pub mod Totals
 pub mod Theorems
 pub mod Lengths
+pub mod Positions

@@ -1,4 +1,4 @@
--- The theorems of `specs/Theorems.antt`.
+-- Proofs of the statements about what is printed (specs/Theorems.antt).
 use mathlib.Core.Path.{_≡_, ap}
 use mathlib.Core.List.{[], _++_}
 use native.Mathlib.Omega.{arith}
@@ -39,7 +39,7 @@ unfolding output linesFrom linesText afterLines closingText
 empty-input = ap (λ (a : Answer TwoPatterns). readText a ++ endText 0 0) cleared
 
 pub two-bad-lines : TwoBadLines
-unfolding output linesFrom linesText lineText afterLines afterLine closingText questions.reading column badText decimalUpTo
+unfolding output linesFrom linesText lineText afterLines afterLine closingText questions.readQuestion column badText decimalUpTo
 two-bad-lines = ap (λ (a : Answer TwoPatterns). badText 1 1 ++ (badText 2 1 ++ (readText a ++ endText 0 2))) cleared
 
 pub line-terms : LineTerms

@@ -1,23 +1,23 @@
--- What the program `sheet` prints (document 01, "What `sheet` prints"): from all input bytes to all output bytes.
+-- What the program `sheet` prints: from all input bytes to all output bytes (R9).
 use Prim.Native.Nat.{ℕ, suc, _+_, _-_}
-use mathlib.Core.Bool.{cond, _&&_}
+use mathlib.Core.Bool.{cond}
 use mathlib.Core.List.{List, [], _∷_, _++_}
 use lib.Dec.{eqb, leb}
 use lib.ListN.{length, take, replicate}
 use Rattle.pattern_spec.specs.Answer.{Answer, refused, done, isDone}
-use Rattle.rounding_spec.specs.Format.{binary32}
-use Rattle.rounding_spec.specs.Value.{decode, isFinite}
-use Rattle.worksheet_spec.specs.Filling.{FilledSheet, filled, filling, afterFilling}
-use Rattle.accumulator_spec.specs.Totals.{TwoPatterns, Term, ofPattern, pair, reading as readTotal}
+use Rattle.pattern_spec.specs.Classes.{bothFinite}
+use Rattle.worksheet_spec.specs.Lines.{sheetSize}
+use Rattle.worksheet_spec.specs.Filling.{FilledSheet, filling, afterFilling}
+use Rattle.accumulator_spec.specs.Totals.{TwoPatterns, Term, ofPattern, reading}
 use Rattle.accumulator_spec.specs.Columns.{zeros, column}
-use Rattle.question_spec.specs.Questions.{Asked, asked, reading}
+use Rattle.question_spec.specs.Ascii.{newline}
+use Rattle.question_spec.specs.Questions.{Asked, readQuestion}
 use Rattle.transcript_spec.specs.Texts.{answeredText, badText, totalText, endText, stopText}
 
--- ---- "It reads standard input; a last line without newline counts." A line ends at a newline, byte 10, and nowhere else.
--- the lines of the input, after the bytes of an open line
+-- ---- the lines of the input, after the bytes of an open line: only a newline ends one, and bytes after the last newline are one too (R9.1)
 unfoldable pub linesFrom : List ℕ → List ℕ → List (List ℕ)
 linesFrom begun [] = cond (eqb (length begun) 0) [] (begun ∷ [])
-linesFrom begun (b ∷ bs) = cond (eqb b 10) (begun ∷ linesFrom [] bs) (linesFrom (begun ++ (b ∷ [])) bs)
+linesFrom begun (b ∷ bs) = cond (eqb b newline) (begun ∷ linesFrom [] bs) (linesFrom (begun ++ (b ∷ [])) bs)
 
 abbrev pub linesOf : List ℕ → List (List ℕ)
 linesOf input = linesFrom [] input
@@ -25,30 +25,33 @@ linesOf input = linesFrom [] input
 -- ---- one line
 -- the words that are lent for each question: as many as a sheet needs
 abbrev pub blank : List ℕ
-blank = replicate 65 0
+blank = replicate sheetSize 0
 
--- the text of a question whose sheet is filled; no question that is read is refused (`NeverRefused` of Theorems)
+-- the text of a question whose sheet is filled (R9.3); no question that is read is refused (`NeverRefused` of Theorems)
 unfoldable pub filledText : ℕ → ℕ → ℕ → ℕ → Answer FilledSheet → List ℕ → List ℕ
 filledText number operation x y (done s) words = answeredText number operation x y words (s .lines) (s .pair)
 filledText number operation x y (refused n) words = []
 
--- "A bad line gives `bad`, line number, refusal, and work goes on."
+-- of a question, its sheet; of a line that is refused, the refusal (R9.7)
 unfoldable pub lineText : ℕ → Answer Asked → List ℕ
 lineText number (done q) =
-    filledText number (q .operation) (q .x) (q .y) (filling (q .operation) (q .x) (q .y) blank) (afterFilling (q .operation) (q .x) (q .y) blank)
+    filledText number (q .operation) (q .x) (q .y) (filling (q .operation) (q .x) (q .y) blank)
+    (afterFilling (q .operation) (q .x) (q .y) blank)
 lineText number (refused n) = badText number n
 
--- "`total` adds every finite printed pair": both halves, those of inexact products too
+-- R9.8: what a pair adds to the total: both halves where both are finite, those of inexact products too
+abbrev pub halfTerms : ℕ → ℕ → List Term
+halfTerms first second = cond (bothFinite first second) (ofPattern first ∷ ofPattern second ∷ []) []
+
 abbrev pub pairTerms : Answer FilledSheet → List Term
-pairTerms (done s) =
-    cond (isFinite (decode binary32 (s .pair .first)) && isFinite (decode binary32 (s .pair .second))) (ofPattern (s .pair .first) ∷ ofPattern (s .pair .second) ∷ []) []
+pairTerms (done s) = halfTerms (s .pair .first) (s .pair .second)
 pairTerms (refused n) = []
 
 abbrev pub lineTerms : Answer Asked → List Term
 lineTerms (done q) = pairTerms (filling (q .operation) (q .x) (q .y) blank)
 lineTerms (refused n) = []
 
--- ---- what has been (done tt) of the lines so far: how many, how many of them good, and the total
+-- ---- the lines so far: how many, how many of them good, and the total
 pub record Progress : Type 0 where
   pub lines : ℕ
   pub good : ℕ
@@ -61,7 +64,7 @@ abbrev pub afterAnswer : Progress → Answer Asked → Progress
 afterAnswer p a = record { lines = suc (p .lines); good = cond (isDone a) 1 0 + p .good; total = column (p .total) (lineTerms a) }
 
 unfoldable pub afterLine : Progress → List ℕ → Progress
-afterLine p line = afterAnswer p (reading line)
+afterLine p line = afterAnswer p (readQuestion line)
 
 unfoldable pub afterLines : Progress → List (List ℕ) → Progress
 afterLines p [] = p
@@ -70,20 +73,23 @@ afterLines p (l ∷ ls) = afterLines (afterLine p l) ls
 -- the texts of the lines, numbered from 1
 unfoldable pub linesText : Progress → List (List ℕ) → List ℕ
 linesText p [] = []
-linesText p (l ∷ ls) = lineText (suc (p .lines)) (reading l) ++ linesText (afterLine p l) ls
+linesText p (l ∷ ls) = lineText (suc (p .lines)) (readQuestion l) ++ linesText (afterLine p l) ls
 
--- "`total`" and "`end` gives good and bad lines". A total of the program's own is never refused (`TotalTakesAll` of Theorems).
+-- ---- the last two lines (R9.8, R9.9). A total of the program's own is never refused (`TotalTakesAll` of Theorems).
 abbrev pub readText : Answer TwoPatterns → List ℕ
 readText (done r) = totalText (r .first) (r .second)
 readText (refused n) = []
 
 unfoldable pub closingText : Progress → List ℕ
-closingText p = readText (readTotal (p .total)) ++ endText (p .good) (p .lines - p .good)
+closingText p = readText (reading (p .total)) ++ endText (p .good) (p .lines - p .good)
 
--- ---- all of it: "prints `stop`, tab, 11 at input line 32,769, in place of its last two lines, and reads no further"
+-- ---- all of it; one line more than the most stops the program, in place of its last two lines (R8.11)
+abbrev pub mostInputLines : ℕ
+mostInputLines = 32768
+
 unfoldable pub output : List ℕ → List ℕ
 output input =
     let lines = linesOf input in
-    cond (leb (length lines) 32768)
+    cond (leb (length lines) mostInputLines)
     (linesText start lines ++ closingText (afterLines start lines))
-    (linesText start (take 32768 lines) ++ stopText)
+    (linesText start (take mostInputLines lines) ++ stopText)

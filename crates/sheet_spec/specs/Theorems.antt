@@ -1,20 +1,20 @@
 -- What holds of what is printed. Each name is a statement; proofs/Theorems.antt has its proof.
 use Prim.Native.Nat.{ℕ, _≤_}
 use mathlib.Core.Path.{_≡_}
-use mathlib.Core.Logic.{_⊎_}
 use mathlib.Core.Bool.{true, false}
 use mathlib.Core.List.{List, [], _∷_, _++_}
 use lib.ListN.{length}
 use Rattle.pattern_spec.specs.Answer.{refused, isDone}
+use Rattle.pattern_spec.specs.Classes.{bothFinite}
 use Rattle.rounding_spec.specs.Format.{binary32}
-use Rattle.rounding_spec.specs.Value.{decode, isFinite}
 use Rattle.augmented_spec.specs.Direct.{directPair, operationOf}
 use Rattle.worksheet_spec.specs.Filling.{filling}
-use Rattle.question_spec.specs.Questions.{asked, reading}
+use Rattle.question_spec.specs.Ascii.{ascii}
+use Rattle.question_spec.specs.Questions.{asked, readQuestion}
 use Rattle.transcript_spec.specs.Texts.{badText, totalText, endText}
 use Rattle.accumulator_spec.specs.Totals.{number, Term, ofPattern, FitTotal}
 use Rattle.accumulator_spec.specs.Columns.{zeros, column, Accepted, columnSum}
-use Rattle.sheet_spec.specs.Printed.{blank, lineTerms, start, afterLines, output}
+use Rattle.sheet_spec.specs.Printed.{blank, lineTerms, start, afterLines, mostInputLines, output}
 use Rattle.sheet_spec.specs.States.{State, begin, takeBytes, bytesText, closeText}
 
 -- carried from byte to byte, the program prints the definition's text
@@ -33,42 +33,41 @@ readsText s (r ∷ rs) = bytesText s r ++ readsText (takeBytes s r) rs
 abbrev pub AnyReads : Type 0
 AnyReads = (reads : List (List ℕ)) → readsText begin reads ≡ output (joined reads)
 
--- ---- after `stop` nothing is printed, whatever follows. ("reads no further" is the program's own loop, which no definition covers.)
+-- ---- after `stop` nothing is printed, whatever follows (R8.11); that no more is read is the program's own loop, which no definition covers
 abbrev pub NothingAfterStop : Type 0
 NothingAfterStop = (s : State) (bytes : List ℕ) → s .stopped ≡ true → (takeBytes s bytes ≡ s) × (bytesText s bytes ≡ []) × (closeText s ≡ [])
 
 -- ---- no question that is read is refused when its sheet is filled
 abbrev pub NeverRefused : Type 0
-NeverRefused = (line : List ℕ) (o x y : ℕ) → reading line ≡ asked o x y → isDone (filling o x y blank) ≡ true
+NeverRefused = (line : List ℕ) (o x y : ℕ) → readQuestion line ≡ asked o x y → isDone (filling o x y blank) ≡ true
 
--- ---- "`total` adds every finite printed pair"
+-- ---- the total (R9.8)
 -- the terms of all lines, in order
 unfoldable pub termsOf : List (List ℕ) → List Term
 termsOf [] = []
-termsOf (l ∷ ls) = lineTerms (reading l) ++ termsOf ls
+termsOf (l ∷ ls) = lineTerms (readQuestion l) ++ termsOf ls
 
 -- a line's terms are both halves of its question's pair, where both are finite, with X or without; a bad line has none
 abbrev pub LineTerms : Type 0
 LineTerms =
-    ((line : List ℕ) (o x y : ℕ) → reading line ≡ asked o x y → let p = directPair (operationOf o) binary32 x y in
-    (isFinite (decode binary32 (p .first)) ≡ true → isFinite (decode binary32 (p .second)) ≡ true → lineTerms (reading line) ≡ ofPattern (p .first) ∷ ofPattern (p .second) ∷ [])
-    × ((isFinite (decode binary32 (p .first)) ≡ false) ⊎ (isFinite (decode binary32 (p .second)) ≡ false) → lineTerms (reading line) ≡ []))
-    × ((line : List ℕ) (n : ℕ) → reading line ≡ refused n → lineTerms (reading line) ≡ [])
+    ((line : List ℕ) (o x y : ℕ) → readQuestion line ≡ asked o x y → let p = directPair (operationOf o) binary32 x y in
+    (bothFinite (p .first) (p .second) ≡ true → lineTerms (readQuestion line) ≡ ofPattern (p .first) ∷ ofPattern (p .second) ∷ [])
+    × (bothFinite (p .first) (p .second) ≡ false → lineTerms (readQuestion line) ≡ []))
+    × ((line : List ℕ) (n : ℕ) → readQuestion line ≡ refused n → lineTerms (readQuestion line) ≡ [])
 
 -- every one of them is accepted, and the total is theirs
 abbrev pub TotalTakesAll : Type 0
 TotalTakesAll =
-    (lines : List (List ℕ)) → length lines ≤ 32768
-    → Accepted zeros (termsOf lines) × (afterLines start lines .total ≡ column zeros (termsOf lines)) × (number (afterLines start lines .total) ≡ columnSum (termsOf lines))
-    × FitTotal (afterLines start lines .total)
+    (lines : List (List ℕ)) → length lines ≤ mostInputLines → let total = afterLines start lines .total in
+    Accepted zeros (termsOf lines) × (total ≡ column zeros (termsOf lines)) × (number total ≡ columnSum (termsOf lines)) × FitTotal total
 
--- ---- "Empty input prints `total` with two zeros and `end` 0 0."
+-- ---- empty input (R9.10)
 abbrev pub EmptyInput : Type 0
 EmptyInput = output [] ≡ totalText 0 0 ++ endText 0 0
 
--- "a last line without newline counts"; lines are numbered from 1; "`end` gives good and bad lines"; "work goes on": bytes 120, newline, 120
+-- ---- two bad lines, the last without newline: both are counted and numbered from 1 (R9.1, R9.7, R9.9)
 abbrev pub TwoBadLines : Type 0
-TwoBadLines = output (120 ∷ 10 ∷ 120 ∷ []) ≡ badText 1 1 ++ (badText 2 1 ++ (totalText 0 0 ++ endText 0 2))
+TwoBadLines = output (ascii "x\nx") ≡ badText 1 1 ++ (badText 2 1 ++ (totalText 0 0 ++ endText 0 2))
 
 abbrev pub All : Type 0
 All = ByteByByte × AnyReads × NothingAfterStop × NeverRefused × LineTerms × TotalTakesAll × EmptyInput × TwoBadLines

@@ -12,13 +12,17 @@ use transcript_lines::put_answered;
 use transcript_lines::put_ask;
 use transcript_lines::put_pair;
 use transcript_lines::put_step;
+use worksheet_spec::LINE_SIZE;
+use worksheet_spec::MOST_LINES;
+use worksheet_spec::SHEET_SIZE;
 ghost use mathlib.Core.Path.{_≡_};
 ghost use Prim.Native.Nat.{min};
-ghost use lib.ListN.{getD};
-ghost use Rattle.transcript_spec.specs.Texts.{askText, stepText, pairText, answeredText, written, afterWriting};
+ghost use Rattle.worksheet_spec.specs.Lines.{mostLines};
+ghost use Rattle.transcript_spec.specs.Texts.{askText, stepText, pairText, answeredText};
+ghost use Rattle.transcript_spec.specs.Buffers.{Writes};
 
 pub fn ask(out: &mut [u8], number: u32, operation: u32, x: u32, y: u32) -> usize
-    ensures { λ r. ⌜ (r ≡ written (now (out .entry)) (askText number operation x y)) × (now (out .exit) ≡ afterWriting (now (out .entry)) (askText number operation x y)) ⌝ }
+    ensures { λ r. ⌜ Writes (now (out .entry)) (askText number operation x y) r (now (out .exit)) ⌝ }
 {
     if out.len() < 27 + lengths::decimal(number) {
         return 0;
@@ -26,8 +30,8 @@ pub fn ask(out: &mut [u8], number: u32, operation: u32, x: u32, y: u32) -> usize
     put_ask(out, 0, number, operation, x, y)
 }
 
-pub fn step(out: &mut [u8], number: u32, line: [u32; 5]) -> usize
-    ensures { λ r. ⌜ (r ≡ written (now (out .entry)) (stepText number (getD line 0 0) (getD line 1 0) (getD line 2 0) (getD line 3 0) (getD line 4 0))) × (now (out .exit) ≡ afterWriting (now (out .entry)) (stepText number (getD line 0 0) (getD line 1 0) (getD line 2 0) (getD line 3 0) (getD line 4 0))) ⌝ }
+pub fn step(out: &mut [u8], number: u32, line: [u32; LINE_SIZE]) -> usize
+    ensures { λ r. ⌜ Writes (now (out .entry)) (stepText number line) r (now (out .exit)) ⌝ }
 {
     if out.len() < lengths::step(number, line[0]) {
         return 0;
@@ -36,7 +40,7 @@ pub fn step(out: &mut [u8], number: u32, line: [u32; 5]) -> usize
 }
 
 pub fn pair(out: &mut [u8], pair: Pair) -> usize
-    ensures { λ r. ⌜ (r ≡ written (now (out .entry)) (pairText pair)) × (now (out .exit) ≡ afterWriting (now (out .entry)) (pairText pair)) ⌝ }
+    ensures { λ r. ⌜ Writes (now (out .entry)) (pairText pair) r (now (out .exit)) ⌝ }
 {
     let flags = pair.flags;
     if out.len() < 24 + lengths::flags(flags) {
@@ -45,11 +49,15 @@ pub fn pair(out: &mut [u8], pair: Pair) -> usize
     put_pair(out, 0, pair)
 }
 
-// "A sheet has at most 13 lines"
+// No more lines than a sheet has.
 fn shown(lines: u32) -> usize
-    ensures { λ r. ⌜ r ≡ min lines 13 ⌝ }
+    ensures { λ r. ⌜ r ≡ min lines mostLines ⌝ }
 {
-    if lines < 13 { lines as usize } else { 13 }
+    if lines < MOST_LINES as u32 {
+        lines as usize
+    } else {
+        MOST_LINES
+    }
 }
 
 // A question's `ask`, a `step` for each line of its sheet, and its `pair`.
@@ -59,11 +67,11 @@ pub fn answered(
     operation: u32,
     x: u32,
     y: u32,
-    words: &[u32; 65],
+    words: &[u32; SHEET_SIZE],
     lines: u32,
     pair: Pair,
 ) -> usize
-    ensures { λ r. ⌜ (r ≡ written (now (out .entry)) (answeredText number operation x y (now (words .entry)) lines pair)) × (now (out .exit) ≡ afterWriting (now (out .entry)) (answeredText number operation x y (now (words .entry)) lines pair)) ⌝ }
+    ensures { λ r. ⌜ Writes (now (out .entry)) (answeredText number operation x y (now (words .entry)) lines pair) r (now (out .exit)) ⌝ }
 {
     let shown = shown(lines);
     let flags = pair.flags;

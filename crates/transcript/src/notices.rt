@@ -4,11 +4,11 @@ use transcript_fields::bytes::put_four;
 use transcript_lines::lengths;
 use transcript_lines::put_counts;
 use transcript_lines::put_total;
-ghost use mathlib.Core.Path.{_≡_};
-ghost use Rattle.transcript_spec.specs.Texts.{badText, totalText, endText, stopText, written, afterWriting};
+ghost use Rattle.transcript_spec.specs.Texts.{badText, totalText, endText, stopText};
+ghost use Rattle.transcript_spec.specs.Buffers.{Writes};
 
 pub fn bad(out: &mut [u8], number: u32, refusal: u32) -> usize
-    ensures { λ r. ⌜ (r ≡ written (now (out .entry)) (badText number refusal)) × (now (out .exit) ≡ afterWriting (now (out .entry)) (badText number refusal)) ⌝ }
+    ensures { λ r. ⌜ Writes (now (out .entry)) (badText number refusal) r (now (out .exit)) ⌝ }
 {
     if out.len() < 6 + lengths::decimal(number) + lengths::decimal(refusal) {
         return 0;
@@ -17,7 +17,7 @@ pub fn bad(out: &mut [u8], number: u32, refusal: u32) -> usize
 }
 
 pub fn total(out: &mut [u8], first: u32, second: u32) -> usize
-    ensures { λ r. ⌜ (r ≡ written (now (out .entry)) (totalText first second)) × (now (out .exit) ≡ afterWriting (now (out .entry)) (totalText first second)) ⌝ }
+    ensures { λ r. ⌜ Writes (now (out .entry)) (totalText first second) r (now (out .exit)) ⌝ }
 {
     if out.len() < 24 {
         return 0;
@@ -26,7 +26,7 @@ pub fn total(out: &mut [u8], first: u32, second: u32) -> usize
 }
 
 pub fn end(out: &mut [u8], good: u32, bad: u32) -> usize
-    ensures { λ r. ⌜ (r ≡ written (now (out .entry)) (endText good bad)) × (now (out .exit) ≡ afterWriting (now (out .entry)) (endText good bad)) ⌝ }
+    ensures { λ r. ⌜ Writes (now (out .entry)) (endText good bad) r (now (out .exit)) ⌝ }
 {
     if out.len() < 6 + lengths::decimal(good) + lengths::decimal(bad) {
         return 0;
@@ -35,11 +35,11 @@ pub fn end(out: &mut [u8], good: u32, bad: u32) -> usize
 }
 
 pub fn stop(out: &mut [u8]) -> usize
-    ensures { λ r. ⌜ (r ≡ written (now (out .entry)) stopText) × (now (out .exit) ≡ afterWriting (now (out .entry)) stopText) ⌝ }
+    ensures { λ r. ⌜ Writes (now (out .entry)) stopText r (now (out .exit)) ⌝ }
 {
     if out.len() < 8 {
         return 0;
     }
     let a = put_four(out, 0, b's', b't', b'o', b'p');
-    put_four(out, a, 9, b'1', b'1', 10)
+    put_four(out, a, b'\t', b'1', b'1', b'\n')
 }

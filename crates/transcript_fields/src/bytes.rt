@@ -1,8 +1,8 @@
-// Bytes put at a place of the buffer.
+// Bytes put into the buffer, from the byte `at` on.
 ghost use mathlib.Core.List.{[], _∷_};
 ghost use Prim.Native.Nat.{_+_, _≤_};
 ghost use lib.ListN.{length};
-ghost use Rattle.transcript_spec.specs.Inner.{Put};
+ghost use Rattle.transcript_spec.specs.Buffers.{Put};
 
 pub fn put_byte(out: &mut [u8], at: usize, byte: u8) -> usize
     requires { ⌜ at + 1 ≤ length (now out) ⌝ }

@@ -3,7 +3,7 @@ use augmented_spec::Flags;
 ghost use Prim.Native.Nat.{_+_, _≤_};
 ghost use lib.ListN.{length};
 ghost use Rattle.transcript_spec.specs.Texts.{mark, flagsText};
-ghost use Rattle.transcript_spec.specs.Inner.{Put};
+ghost use Rattle.transcript_spec.specs.Buffers.{Put};
 
 fn put_mark(out: &mut [u8], at: usize, raised: bool, letter: u8) -> usize
     requires { ⌜ at + length (mark raised letter) ≤ length (now out) ⌝ }

@@ -1,4 +1,4 @@
-// The fields of the printed lines. Each writer puts its text at a place of the buffer and answers the place after it.
+// The fields of the printed lines. Each writer puts its text into the buffer, from the byte `at` on, and answers where it ends.
 pub mod bytes;
 pub mod decimals;
 pub mod flags;

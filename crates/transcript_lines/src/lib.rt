@@ -1,4 +1,4 @@
-// The printed lines. Each writer puts its text at a place of the buffer and answers the place after it.
+// The printed lines. Each writer puts its text into the buffer, from the byte `at` on, and answers where it ends.
 pub mod lengths;
 
 use augmented_spec::Pair;
@@ -11,49 +11,55 @@ use transcript_fields::letters::put_step_letters;
 use transcript_fields::patterns::put_pattern;
 use transcript_fields::patterns::put_patterns;
 use transcript_fields::patterns::put_third;
+use worksheet_spec::LINE_SIZE;
+use worksheet_spec::SHEET_SIZE;
 ghost use mathlib.Core.List.{[], _∷_, _++_};
 ghost use Prim.Native.Nat.{_+_, _*_, _≤_, _<_};
-ghost use lib.ListN.{length, getD};
+ghost use lib.ListN.{length, drop};
+ghost use Rattle.worksheet_spec.specs.Lines.{lineSize, mostLines};
+ghost use Rattle.question_spec.specs.Ascii.{ascii, tab};
 ghost use Rattle.question_spec.specs.Questions.{patternText};
-ghost use Rattle.transcript_spec.specs.Texts.{decimal, thirdText, flagsText, askText, stepText, pairText, totalText, stepsText};
-ghost use Rattle.transcript_spec.specs.Inner.{Put};
+ghost use Rattle.transcript_spec.specs.Texts.{decimal, thirdText, flagsText, lineOf};
+ghost use Rattle.transcript_spec.specs.Texts.{askText, stepText, pairText, totalText, stepsText, shownText};
+ghost use Rattle.transcript_spec.specs.Buffers.{Put};
+ghost use Rattle.transcript_spec.specs.Inner.{answeredLength};
 
 pub fn put_ask(out: &mut [u8], at: usize, number: u32, operation: u32, x: u32, y: u32) -> usize
     requires { ⌜ at + 27 + length (decimal number) ≤ length (now out) ⌝ }
     ensures { λ r. ⌜ Put (now (out .entry)) at (askText number operation x y) r (now (out .exit)) ⌝ }
 {
-    let a = put_four(out, at, b'a', b's', b'k', 9);
+    let a = put_four(out, at, b'a', b's', b'k', b'\t');
     let b = put_decimal(out, a, number);
     let c = put_letters(out, b, operation);
     let d = put_patterns(out, c, x, y);
-    out[d] = 10;
+    out[d] = b'\n';
     d + 1
 }
 
 // What a `step` begins with, up to its number.
 fn put_start(out: &mut [u8], at: usize, number: u32) -> usize
     requires { ⌜ at + 5 + length (decimal number) ≤ length (now out) ⌝ }
-    ensures { λ r. ⌜ Put (now (out .entry)) at (115 ∷ 116 ∷ 101 ∷ 112 ∷ 9 ∷ decimal number) r (now (out .exit)) ⌝ }
+    ensures { λ r. ⌜ Put (now (out .entry)) at (ascii "step\t" ++ decimal number) r (now (out .exit)) ⌝ }
 {
     let a = put_four(out, at, b's', b't', b'e', b'p');
-    let b = put_byte(out, a, 9);
+    let b = put_byte(out, a, b'\t');
     put_decimal(out, b, number)
 }
 
 // What a `step` ends with, from its third operand on.
 fn put_rest(out: &mut [u8], at: usize, operation: u32, z: u32, result: u32) -> usize
     requires { ⌜ at + 11 + length (thirdText operation z) ≤ length (now out) ⌝ }
-    ensures { λ r. ⌜ Put (now (out .entry)) at (9 ∷ thirdText operation z ++ (9 ∷ patternText result ++ (10 ∷ []))) r (now (out .exit)) ⌝ }
+    ensures { λ r. ⌜ Put (now (out .entry)) at (tab ∷ lineOf (thirdText operation z ∷ patternText result ∷ [])) r (now (out .exit)) ⌝ }
 {
     let a = put_third(out, at, operation, z);
     let b = put_pattern(out, a, result);
-    out[b] = 10;
+    out[b] = b'\n';
     b + 1
 }
 
-pub fn put_step(out: &mut [u8], at: usize, number: u32, line: [u32; 5]) -> usize
-    requires { ⌜ at + length (stepText number (getD line 0 0) (getD line 1 0) (getD line 2 0) (getD line 3 0) (getD line 4 0)) ≤ length (now out) ⌝ }
-    ensures { λ r. ⌜ Put (now (out .entry)) at (stepText number (getD line 0 0) (getD line 1 0) (getD line 2 0) (getD line 3 0) (getD line 4 0)) r (now (out .exit)) ⌝ }
+pub fn put_step(out: &mut [u8], at: usize, number: u32, line: [u32; LINE_SIZE]) -> usize
+    requires { ⌜ at + length (stepText number line) ≤ length (now out) ⌝ }
+    ensures { λ r. ⌜ Put (now (out .entry)) at (stepText number line) r (now (out .exit)) ⌝ }
 {
     let operation = line[0];
     let a = put_start(out, at, number);
@@ -68,23 +74,23 @@ pub fn put_pair(out: &mut [u8], at: usize, pair: Pair) -> usize
 {
     let a = put_four(out, at, b'p', b'a', b'i', b'r');
     let b = put_patterns(out, a, pair.first, pair.second);
-    let c = put_byte(out, b, 9);
+    let c = put_byte(out, b, b'\t');
     let flags = pair.flags;
     let d = put_flags(out, c, flags);
-    out[d] = 10;
+    out[d] = b'\n';
     d + 1
 }
 
 // A `bad` or an `end`: its letters and its two decimals.
 pub fn put_counts(out: &mut [u8], at: usize, a: u8, b: u8, c: u8, first: u32, second: u32) -> usize
     requires { ⌜ at + 6 + length (decimal first) + length (decimal second) ≤ length (now out) ⌝ }
-    ensures { λ r. ⌜ Put (now (out .entry)) at (a ∷ b ∷ c ∷ 9 ∷ decimal first ++ (9 ∷ decimal second ++ (10 ∷ []))) r (now (out .exit)) ⌝ }
+    ensures { λ r. ⌜ Put (now (out .entry)) at (lineOf ((a ∷ b ∷ c ∷ []) ∷ decimal first ∷ decimal second ∷ [])) r (now (out .exit)) ⌝ }
 {
-    let p = put_four(out, at, a, b, c, 9);
+    let p = put_four(out, at, a, b, c, b'\t');
     let q = put_decimal(out, p, first);
-    let r = put_byte(out, q, 9);
+    let r = put_byte(out, q, b'\t');
     let s = put_decimal(out, r, second);
-    out[s] = 10;
+    out[s] = b'\n';
     s + 1
 }
 
@@ -95,28 +101,28 @@ pub fn put_total(out: &mut [u8], at: usize, first: u32, second: u32) -> usize
     let a = put_four(out, at, b't', b'o', b't', b'a');
     let b = put_byte(out, a, b'l');
     let c = put_patterns(out, b, first, second);
-    out[c] = 10;
+    out[c] = b'\n';
     c + 1
 }
 
-// The step whose five words stand at this line of a sheet.
-fn put_line(out: &mut [u8], at: usize, words: &[u32; 65], line: usize) -> usize
-    requires { ⌜ (line < 13) × (at + length (stepText (line + 1) (getD (now words) (5 * line) 0) (getD (now words) (5 * line + 1) 0) (getD (now words) (5 * line + 2) 0) (getD (now words) (5 * line + 3) 0) (getD (now words) (5 * line + 4) 0)) ≤ length (now out)) ⌝ }
-    ensures { λ r. ⌜ Put (now (out .entry)) at (stepText (line + 1) (getD (now (words .entry)) (5 * line) 0) (getD (now (words .entry)) (5 * line + 1) 0) (getD (now (words .entry)) (5 * line + 2) 0) (getD (now (words .entry)) (5 * line + 3) 0) (getD (now (words .entry)) (5 * line + 4) 0)) r (now (out .exit)) ⌝ }
+// The step at this line of a sheet.
+fn put_line(out: &mut [u8], at: usize, words: &[u32; SHEET_SIZE], line: usize) -> usize
+    requires { ⌜ (line < mostLines) × (at + length (stepText (line + 1) (drop (lineSize * line) (now words))) ≤ length (now out)) ⌝ }
+    ensures { λ r. ⌜ Put (now (out .entry)) at (stepText (line + 1) (drop (lineSize * line) (now (words .entry)))) r (now (out .exit)) ⌝ }
 {
-    let i = 5 * line;
-    let five = [
+    let i = LINE_SIZE * line;
+    let step = [
         words[i],
         words[i + 1],
         words[i + 2],
         words[i + 3],
         words[i + 4],
     ];
-    put_step(out, at, (line as u32) + 1, five)
+    put_step(out, at, (line as u32) + 1, step)
 }
 
-fn put_steps(out: &mut [u8], at: usize, words: &[u32; 65], lines: usize) -> usize
-    requires { ⌜ (lines ≤ 13) × (at + length (stepsText lines 1 (now words)) ≤ length (now out)) ⌝ }
+fn put_steps(out: &mut [u8], at: usize, words: &[u32; SHEET_SIZE], lines: usize) -> usize
+    requires { ⌜ (lines ≤ mostLines) × (at + length (stepsText lines 1 (now words)) ≤ length (now out)) ⌝ }
     ensures { λ r. ⌜ Put (now (out .entry)) at (stepsText lines 1 (now (words .entry))) r (now (out .exit)) ⌝ }
 {
     let mut next = at;
@@ -136,12 +142,12 @@ pub fn put_answered(
     operation: u32,
     x: u32,
     y: u32,
-    words: &[u32; 65],
+    words: &[u32; SHEET_SIZE],
     lines: usize,
     pair: Pair,
 ) -> usize
-    requires { ⌜ (lines ≤ 13) × (at + 51 + length (decimal number) + length (stepsText lines 1 (now words)) + length (flagsText (pair .flags)) ≤ length (now out)) ⌝ }
-    ensures { λ r. ⌜ Put (now (out .entry)) at (askText number operation x y ++ (stepsText lines 1 (now (words .entry)) ++ pairText pair)) r (now (out .exit)) ⌝ }
+    requires { ⌜ (lines ≤ mostLines) × (at + answeredLength number (now words) lines (pair .flags) ≤ length (now out)) ⌝ }
+    ensures { λ r. ⌜ Put (now (out .entry)) at (shownText number operation x y (now (words .entry)) lines pair) r (now (out .exit)) ⌝ }
 {
     let a = put_ask(out, at, number, operation, x, y);
     let b = put_steps(out, a, words, lines);

@@ -5,7 +5,7 @@ use mathlib.Core.List.{List, _++_}
 use borrow.Author.Tests.{le-leb, lt-leb}
 use lib.ListN.{length, take, drop}
 use lib.Seq.{take-append-seam, drop-append-seam}
-use Rattle.transcript_spec.specs.Texts.{written, afterWriting}
+use Rattle.transcript_spec.specs.Buffers.{written, afterWriting}
 
 pub fits : (s t : List ℕ) → length t ≤ length s → (written s t ≡ length t) × (afterWriting s t ≡ t ++ drop (length t) s)
 unfolding written afterWriting

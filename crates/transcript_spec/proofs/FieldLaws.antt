@@ -1,5 +1,6 @@
 -- The fields of the lines: letters, third operand and flags, by cases, and their lengths.
 use Prim.Native.Nat.{ℕ, _+_, _/_, _%_, _≤_}
+use Prim.Native.Char.{code}
 use mathlib.Core.Path.{_≡_, refl, sym, _∙_}
 use mathlib.Core.Logic.{_≢_}
 use mathlib.Core.Bool.{Bool, true, false, cond, _||_}
@@ -10,22 +11,27 @@ use mir.Val.{boolByte}
 use lib.Dec.{eqb}
 use lib.ListN.{length, getD, length-append}
 use Rattle.augmented_spec.specs.declared.Flags.{Flags}
-use Rattle.question_spec.specs.Questions.{letters, sumLetters, difLetters, mulLetters, digit, patternText}
-use Rattle.transcript_spec.specs.Texts.{stepLetters, thirdText, mark, marks, flagsText}
-
-of-three : (a b c : Bool) (x y z w : List ℕ) → length x ≡ 3 → length y ≡ 3 → length z ≡ 3 → length w ≡ 3 → length (cond a x (cond b y (cond c z w))) ≡ 3
-of-three true b c x y z w p q r s = p
-of-three false true c x y z w p q r s = q
-of-three false false true x y z w p q r s = r
-of-three false false false x y z w p q r s = s
+use Rattle.augmented_spec.specs.Direct.{operationOf}
+use Rattle.worksheet_spec.specs.Lines.{Step, add, subtract, multiply, fused, stepNumber}
+use Rattle.question_spec.specs.Ascii.{ascii}
+use Rattle.question_spec.specs.Questions.{letters, patternText}
+use Rattle.question_spec.proofs.ThreeLetters.{three-letters}
+use Rattle.transcript_spec.specs.Inner.{halfText}
+use Rattle.transcript_spec.specs.Texts.{stepOf, lettersOf, stepLetters, takesTwo, thirdText, mark, marks, flagsText}
 
 pub letters-length : (o : ℕ) → length (letters o) ≡ 3
 unfolding letters
-letters-length o = of-three (eqb o 1) (eqb o 2) true sumLetters difLetters mulLetters mulLetters refl refl refl refl
+letters-length o = three-letters (operationOf o)
+
+step-letters : (s : Step) → length (lettersOf s) ≡ 3
+step-letters add = refl
+step-letters subtract = refl
+step-letters multiply = refl
+step-letters fused = refl
 
 pub step-letters-length : (o : ℕ) → length (stepLetters o) ≡ 3
 unfolding stepLetters
-step-letters-length o = of-three (eqb o 1) (eqb o 2) (eqb o 3) (97 ∷ 100 ∷ 100 ∷ []) (115 ∷ 117 ∷ 98 ∷ []) (109 ∷ 117 ∷ 108 ∷ []) (102 ∷ 109 ∷ 97 ∷ []) refl refl refl refl
+step-letters-length o = step-letters (stepOf o)
 
 -- three letters, one by one
 pub by-letters : (t l : List ℕ) → t ≡ l → length l ≡ 3 → (getD t 0 0 ∷ getD t 1 0 ∷ getD t 2 0 ∷ []) ≡ l
@@ -36,11 +42,7 @@ by-letters t (a ∷ b ∷ []) e h = absurd (omega arith)
 by-letters t (a ∷ b ∷ c ∷ d ∷ l) e h = absurd (omega arith)
 
 -- ---- patterns
--- the last four digits
-abbrev pub half : ℕ → List ℕ
-half x = digit (x / 4096 % 16) ∷ digit (x / 256 % 16) ∷ digit (x / 16 % 16) ∷ digit (x % 16) ∷ []
-
-pub halves : (x : ℕ) → half (x / 65536) ++ half x ≡ patternText x
+pub halves : (x : ℕ) → halfText (x / 65536) ++ halfText x ≡ patternText x
 halves x =
     let a : x / 65536 / 4096 ≡ x / 268435456 = omega arith in
     let b : x / 65536 / 256 ≡ x / 16777216 = omega arith in
@@ -48,49 +50,65 @@ halves x =
     rw (a, b, c)
 
 -- ---- the third operand
-any-of : (a b c : Bool) (o : ℕ) → (a ≡ false → o ≢ 1) → (b ≡ false → o ≢ 2) → (c ≡ false → o ≢ 3) → 1 ≤ o → o ≤ 3 → true ≡ (a || (b || c))
+of-step : (a b c : Bool) → takesTwo (cond a add (cond b subtract (cond c multiply fused))) ≡ (a || (b || c))
+of-step true b c = refl
+of-step false true c = refl
+of-step false false true = refl
+of-step false false false = refl
+
+abbrev one-of-two : ℕ → Bool
+one-of-two o = eqb o (stepNumber add) || (eqb o (stepNumber subtract) || eqb o (stepNumber multiply))
+
+by-number : (o : ℕ) → takesTwo (stepOf o) ≡ one-of-two o
+by-number o = of-step (eqb o (stepNumber add)) (eqb o (stepNumber subtract)) (eqb o (stepNumber multiply))
+
+any-of : (a b c : Bool) (o : ℕ) → (a ≡ false → o ≢ stepNumber add) → (b ≡ false → o ≢ stepNumber subtract) → (c ≡ false → o ≢ stepNumber multiply)
+    → stepNumber add ≤ o → o ≤ stepNumber multiply → true ≡ (a || (b || c))
 any-of true b c o p q r h k = refl
 any-of false true c o p q r h k = refl
 any-of false false true o p q r h k = refl
 any-of false false false o p q r h k = absurd (omega (arith, p refl, q refl, r refl))
 
-pub takes-two : (o : ℕ) → 1 ≤ o → o ≤ 3 → true ≡ (eqb o 1 || (eqb o 2 || eqb o 3))
-takes-two o = any-of (eqb o 1) (eqb o 2) (eqb o 3) o (eqb-false o 1) (eqb-false o 2) (eqb-false o 3)
+pub takes-two : (o : ℕ) → stepNumber add ≤ o → o ≤ stepNumber multiply → true ≡ takesTwo (stepOf o)
+takes-two o h k =
+    any-of (eqb o (stepNumber add)) (eqb o (stepNumber subtract)) (eqb o (stepNumber multiply)) o (eqb-false o (stepNumber add)) (eqb-false o (stepNumber subtract))
+    (eqb-false o (stepNumber multiply)) h k ∙ sym (by-number o)
 
-pub takes-three : (o : ℕ) → (1 ≤ o → o ≤ 3 → ⊥) → false ≡ (eqb o 1 || (eqb o 2 || eqb o 3))
+pub takes-three : (o : ℕ) → (stepNumber add ≤ o → o ≤ stepNumber multiply → ⊥) → false ≡ takesTwo (stepOf o)
 takes-three o n =
-    let a : o ≢ 1 = λ e. n (omega arith) (omega arith) in
-    let b : o ≢ 2 = λ e. n (omega arith) (omega arith) in
-    let c : o ≢ 3 = λ e. n (omega arith) (omega arith) in
-    rw (ne-eqb o 1 a, ne-eqb o 2 b, ne-eqb o 3 c)
+    let a : o ≢ stepNumber add = λ e. n (omega arith) (omega arith) in
+    let b : o ≢ stepNumber subtract = λ e. n (omega arith) (omega arith) in
+    let c : o ≢ stepNumber multiply = λ e. n (omega arith) (omega arith) in
+    rw (ne-eqb o (stepNumber add) a, ne-eqb o (stepNumber subtract) b, ne-eqb o (stepNumber multiply) c)
 
-pub third-unused : (o z : ℕ) (two : Bool) → two ≡ true → two ≡ (eqb o 1 || (eqb o 2 || eqb o 3)) → thirdText o z ≡ 45 ∷ []
+pub third-unused : (o z : ℕ) (two : Bool) → two ≡ true → two ≡ takesTwo (stepOf o) → thirdText o z ≡ ascii "-"
 unfolding thirdText
 third-unused o z two t e = rw (sym e ∙ t)
 
-pub third-used : (o z : ℕ) (two : Bool) → two ≡ false → two ≡ (eqb o 1 || (eqb o 2 || eqb o 3)) → thirdText o z ≡ patternText z
+pub third-used : (o z : ℕ) (two : Bool) → two ≡ false → two ≡ takesTwo (stepOf o) → thirdText o z ≡ patternText z
 unfolding thirdText
 third-used o z two f e = rw (sym e ∙ f)
 
-or-pattern : (b : Bool) (t : List ℕ) → length t ≡ 8 → length (cond b (45 ∷ []) t) ≤ 8
+or-pattern : (b : Bool) (t : List ℕ) → length t ≡ 8 → length (cond b (ascii "-") t) ≤ 8
 or-pattern true t e = omega arith
 or-pattern false t e = omega arith
 
 pub third-most : (o z : ℕ) → length (thirdText o z) ≤ 8
 unfolding thirdText
-third-most o z = or-pattern (eqb o 1 || (eqb o 2 || eqb o 3)) (patternText z) refl
+third-most o z = or-pattern (takesTwo (stepOf o)) (patternText z) refl
 
 -- ---- flags
 pub empty : (l : List ℕ) → length l ≡ 0 → l ≡ []
 empty [] e = refl
 empty (a ∷ l) e = absurd (omega arith)
 
-pub marks-length : (f : Flags) → length (marks f) ≡ length (mark (f .invalid) 73) + (length (mark (f .overflow) 79) + (length (mark (f .underflow) 85) + length (mark (f .inexact) 88)))
+pub marks-length : (f : Flags) → length (marks f) ≡ length (mark (f .invalid) (code "I"))
+    + (length (mark (f .overflow) (code "O")) + (length (mark (f .underflow) (code "U")) + length (mark (f .inexact) (code "X"))))
 marks-length f =
     rw (
-      length-append (mark (f .invalid) 73) (mark (f .overflow) 79 ++ (mark (f .underflow) 85 ++ mark (f .inexact) 88)),
-      length-append (mark (f .overflow) 79) (mark (f .underflow) 85 ++ mark (f .inexact) 88),
-      length-append (mark (f .underflow) 85) (mark (f .inexact) 88),
+      length-append (mark (f .invalid) (code "I")) (mark (f .overflow) (code "O") ++ (mark (f .underflow) (code "U") ++ mark (f .inexact) (code "X"))),
+      length-append (mark (f .overflow) (code "O")) (mark (f .underflow) (code "U") ++ mark (f .inexact) (code "X")),
+      length-append (mark (f .underflow) (code "U")) (mark (f .inexact) (code "X")),
     )
 
 mark-length : (b : Bool) (c : ℕ) → length (mark b c) ≡ boolByte b
@@ -103,9 +121,9 @@ byte-most false = omega arith
 
 -- as many letters as flags are raised
 pub marks-count : (f : Flags) → boolByte (f .invalid) + boolByte (f .overflow) + boolByte (f .underflow) + boolByte (f .inexact) ≡ length (marks f)
-marks-count f = omega (arith, marks-length f, mark-length (f .invalid) 73, mark-length (f .overflow) 79, mark-length (f .underflow) 85, mark-length (f .inexact) 88)
+marks-count f = omega (arith, marks-length f, mark-length (f .invalid) (code "I"), mark-length (f .overflow) (code "O"), mark-length (f .underflow) (code "U"), mark-length (f .inexact) (code "X"))
 
-pub no-flags : (f : Flags) → length (marks f) ≡ 0 → flagsText f ≡ 45 ∷ []
+pub no-flags : (f : Flags) → length (marks f) ≡ 0 → flagsText f ≡ ascii "-"
 unfolding flagsText
 no-flags f e = rw (eq-eqb (length (marks f)) 0 e)
 
@@ -113,7 +131,7 @@ pub some-flags : (f : Flags) → (length (marks f) ≡ 0 → ⊥) → flagsText 
 unfolding flagsText
 some-flags f n = rw (ne-eqb (length (marks f)) 0 n)
 
-longer : (b : Bool) (l : List ℕ) → (b ≡ true → length l ≡ 0) → (b ≡ false → length l ≢ 0) → (length l ≤ length (cond b (45 ∷ []) l)) × (1 ≤ length (cond b (45 ∷ []) l))
+longer : (b : Bool) (l : List ℕ) → (b ≡ true → length l ≡ 0) → (b ≡ false → length l ≢ 0) → (length l ≤ length (cond b (ascii "-") l)) × (1 ≤ length (cond b (ascii "-") l))
 longer true l p q = (omega (arith, p refl), omega arith)
 longer false l p q = (omega arith, omega (arith, q refl))
 
@@ -125,7 +143,7 @@ mark-most : (b : Bool) (c : ℕ) → length (mark b c) ≤ 1
 mark-most true c = omega arith
 mark-most false c = omega arith
 
-most : (b : Bool) (l : List ℕ) → length l ≤ 4 → length (cond b (45 ∷ []) l) ≤ 4
+most : (b : Bool) (l : List ℕ) → length l ≤ 4 → length (cond b (ascii "-") l) ≤ 4
 most true l h = omega arith
 most false l h = h
 
@@ -133,4 +151,4 @@ pub flags-most : (f : Flags) → length (flagsText f) ≤ 4
 unfolding flagsText
 flags-most f =
     most (eqb (length (marks f)) 0) (marks f)
-    (rw (marks-length f) (omega (arith, mark-most (f .invalid) 73, mark-most (f .overflow) 79, mark-most (f .underflow) 85, mark-most (f .inexact) 88)))
+    (rw (marks-length f) (omega (arith, mark-most (f .invalid) (code "I"), mark-most (f .overflow) (code "O"), mark-most (f .underflow) (code "U"), mark-most (f .inexact) (code "X"))))

@@ -6,5 +6,6 @@ pub mod Buffers
 pub mod Pasted
 pub mod Stored
 pub mod Written
+pub mod Parts
 pub mod DecimalDigits
 pub mod Theorems

@@ -5,7 +5,7 @@ use mathlib.Core.List.{List, _++_, append-assoc}
 use native.Mathlib.Omega.{arith}
 use lib.ListN.{length, take, drop, length-append, length-take, length-drop}
 use lib.Seq.{take-at, drop-at, drop-drop}
-use Rattle.transcript_spec.specs.Inner.{pasted, Put}
+use Rattle.transcript_spec.specs.Buffers.{pasted, Put}
 
 pub pasted-length : (s : List ℕ) (at : ℕ) (t : List ℕ) → at + length t ≤ length s → length (pasted s at t) ≡ length s
 unfolding pasted
@@ -35,6 +35,6 @@ then {s} {r} {v} {at} {p} {q} {t} {u} a b =
     let more = b .room in
     record {
       room = rw l (omega arith);
-      place = b .place ∙ rw (a .place, l) (omega arith);
-      bytes = b .bytes ∙ rw (a .bytes, a .place) (pasted-twice s at t u (a .room));
+      ends = b .ends ∙ rw (a .ends, l) (omega arith);
+      bytes = b .bytes ∙ rw (a .bytes, a .ends) (pasted-twice s at t u (a .room));
     }

@@ -2,9 +2,22 @@
 use Prim.Native.Nat.{ℕ, suc, min, _≤_, _<_}
 use mathlib.Core.Path.{refl, sym}
 use native.Mathlib.Omega.{arith}
+use Rattle.worksheet_spec.specs.Lines.{mostLines}
 use Rattle.question_spec.specs.Questions.{letters, questionText}
-use Rattle.transcript_spec.specs.Texts.{decimalUpTo, stepLetters, thirdText, flagsText, askText, stepText, pairText, badText, totalText, endText, answeredText}
-use Rattle.transcript_spec.specs.Theorems.{Decimals, FlagTexts, WrittenWhole, AtMost, Example, NoneEmpty, All}
+use Rattle.transcript_spec.specs.Texts.{
+  decimalUpTo,
+  stepLetters,
+  thirdText,
+  flagsText,
+  askText,
+  stepText,
+  pairText,
+  badText,
+  totalText,
+  endText,
+  answeredText,
+}
+use Rattle.transcript_spec.specs.Theorems.{Decimals, FlagTexts, WrittenWhole, AtMost, NoneEmpty, Example, All}
 use Rattle.transcript_spec.proofs.Buffers.{too-short, text-first}
 use Rattle.transcript_spec.proofs.DecimalLaws.{decimal-most, decimal-least}
 use Rattle.transcript_spec.proofs.DecimalDigits.{makes-number, are-digits, no-zero-first}
@@ -22,12 +35,13 @@ flag-texts = (refl, refl, refl, refl)
 pub written-whole : WrittenWhole
 written-whole out text some = (text-first out text, λ h. (sym (too-short out text h .0), sym (too-short out text h .1)))
 
-at-most-13 : (lines : ℕ) → min lines 13 ≤ 13
-at-most-13 lines = omega arith
+shown-most : (lines : ℕ) → min lines mostLines ≤ mostLines
+shown-most lines = omega arith
 
 pub at-most : AtMost
 at-most number operation x y words lines pair =
-    omega (arith, answered-length number operation x y words lines pair, decimal-most number, steps-most (min lines 13) words (at-most-13 lines), flags-most (pair .flags))
+    let steps = steps-most (min lines mostLines) words (shown-most lines) in
+    omega (arith, answered-length number operation x y words lines pair, decimal-most number, steps, flags-most (pair .flags))
 
 pub example : Example
 unfolding askText questionText letters decimalUpTo stepText stepLetters thirdText pairText flagsText totalText endText badText
@@ -35,10 +49,10 @@ example = (refl, refl, refl, refl, refl, refl, refl, refl, refl, refl, refl, ref
 
 pub none-empty : NoneEmpty
 unfolding askText stepText pairText badText totalText endText answeredText
-none-empty n o x y z r words lines p = (some _, some _, some _, some _, some _, some _, some _, some _)
+none-empty n o x y words lines p = (some _, some _, some _, some _, some _, some _, some _, some _)
   where
     some : (n : ℕ) → 0 < suc n
     some n = omega arith
 
 pub all : All
-all = (decimals, flag-texts, written-whole, at-most, example, none-empty)
+all = (decimals, flag-texts, written-whole, at-most, none-empty, example)

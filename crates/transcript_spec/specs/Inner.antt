@@ -1,15 +1,16 @@
--- What the writers of `fields` and `text_lines` promise. No contract of `notices` or `transcript` cites it.
-use Prim.Native.Nat.{ℕ, _+_, _≤_}
-use mathlib.Core.Path.{_≡_}
-use mathlib.Core.List.{List, _++_}
-use lib.ListN.{length, take, drop}
+-- What the writers of fields and lines promise each other, beside the texts themselves.
+use Prim.Native.Nat.{ℕ, _+_, _/_, _%_}
+use mathlib.Core.List.{List, [], _∷_}
+use lib.ListN.{length}
+use Rattle.augmented_spec.specs.declared.Flags.{Flags}
+use Rattle.question_spec.specs.Questions.{digit}
+use Rattle.transcript_spec.specs.Texts.{decimal, flagsText, stepsText}
 
--- the buffer with a text in the place of what stood there
-unfoldable pub pasted : List ℕ → ℕ → List ℕ → List ℕ
-pasted out at text = take at out ++ (text ++ drop (length text) (drop at out))
+-- the last four digits of a pattern
+abbrev pub halfText : ℕ → List ℕ
+halfText x = digit (x / 4096 % 16) ∷ digit (x / 256 % 16) ∷ digit (x / 16 % 16) ∷ digit (x % 16) ∷ []
 
--- a text written at a place of the buffer: it has room there, the answer is the place after it, and the rest of the buffer is as before
-pub record Put (out : List ℕ) (at : ℕ) (text : List ℕ) (next : ℕ) (after : List ℕ) : Type 0 where
-  pub room : at + length text ≤ length out
-  pub place : next ≡ at + length text
-  pub bytes : after ≡ pasted out at text
+-- how long an answered question is, of these lines of its sheet: 27 bytes and the number of its `ask`, the steps, 24 bytes and the flags of
+-- its `pair`
+abbrev pub answeredLength : ℕ → List ℕ → ℕ → Flags → ℕ
+answeredLength number words lines flags = 51 + length (decimal number) + length (stepsText lines 1 words) + length (flagsText flags)

@@ -1,3 +1,4 @@
 pub mod Texts
+pub mod Buffers
 pub mod Inner
 pub mod Theorems

@@ -1,94 +1,123 @@
--- What is printed (document 01, "What `sheet` prints"), as lists of bytes: fields, lines, and an answered question.
--- "tabs between fields in every printed line": a tab is byte 9; each line ends in a newline, byte 10.
+-- What is printed, as lists of bytes: fields, lines, and an answered question (R9).
 use Prim.Native.Nat.{ℕ, zero, suc, _+_, _/_, _%_, min}
-use mathlib.Core.Bool.{Bool, cond, _||_}
+use Prim.Native.Char.{code}
+use mathlib.Core.Bool.{Bool, true, false, cond}
 use mathlib.Core.List.{List, [], _∷_, _++_}
-use lib.Dec.{eqb, ltb, leb}
+use lib.Dec.{eqb, ltb}
 use lib.ListN.{length, getD, drop}
 use Rattle.augmented_spec.specs.declared.Flags.{Flags}
 use Rattle.augmented_spec.specs.declared.Pair.{Pair}
+use Rattle.worksheet_spec.specs.Lines.{Step, add, subtract, multiply, fused, stepNumber, lineSize, mostLines}
+use Rattle.question_spec.specs.Ascii.{ascii, tab, newline}
 use Rattle.question_spec.specs.Questions.{patternText, questionText}
 
 -- ---- fields
--- "other figures are decimal": without zeros in front; up to `most` digits
+-- a decimal, without zeros in front (R0.7): up to `most` digits
 unfoldable pub decimalUpTo : ℕ → ℕ → List ℕ
 decimalUpTo zero n = []
-decimalUpTo (suc most) n = cond (ltb n 10) ((48 + n) ∷ []) (decimalUpTo most (n / 10) ++ ((48 + n % 10) ∷ []))
+decimalUpTo (suc most) n = cond (ltb n 10) ((code "0" + n) ∷ []) (decimalUpTo most (n / 10) ++ ((code "0" + n % 10) ∷ []))
 
 -- ten digits are enough for 32 bits
 abbrev pub decimal : ℕ → List ℕ
 decimal n = decimalUpTo 10 n
 
--- "operation (add, sub, mul, fma)", by its number on a sheet, 1 to 4; any other, which stands on no sheet, is written as `fma`
+-- the step of a number; one that stands on no sheet is taken for a fused step
+abbrev pub stepOf : ℕ → Step
+stepOf n =
+    cond (eqb n (stepNumber add)) add
+    (cond (eqb n (stepNumber subtract)) subtract
+    (cond (eqb n (stepNumber multiply)) multiply
+    fused))
+
+-- a step's letters (R9.5), and by its number
+abbrev pub lettersOf : Step → List ℕ
+lettersOf add = ascii "add"
+lettersOf subtract = ascii "sub"
+lettersOf multiply = ascii "mul"
+lettersOf fused = ascii "fma"
+
 unfoldable pub stepLetters : ℕ → List ℕ
-stepLetters operation =
-    cond (eqb operation 1) (97 ∷ 100 ∷ 100 ∷ [])
-    (cond (eqb operation 2) (115 ∷ 117 ∷ 98 ∷ [])
-    (cond (eqb operation 3) (109 ∷ 117 ∷ 108 ∷ [])
-    (102 ∷ 109 ∷ 97 ∷ [])))
+stepLetters operation = lettersOf (stepOf operation)
 
--- "three operands with `-` for an unused third": by the operation, which is fused where all three are used
+-- whether a step leaves the third operand unused: the operation tells, not the word (R9.5)
+abbrev pub takesTwo : Step → Bool
+takesTwo add = true
+takesTwo subtract = true
+takesTwo multiply = true
+takesTwo fused = false
+
 unfoldable pub thirdText : ℕ → ℕ → List ℕ
-thirdText operation z = cond (eqb operation 1 || (eqb operation 2 || eqb operation 3)) (45 ∷ []) (patternText z)
+thirdText operation z = cond (takesTwo (stepOf operation)) (ascii "-") (patternText z)
 
--- a flag's letter where it is raised
+-- the letters of the flags that are raised, I O U X in this order (R4.1),
 abbrev pub mark : Bool → ℕ → List ℕ
 mark raised letter = cond raised (letter ∷ []) []
 
--- "written in the order I O U X,
 abbrev pub marks : Flags → List ℕ
-marks f = mark (f .invalid) 73 ++ (mark (f .overflow) 79 ++ (mark (f .underflow) 85 ++ mark (f .inexact) 88))
+marks f =
+    mark (f .invalid) (code "I") ++ (mark (f .overflow) (code "O") ++ (mark (f .underflow) (code "U") ++ mark (f .inexact) (code "X")))
 
--- or `-` for none"
+-- or a dash where none is
 unfoldable pub flagsText : Flags → List ℕ
-flagsText f = cond (eqb (length (marks f)) 0) (45 ∷ []) (marks f)
+flagsText f = cond (eqb (length (marks f)) 0) (ascii "-") (marks f)
 
--- ---- lines
--- "`ask` has line number and question"
+-- ---- lines: fields with tabs between them, and a newline at the end (R9.2)
+abbrev pub lineOf : List (List ℕ) → List ℕ
+lineOf [] = newline ∷ []
+lineOf (field ∷ []) = field ++ (newline ∷ [])
+lineOf (field ∷ next ∷ fields) = field ++ (tab ∷ lineOf (next ∷ fields))
+
+-- R9.4: the line's number and its question
 unfoldable pub askText : ℕ → ℕ → ℕ → ℕ → List ℕ
-askText number operation x y = 97 ∷ 115 ∷ 107 ∷ 9 ∷ decimal number ++ (9 ∷ questionText operation x y ++ (10 ∷ []))
+askText number operation x y = lineOf (ascii "ask" ∷ decimal number ∷ questionText operation x y ∷ [])
 
--- "`step` number, operation .., three operands .., result"
-unfoldable pub stepText : ℕ → ℕ → ℕ → ℕ → ℕ → ℕ → List ℕ
-stepText number operation x y z result =
-    115 ∷ 116 ∷ 101 ∷ 112 ∷ 9 ∷ decimal number
-    ++ (9 ∷ stepLetters operation ++ (9 ∷ patternText x ++ (9 ∷ patternText y ++ (9 ∷ thirdText operation z ++ (9 ∷ patternText result ++ (10 ∷ []))))))
+-- R9.5: the step's number, and its words: operation, three operands, result
+unfoldable pub stepText : ℕ → List ℕ → List ℕ
+stepText number words =
+    lineOf (
+    ascii "step"
+    ∷ decimal number
+    ∷ stepLetters (getD words 0 0)
+    ∷ patternText (getD words 1 0)
+    ∷ patternText (getD words 2 0)
+    ∷ thirdText (getD words 0 0) (getD words 3 0)
+    ∷ patternText (getD words 4 0)
+    ∷ []
+    )
 
--- "`pair` first, second, flags"
+-- R9.6: first, second, flags
 unfoldable pub pairText : Pair → List ℕ
-pairText p = 112 ∷ 97 ∷ 105 ∷ 114 ∷ 9 ∷ patternText (p .first) ++ (9 ∷ patternText (p .second) ++ (9 ∷ flagsText (p .flags) ++ (10 ∷ [])))
+pairText p = lineOf (ascii "pair" ∷ patternText (p .first) ∷ patternText (p .second) ∷ flagsText (p .flags) ∷ [])
 
--- "A bad line gives `bad`, line number, refusal"
+-- R9.7: the line's number and its refusal
 unfoldable pub badText : ℕ → ℕ → List ℕ
-badText number refusal = 98 ∷ 97 ∷ 100 ∷ 9 ∷ decimal number ++ (9 ∷ decimal refusal ++ (10 ∷ []))
+badText number refusal = lineOf (ascii "bad" ∷ decimal number ∷ decimal refusal ∷ [])
 
--- "`total` adds every finite printed pair": what it reads
+-- R9.8: what the total reads
 unfoldable pub totalText : ℕ → ℕ → List ℕ
-totalText first second = 116 ∷ 111 ∷ 116 ∷ 97 ∷ 108 ∷ 9 ∷ patternText first ++ (9 ∷ patternText second ++ (10 ∷ []))
+totalText first second = lineOf (ascii "total" ∷ patternText first ∷ patternText second ∷ [])
 
--- "`end` gives good and bad lines"
+-- R9.9: how many lines were good, and how many bad
 unfoldable pub endText : ℕ → ℕ → List ℕ
-endText good bad = 101 ∷ 110 ∷ 100 ∷ 9 ∷ decimal good ++ (9 ∷ decimal bad ++ (10 ∷ []))
+endText good bad = lineOf (ascii "end" ∷ decimal good ∷ decimal bad ∷ [])
 
--- "prints `stop`, tab, 11"
+-- R8.11
 abbrev pub stopText : List ℕ
-stopText = 115 ∷ 116 ∷ 111 ∷ 112 ∷ 9 ∷ 49 ∷ 49 ∷ 10 ∷ []
+stopText = lineOf (ascii "stop" ∷ ascii "11" ∷ [])
 
--- ---- an answered question: its `ask`, a `step` for each line of the sheet, its `pair`
--- the steps from this number on, from their words, "five words each: operation .., three operands .., result"
+-- ---- an answered question (R9.3): its `ask`, a `step` for each line of the sheet, its `pair`
+-- the steps from this number on, from the words of their lines (R5.22)
 unfoldable pub stepsText : ℕ → ℕ → List ℕ → List ℕ
 stepsText zero number words = []
-stepsText (suc lines) number words =
-    stepText number (getD words 0 0) (getD words 1 0) (getD words 2 0) (getD words 3 0) (getD words 4 0) ++ stepsText lines (suc number) (drop 5 words)
+stepsText (suc lines) number words = stepText number words ++ stepsText lines (suc number) (drop lineSize words)
 
--- "A sheet has at most 13 lines": no more are printed
+abbrev pub shownText : ℕ → ℕ → ℕ → ℕ → List ℕ → ℕ → Pair → List ℕ
+shownText number operation x y words lines pair = askText number operation x y ++ (stepsText lines 1 words ++ pairText pair)
+
+-- no more lines are printed than a sheet has (R5.21)
 unfoldable pub answeredText : ℕ → ℕ → ℕ → ℕ → List ℕ → ℕ → Pair → List ℕ
-answeredText number operation x y words lines pair = askText number operation x y ++ (stepsText (min lines 13) 1 words ++ pairText pair)
+answeredText number operation x y words lines pair = shownText number operation x y words (min lines mostLines) pair
 
--- ---- a text written at the start of a lent buffer: how many bytes, and the buffer after it. Document 01 has no such call: that a buffer too short
--- for the text stays as it was, and that the answer is then 0, is ours (docs/DECISIONS.md). No text is empty (`NoneEmpty` of Theorems).
-unfoldable pub written : List ℕ → List ℕ → ℕ
-written out text = cond (leb (length text) (length out)) (length text) 0
-
-unfoldable pub afterWriting : List ℕ → List ℕ → List ℕ
-afterWriting out text = cond (leb (length text) (length out)) (text ++ drop (length text) out) out
+-- bytes that are room for the text of any question (`AtMost` of Theorems)
+abbrev pub lineRoom : ℕ
+lineRoom = 680

@@ -18,22 +18,35 @@ shared-slice-read-if3 : tie.Need-shared-slice-read-if3
 shared-slice-read-if3 c = search needs
 
 returns-3 : tie.Need-returns-3
-returns-3 c = first-tab-refused (c .before .before .before .before .before .before .args .line .now) (c .before .before .before .operation .result) (c .before .before .before .before .if1 .left) (c .before .before .before .operation .ensures) (c .before .before .if2 .left) (c .if3 .taken)
+returns-3 c =
+    let known = c .before .before in
+    let o = known .before .operation in
+    let full = known .before .before in
+    first-tab-refused (full .before .before .args .line .now) (o .result) (full .if1 .left) (o .ensures) (known .if2 .left) (c .if3 .taken)
 
 shared-slice-read-if4 : tie.Need-shared-slice-read-if4
 shared-slice-read-if4 c = search needs
 
 returns-4 : tie.Need-returns-4
-returns-4 c = second-tab-refused (c .before .before .before .before .before .before .before .before .args .line .now) (c .before .before .before .before .before .operation .result) (c .before .before .before .before .before .before .if1 .left) (c .before .before .before .before .before .operation .ensures) (c .before .before .before .before .if2 .left) (c .before .before .if3 .left) (c .if4 .taken)
+returns-4 c =
+    let tab = c .before .before in
+    let known = tab .before .before in
+    let o = known .before .operation in
+    let full = known .before .before in
+    second-tab-refused (full .before .before .args .line .now) (o .result) (full .if1 .left) (o .ensures) (known .if2 .left) (tab .if3 .left) (c .if4 .taken)
 
 patterns-requires : tie.Need-patterns-requires
 patterns-requires c κs = search needs
 
 returns-5 : tie.Need-returns-5
 returns-5 c =
-    let t = c .before in
-    let o = t .before .before .before .before .before .operation in
-    c .patterns .ensures ∙ tabs-passed (t .before .before .before .before .before .before .before .before .args .line .now) (o .result) (t .before .before .before .before .before .before .if1 .left) (o .ensures) (t .before .before .before .before .if2 .left) (t .before .before .if3 .left) (t .if4 .left)
+    let tabs = c .before in
+    let tab = tabs .before .before in
+    let known = tab .before .before in
+    let o = known .before .operation in
+    let full = known .before .before in
+    let line = full .before .before .args .line .now in
+    c .patterns .ensures ∙ tabs-passed line (o .result) (full .if1 .left) (o .ensures) (known .if2 .left) (tab .if3 .left) (tabs .if4 .left)
 
 pub read-spec : {M : Type 1} → statement M
 read-spec =

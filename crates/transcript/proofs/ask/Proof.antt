@@ -16,7 +16,8 @@ add-if1 c = search needs
 returns : tie.Need-returns
 returns c =
     let s = c .before .before .before in
-    too-short (s .args .out .now) (askText (s .args .number) (s .args .operation) (s .args .x) (s .args .y)) (omega (arith, ask-length (s .args .number) (s .args .operation) (s .args .x) (s .args .y)))
+    too-short (s .args .out .now) (askText (s .args .number) (s .args .operation) (s .args .x) (s .args .y))
+    (omega (arith, ask-length (s .args .number) (s .args .operation) (s .args .x) (s .args .y)))
 
 put-ask-requires : tie.Need-put-ask-requires
 put-ask-requires c κs = omega arith

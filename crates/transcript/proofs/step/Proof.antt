@@ -1,5 +1,5 @@
 use native.Mathlib.Omega.{arith}
-use lib.ListN.{getD}
+use mathlib.Core.Path.{refl}
 use Rattle.transcript_spec.specs.Texts.{stepText}
 use Rattle.transcript_spec.proofs.Buffers.{too-short}
 use Rattle.transcript_spec.proofs.Written.{whole}
@@ -15,11 +15,11 @@ step-requires c κs = search needs
 
 returns : tie.Need-returns
 returns c =
-    let s = c .before .before .before in
-    too-short (s .args .out .now) (stepText (s .args .number) (getD (s .args .t3) 0 0) (getD (s .args .t3) 1 0) (getD (s .args .t3) 2 0) (getD (s .args .t3) 3 0) (getD (s .args .t3) 4 0)) (omega (arith, c .before .step .ensures .0 (getD (s .args .t3) 1 0) (getD (s .args .t3) 2 0) (getD (s .args .t3) 3 0) (getD (s .args .t3) 4 0)))
+    let a = c .before .before .before .args in
+    too-short (a .out .now) (stepText (a .number) (a .t3)) (omega (arith, c .before .step .ensures .0 (a .t3) refl))
 
 put-step-requires : tie.Need-put-step-requires
-put-step-requires c κs = let s = c .before .before .before .before in omega (arith, c .before .before .step .ensures .0 (getD (s .args .t3) 1 0) (getD (s .args .t3) 2 0) (getD (s .args .t3) 3 0) (getD (s .args .t3) 4 0))
+put-step-requires c κs = omega (arith, c .before .before .step .ensures .0 (c .before .before .before .before .args .t3) refl)
 
 same-length : tie.Need-same-length
 same-length c = search needs

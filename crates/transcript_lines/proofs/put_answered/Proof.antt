@@ -9,16 +9,24 @@ put-ask-requires : tie.Need-put-ask-requires
 put-ask-requires c κs = omega arith
 
 put-steps-requires : tie.Need-put-steps-requires
-put-steps-requires c κs = (omega arith, omega (arith, ask-length (c .before .before .before .before .before .before .args .number) (c .before .before .before .before .before .before .args .operation) (c .before .before .before .before .before .before .args .x) (c .before .before .before .before .before .before .args .y)))
+put-steps-requires c κs =
+    let a = c .before .before .before .before .before .before .args in
+    (omega arith, omega (arith, ask-length (a .number) (a .operation) (a .x) (a .y)))
 
 put-pair-requires : tie.Need-put-pair-requires
-put-pair-requires c κs = omega (arith, ask-length (c .before .before .before .before .before .before .before .before .before .before .args .number) (c .before .before .before .before .before .before .before .before .before .before .args .operation) (c .before .before .before .before .before .before .before .before .before .before .args .x) (c .before .before .before .before .before .before .before .before .before .before .args .y))
+put-pair-requires c κs =
+    let a = c .before .before .before .before .before .before .before .before .before .before .args in
+    omega (arith, ask-length (a .number) (a .operation) (a .x) (a .y))
 
 same-length : tie.Need-same-length
 same-length c = search needs
 
 returns : tie.Need-returns
-returns c = then (c .before .before .before .before .before .before .before .before .before .before .put-ask .ensures) (then (c .before .before .before .before .before .before .put-steps .ensures) (c .before .before .put-pair .ensures))
+returns c =
+    let put-ask = c .before .before .before .before .before .before .before .before .before .before .put-ask in
+    let put-steps = c .before .before .before .before .before .before .put-steps in
+    let put-pair = c .before .before .put-pair in
+    then (put-ask .ensures) (then (put-steps .ensures) (put-pair .ensures))
 
 pub put-answered-spec : {M : Type 1} → statement M
 put-answered-spec =

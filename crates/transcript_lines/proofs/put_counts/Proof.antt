@@ -1,3 +1,4 @@
+use Rattle.question_spec.specs.Ascii.{newline}
 use Rattle.transcript_spec.proofs.Stored.{stored}
 use lib.ListN.{length-set}
 use mathlib.Core.Path.{refl, _∙_}
@@ -27,10 +28,21 @@ add-result : tie.Need-add-result
 add-result c = search needs
 
 same-length : tie.Need-same-length
-same-length c = length-set (c .before .before .put-decimal2 .last .0) (c .before .before .put-decimal2 .result) 10 ∙ (c .before .before .put-decimal2 .kept .0 ∙ (c .before .before .before .before .before .before .put-byte .kept .0 ∙ (c .before .before .before .before .before .before .before .before .before .before .put-decimal .kept .0 ∙ (c .before .before .before .before .before .before .before .before .before .before .before .before .before .before .put-four .kept .0))))
+same-length c =
+    let put-four = c .before .before .before .before .before .before .before .before .before .before .before .before .before .before .put-four in
+    let put-decimal = c .before .before .before .before .before .before .before .before .before .before .put-decimal in
+    let put-byte = c .before .before .before .before .before .before .put-byte in
+    let put-decimal2 = c .before .before .put-decimal2 in
+    length-set (put-decimal2 .last .0) (put-decimal2 .result) newline ∙ (put-decimal2 .kept .0 ∙ (put-byte .kept .0 ∙ (put-decimal .kept .0 ∙ (put-four .kept .0))))
 
 returns : tie.Need-returns
-returns c = then (c .before .before .before .before .before .before .before .before .before .before .before .before .before .before .put-four .ensures) (then (c .before .before .before .before .before .before .before .before .before .before .put-decimal .ensures) (then (c .before .before .before .before .before .before .put-byte .ensures) (then (c .before .before .put-decimal2 .ensures) (stored (c .before .before .put-decimal2 .last .0) (c .before .before .put-decimal2 .result) 10 (c .before .before .put-decimal2 .result + 1) (omega arith) refl))))
+returns c =
+    let put-four = c .before .before .before .before .before .before .before .before .before .before .before .before .before .before .put-four in
+    let put-decimal = c .before .before .before .before .before .before .before .before .before .before .put-decimal in
+    let put-byte = c .before .before .before .before .before .before .put-byte in
+    let put-decimal2 = c .before .before .put-decimal2 in
+    then (put-four .ensures) (then (put-decimal .ensures) (then (put-byte .ensures)
+    (then (put-decimal2 .ensures) (stored (put-decimal2 .last .0) (put-decimal2 .result) newline (put-decimal2 .result + 1) (omega arith) refl))))
 
 pub put-counts-spec : {M : Type 1} → statement M
 put-counts-spec =

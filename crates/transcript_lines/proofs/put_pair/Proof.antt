@@ -1,4 +1,5 @@
 use Rattle.transcript_spec.specs.Texts.{pairText}
+use Rattle.question_spec.specs.Ascii.{newline}
 use Rattle.transcript_spec.proofs.Stored.{stored}
 use lib.ListN.{length-set}
 use mathlib.Core.Path.{refl, _∙_}
@@ -28,11 +29,22 @@ add-result : tie.Need-add-result
 add-result c = search needs
 
 same-length : tie.Need-same-length
-same-length c = length-set (c .before .before .put-flags .last .0) (c .before .before .put-flags .result) 10 ∙ (c .before .before .put-flags .kept .0 ∙ (c .before .before .before .before .before .before .before .put-byte .kept .0 ∙ (c .before .before .before .before .before .before .before .before .before .before .before .put-patterns .kept .0 ∙ (c .before .before .before .before .before .before .before .before .before .before .before .before .before .before .before .put-four .kept .0))))
+same-length c =
+    let put-four = c .before .before .before .before .before .before .before .before .before .before .before .before .before .before .before .put-four in
+    let put-patterns = c .before .before .before .before .before .before .before .before .before .before .before .put-patterns in
+    let put-byte = c .before .before .before .before .before .before .before .put-byte in
+    let put-flags = c .before .before .put-flags in
+    length-set (put-flags .last .0) (put-flags .result) newline ∙ (put-flags .kept .0 ∙ (put-byte .kept .0 ∙ (put-patterns .kept .0 ∙ (put-four .kept .0))))
 
 returns : tie.Need-returns
 unfolding pairText
-returns c = then (c .before .before .before .before .before .before .before .before .before .before .before .before .before .before .before .put-four .ensures) (then (c .before .before .before .before .before .before .before .before .before .before .before .put-patterns .ensures) (then (c .before .before .before .before .before .before .before .put-byte .ensures) (then (c .before .before .put-flags .ensures) (stored (c .before .before .put-flags .last .0) (c .before .before .put-flags .result) 10 (c .before .before .put-flags .result + 1) (omega arith) refl))))
+returns c =
+    let put-four = c .before .before .before .before .before .before .before .before .before .before .before .before .before .before .before .put-four in
+    let put-patterns = c .before .before .before .before .before .before .before .before .before .before .before .put-patterns in
+    let put-byte = c .before .before .before .before .before .before .before .put-byte in
+    let put-flags = c .before .before .put-flags in
+    then (put-four .ensures)
+    (then (put-patterns .ensures) (then (put-byte .ensures) (then (put-flags .ensures) (stored (put-flags .last .0) (put-flags .result) newline (put-flags .result + 1) (omega arith) refl))))
 
 pub put-pair-spec : {M : Type 1} → statement M
 put-pair-spec =

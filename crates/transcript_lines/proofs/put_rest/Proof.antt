@@ -1,3 +1,4 @@
+use Rattle.question_spec.specs.Ascii.{newline}
 use Rattle.transcript_spec.proofs.Stored.{stored}
 use lib.ListN.{length-set}
 use mathlib.Core.Path.{refl, _∙_}
@@ -21,10 +22,16 @@ add-result : tie.Need-add-result
 add-result c = search needs
 
 same-length : tie.Need-same-length
-same-length c = length-set (c .before .before .put-pattern .last .0) (c .before .before .put-pattern .result) 10 ∙ (c .before .before .put-pattern .kept .0 ∙ (c .before .before .before .before .before .before .put-third .kept .0))
+same-length c =
+    let put-third = c .before .before .before .before .before .before .put-third in
+    let put-pattern = c .before .before .put-pattern in
+    length-set (put-pattern .last .0) (put-pattern .result) newline ∙ (put-pattern .kept .0 ∙ (put-third .kept .0))
 
 returns : tie.Need-returns
-returns c = then (c .before .before .before .before .before .before .put-third .ensures) (then (c .before .before .put-pattern .ensures) (stored (c .before .before .put-pattern .last .0) (c .before .before .put-pattern .result) 10 (c .before .before .put-pattern .result + 1) (omega arith) refl))
+returns c =
+    let put-third = c .before .before .before .before .before .before .put-third in
+    let put-pattern = c .before .before .put-pattern in
+    then (put-third .ensures) (then (put-pattern .ensures) (stored (put-pattern .last .0) (put-pattern .result) newline (put-pattern .result + 1) (omega arith) refl))
 
 pub put-rest-spec : {M : Type 1} → statement M
 put-rest-spec =

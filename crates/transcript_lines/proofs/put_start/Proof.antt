@@ -16,7 +16,11 @@ same-length : tie.Need-same-length
 same-length c = search needs
 
 returns : tie.Need-returns
-returns c = then (c .before .before .before .before .before .before .before .before .before .before .put-four .ensures) (then (c .before .before .before .before .before .before .put-byte .ensures) (c .before .before .put-decimal .ensures))
+returns c =
+    let put-four = c .before .before .before .before .before .before .before .before .before .before .put-four in
+    let put-byte = c .before .before .before .before .before .before .put-byte in
+    let put-decimal = c .before .before .put-decimal in
+    then (put-four .ensures) (then (put-byte .ensures) (put-decimal .ensures))
 
 pub put-start-spec : {M : Type 1} → statement M
 put-start-spec =

@@ -12,10 +12,10 @@ array-read-operation : tie.Need-array-read-operation
 array-read-operation c = search needs
 
 put-start-requires : tie.Need-put-start-requires
-put-start-requires c κs = let s = c .before .before in omega (arith, step-length (s .args .number) (getD (s .args .t4) 0 0) (getD (s .args .t4) 1 0) (getD (s .args .t4) 2 0) (getD (s .args .t4) 3 0) (getD (s .args .t4) 4 0), step-letters-length (getD (s .args .t4) 0 0))
+put-start-requires c κs = let s = c .before .before in omega (arith, step-length (s .args .number) (s .args .t4), step-letters-length (getD (s .args .t4) 0 0))
 
 put-step-letters-requires : tie.Need-put-step-letters-requires
-put-step-letters-requires c κs = let s = c .before .before .before .before .before .before in omega (arith, step-length (s .args .number) (getD (s .args .t4) 0 0) (getD (s .args .t4) 1 0) (getD (s .args .t4) 2 0) (getD (s .args .t4) 3 0) (getD (s .args .t4) 4 0), step-letters-length (getD (s .args .t4) 0 0))
+put-step-letters-requires c κs = let s = c .before .before .before .before .before .before in omega (arith, step-length (s .args .number) (s .args .t4), step-letters-length (getD (s .args .t4) 0 0))
 
 array-read-put-patterns : tie.Need-array-read-put-patterns
 array-read-put-patterns c = search needs
@@ -24,7 +24,9 @@ array-read-put-patterns-2 : tie.Need-array-read-put-patterns-2
 array-read-put-patterns-2 c = search needs
 
 put-patterns-requires : tie.Need-put-patterns-requires
-put-patterns-requires c κs = let s = c .before .before .before .before .before .before .before .before .before .before in omega (arith, step-length (s .args .number) (getD (s .args .t4) 0 0) (getD (s .args .t4) 1 0) (getD (s .args .t4) 2 0) (getD (s .args .t4) 3 0) (getD (s .args .t4) 4 0), step-letters-length (getD (s .args .t4) 0 0))
+put-patterns-requires c κs =
+    let s = c .before .before .before .before .before .before .before .before .before .before in
+    omega (arith, step-length (s .args .number) (s .args .t4), step-letters-length (getD (s .args .t4) 0 0))
 
 array-read-put-rest : tie.Need-array-read-put-rest
 array-read-put-rest c = search needs
@@ -33,14 +35,21 @@ array-read-put-rest-2 : tie.Need-array-read-put-rest-2
 array-read-put-rest-2 c = search needs
 
 put-rest-requires : tie.Need-put-rest-requires
-put-rest-requires c κs = let s = c .before .before .before .before .before .before .before .before .before .before .before .before .before .before in omega (arith, step-length (s .args .number) (getD (s .args .t4) 0 0) (getD (s .args .t4) 1 0) (getD (s .args .t4) 2 0) (getD (s .args .t4) 3 0) (getD (s .args .t4) 4 0), step-letters-length (getD (s .args .t4) 0 0))
+put-rest-requires c κs =
+    let s = c .before .before .before .before .before .before .before .before .before .before .before .before .before .before in
+    omega (arith, step-length (s .args .number) (s .args .t4), step-letters-length (getD (s .args .t4) 0 0))
 
 same-length : tie.Need-same-length
 same-length c = search needs
 
 returns : tie.Need-returns
 unfolding stepText
-returns c = then (c .before .before .before .before .before .before .before .before .before .before .before .before .before .before .put-start .ensures) (then (c .before .before .before .before .before .before .before .before .before .before .put-step-letters .ensures) (then (c .before .before .before .before .before .before .put-patterns .ensures) (c .before .before .put-rest .ensures)))
+returns c =
+    let put-start = c .before .before .before .before .before .before .before .before .before .before .before .before .before .before .put-start in
+    let put-step-letters = c .before .before .before .before .before .before .before .before .before .before .put-step-letters in
+    let put-patterns = c .before .before .before .before .before .before .put-patterns in
+    let put-rest = c .before .before .put-rest in
+    then (put-start .ensures) (then (put-step-letters .ensures) (then (put-patterns .ensures) (put-rest .ensures)))
 
 pub put-step-spec : {M : Type 1} → statement M
 put-step-spec =

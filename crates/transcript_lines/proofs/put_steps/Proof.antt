@@ -2,7 +2,7 @@ use Prim.Native.Nat.{_+_, _-_, _≤_}
 use mathlib.Core.Path.{_≡_, refl, sym, _∙_}
 use native.Mathlib.Omega.{arith}
 use lib.ListN.{length}
-use Rattle.transcript_spec.specs.Inner.{Put}
+use Rattle.transcript_spec.specs.Buffers.{Put}
 use Rattle.transcript_spec.specs.Texts.{stepsText}
 use Rattle.transcript_spec.proofs.Pasted.{then}
 use Rattle.transcript_spec.proofs.Stored.{nothing-put}
@@ -27,7 +27,7 @@ put-line-requires c κs =
     let l = c .before .before .loop in
     let words = c .before .before .before .before .args .words .now in
     let lines = c .before .before .before .before .args .lines in
-    (omega arith, omega (arith, l .inv .1 .place, more-length (l .k) words, fewer (l .k + 1) lines 1 words (omega arith)))
+    (omega arith, omega (arith, l .inv .1 .ends, more-length (l .k) words, fewer (l .k + 1) lines 1 words (omega arith)))
 
 add-k : tie.Need-add-k Inv-loop μ-loop
 add-k c = omega arith

@@ -1,4 +1,5 @@
 use Rattle.transcript_spec.specs.Texts.{totalText}
+use Rattle.question_spec.specs.Ascii.{newline}
 use Rattle.transcript_spec.proofs.Stored.{stored}
 use lib.ListN.{length-set}
 use mathlib.Core.Path.{refl, _∙_}
@@ -25,11 +26,20 @@ add-result : tie.Need-add-result
 add-result c = search needs
 
 same-length : tie.Need-same-length
-same-length c = length-set (c .before .before .put-patterns .last .0) (c .before .before .put-patterns .result) 10 ∙ (c .before .before .put-patterns .kept .0 ∙ (c .before .before .before .before .before .before .put-byte .kept .0 ∙ (c .before .before .before .before .before .before .before .before .before .before .put-four .kept .0)))
+same-length c =
+    let put-four = c .before .before .before .before .before .before .before .before .before .before .put-four in
+    let put-byte = c .before .before .before .before .before .before .put-byte in
+    let put-patterns = c .before .before .put-patterns in
+    length-set (put-patterns .last .0) (put-patterns .result) newline ∙ (put-patterns .kept .0 ∙ (put-byte .kept .0 ∙ (put-four .kept .0)))
 
 returns : tie.Need-returns
 unfolding totalText
-returns c = then (c .before .before .before .before .before .before .before .before .before .before .put-four .ensures) (then (c .before .before .before .before .before .before .put-byte .ensures) (then (c .before .before .put-patterns .ensures) (stored (c .before .before .put-patterns .last .0) (c .before .before .put-patterns .result) 10 (c .before .before .put-patterns .result + 1) (omega arith) refl)))
+returns c =
+    let put-four = c .before .before .before .before .before .before .before .before .before .before .put-four in
+    let put-byte = c .before .before .before .before .before .before .put-byte in
+    let put-patterns = c .before .before .put-patterns in
+    then (put-four .ensures)
+    (then (put-byte .ensures) (then (put-patterns .ensures) (stored (put-patterns .last .0) (put-patterns .result) newline (put-patterns .result + 1) (omega arith) refl)))
 
 pub put-total-spec : {M : Type 1} → statement M
 put-total-spec =

@@ -23,11 +23,27 @@ starts-with-requires-3 c κs = search needs
 
 returns-3 : tie.Need-returns-3
 unfolding lettersOperation
-returns-3 c = rw (sym (c .before .before .before .before .before .before .before .starts-with .ensures) ∙ c .before .before .before .before .before .before .if1 .left, sym (c .before .before .before .before .starts-with2 .ensures) ∙ c .before .before .before .if2 .left, sym (c .before .starts-with3 .ensures) ∙ c .if3 .taken)
+returns-3 c =
+    let third = c .before in
+    let second = third .before .before .before in
+    let first = second .before .before .before in
+    rw (
+      sym (first .starts-with .ensures) ∙ second .before .before .if1 .left,
+      sym (second .starts-with2 .ensures) ∙ third .before .before .if2 .left,
+      sym (third .starts-with3 .ensures) ∙ c .if3 .taken,
+    )
 
 returns-4 : tie.Need-returns-4
 unfolding lettersOperation
-returns-4 c = rw (sym (c .before .before .before .before .before .before .before .starts-with .ensures) ∙ c .before .before .before .before .before .before .if1 .left, sym (c .before .before .before .before .starts-with2 .ensures) ∙ c .before .before .before .if2 .left, sym (c .before .starts-with3 .ensures) ∙ c .if3 .left)
+returns-4 c =
+    let third = c .before in
+    let second = third .before .before .before in
+    let first = second .before .before .before in
+    rw (
+      sym (first .starts-with .ensures) ∙ second .before .before .if1 .left,
+      sym (second .starts-with2 .ensures) ∙ third .before .before .if2 .left,
+      sym (third .starts-with3 .ensures) ∙ c .if3 .left,
+    )
 
 pub operation-spec : {M : Type 1} → statement M
 operation-spec =

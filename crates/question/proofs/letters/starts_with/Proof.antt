@@ -30,7 +30,10 @@ element-copy-out-result : tie.Need-element-copy-out-result
 element-copy-out-result c = search needs
 
 returns : tie.Need-returns
-returns c = third (getD (c .before .before .before .before .before .before .before .before .args .line .now) 2 0) (getD (c .before .before .before .before .before .before .before .before .args .three .now) 2 0) (c .before .before .before .before .before .if1 .taken) (c .before .before .if2 .taken)
+returns c =
+    let first = c .before .before .before .before .before in
+    let a = first .before .before .before .args in
+    third (getD (a .line .now) 2 0) (getD (a .three .now) 2 0) (first .if1 .taken) (c .before .before .if2 .taken)
 
 returns-2 : tie.Need-returns-2
 returns-2 c = simp (eq-eqb _ _ (c .before .before .before .if1 .taken), ne-eqb _ _ (c .if2 .left))

@@ -1,4 +1,5 @@
 use mathlib.Core.Path.{refl, _∙_}
+use Prim.Native.Char.{code}
 use lib.ListN.{length-set}
 use native.Mathlib.Omega.{arith}
 use Rattle.transcript_spec.proofs.Pasted.{then}
@@ -52,13 +53,15 @@ put-decimal-same-length : (t : ℕ) → put-decimal-lts.Need-same-length (
   put-decimal-below t,
   put-decimal.Post,
 ) (put-decimal-at t) put-decimal.Post
-put-decimal-same-length t c = length-set (c .before .before .args .out .now) (c .before .before .args .at) (48 + c .before .before .args .n)
+put-decimal-same-length t c = length-set (c .before .before .args .out .now) (c .before .before .args .at) (code "0" + c .before .before .args .n)
 
 put-decimal-returns : (t : ℕ) → put-decimal-lts.Need-returns (
   put-decimal-below t,
   put-decimal.Post,
 ) (put-decimal-at t) put-decimal.Post
-put-decimal-returns t c = rw (one-digit (c .before .before .args .n) (c .if1 .taken)) (stored (c .before .before .args .out .now) (c .before .before .args .at) (48 + c .before .before .args .n) (c .before .before .args .at + 1) (omega (arith, one-length (c .before .before .args .n) (c .if1 .taken))) refl)
+put-decimal-returns t c =
+    let a = c .before .before .args in
+    rw (one-digit (a .n) (c .if1 .taken)) (stored (a .out .now) (a .at) (code "0" + a .n) (a .at + 1) (omega (arith, one-length (a .n) (c .if1 .taken))) refl)
 
 put-decimal-put-decimal-requires : (t : ℕ) → put-decimal-lts.Need-put-decimal-requires (
   put-decimal-below t,
@@ -94,13 +97,21 @@ put-decimal-same-length-2 : (t : ℕ) → put-decimal-lts.Need-same-length-2 (
   put-decimal-below t,
   put-decimal.Post,
 ) (put-decimal-at t) put-decimal.Post
-put-decimal-same-length-2 t c = length-set (c .before .before .put-decimal .last .0) (c .before .before .put-decimal .result) (48 + c .before .before .before .before .before .before .args .n % 10) ∙ c .before .before .put-decimal .kept .0
+put-decimal-same-length-2 t c =
+    let a = c .before .before .before .before .before .before .args in
+    let put-decimal = c .before .before .put-decimal in
+    length-set (put-decimal .last .0) (put-decimal .result) (code "0" + a .n % 10) ∙ put-decimal .kept .0
 
 put-decimal-returns-2 : (t : ℕ) → put-decimal-lts.Need-returns-2 (
   put-decimal-below t,
   put-decimal.Post,
 ) (put-decimal-at t) put-decimal.Post
-put-decimal-returns-2 t c = rw (last-digit (c .before .before .before .before .before .before .args .n) (omega arith) (omega arith)) (then (c .before .before .put-decimal .ensures) (stored (c .before .before .put-decimal .last .0) (c .before .before .put-decimal .result) (48 + c .before .before .before .before .before .before .args .n % 10) (c .before .before .put-decimal .result + 1) (omega (arith, decimal-length (c .before .before .before .before .before .before .args .n) (omega arith) (omega arith))) refl))
+put-decimal-returns-2 t c =
+    let a = c .before .before .before .before .before .before .args in
+    let put-decimal = c .before .before .put-decimal in
+    let long = decimal-length (a .n) (omega arith) (omega arith) in
+    rw (last-digit (a .n) (omega arith) (omega arith))
+    (then (put-decimal .ensures) (stored (put-decimal .last .0) (put-decimal .result) (code "0" + a .n % 10) (put-decimal .result + 1) (omega (arith, long)) refl))
 
 pub +put-decimal-spec : {M : Type 1} → statement M
 +put-decimal-spec = close μ-put-decimal λ t. put-decimal-lts.spec (
@@ -109,15 +120,15 @@ pub +put-decimal-spec : {M : Type 1} → statement M
 )
     (put-decimal-at t)
     put-decimal.Post
-    (put-decimal-add-out t)
     (put-decimal-cast-out t)
+    (put-decimal-add-out t)
     (put-decimal-slice-write-out t)
     (put-decimal-add-result t)
     (put-decimal-same-length t)
     (put-decimal-returns t)
     (put-decimal-put-decimal-requires t)
-    (put-decimal-add-out-2 t)
     (put-decimal-cast-out-2 t)
+    (put-decimal-add-out-2 t)
     (put-decimal-slice-write-out-2 t)
     (put-decimal-add-result-2 t)
     (put-decimal-same-length-2 t)

@@ -24,7 +24,11 @@ same-length : tie.Need-same-length
 same-length c = search needs
 
 returns : tie.Need-returns
-returns c = letters-put (c .before .before .before .before .question .result) (letters (c .before .before .before .before .before .before .args .operation)) (c .before .before .before .before .question .ensures) (letters-length (c .before .before .before .before .before .before .args .operation)) (c .before .before .put-four .ensures)
+returns c =
+    let a = c .before .before .before .before .before .before .args in
+    let question = c .before .before .before .before .question in
+    let put-four = c .before .before .put-four in
+    letters-put (question .result) (letters (a .operation)) (question .ensures) (letters-length (a .operation)) (put-four .ensures)
 
 pub put-letters-spec : {M : Type 1} → statement M
 put-letters-spec =

@@ -23,8 +23,14 @@ same-length c = search needs
 
 returns : tie.Need-returns
 returns c =
-    half-put (c .before .before .before .before .before .before .before .before .before .args .x) (c .before .before .before .before .before .before .before .hexadecimal .result) (c .before .before .before .before .before .before .hexadecimal2 .result) (c .before .before .before .before .before .hexadecimal3 .result) (c .before .before .before .before .hexadecimal4 .result)
-    (c .before .before .before .before .before .before .before .hexadecimal .ensures) (c .before .before .before .before .before .before .hexadecimal2 .ensures) (c .before .before .before .before .before .hexadecimal3 .ensures) (c .before .before .before .before .hexadecimal4 .ensures) (c .before .before .put-four .ensures)
+    let a = c .before .before .before .before .before .before .before .before .before .args in
+    let hexadecimal = c .before .before .before .before .before .before .before .hexadecimal in
+    let hexadecimal2 = c .before .before .before .before .before .before .hexadecimal2 in
+    let hexadecimal3 = c .before .before .before .before .before .hexadecimal3 in
+    let hexadecimal4 = c .before .before .before .before .hexadecimal4 in
+    let put-four = c .before .before .put-four in
+    half-put (a .x) (hexadecimal .result) (hexadecimal2 .result) (hexadecimal3 .result) (hexadecimal4 .result)
+    (hexadecimal .ensures) (hexadecimal2 .ensures) (hexadecimal3 .ensures) (hexadecimal4 .ensures) (put-four .ensures)
 
 pub put-half-spec : {M : Type 1} → statement M
 put-half-spec =

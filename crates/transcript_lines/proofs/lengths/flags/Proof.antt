@@ -19,13 +19,17 @@ cast-n-3 : tie.Need-cast-n-3
 cast-n-3 c = search needs
 
 add-n-2 : tie.Need-add-n-2
-add-n-2 c = omega (arith, byte-most (c .before .before .before .args .flags .invalid), byte-most (c .before .before .before .args .flags .overflow), byte-most (c .before .before .before .args .flags .underflow))
+add-n-2 c =
+    let a = c .before .before .before .args in
+    omega (arith, byte-most (a .flags .invalid), byte-most (a .flags .overflow), byte-most (a .flags .underflow))
 
 cast-n-4 : tie.Need-cast-n-4
 cast-n-4 c = search needs
 
 add-n-3 : tie.Need-add-n-3
-add-n-3 c = omega (arith, byte-most (c .before .before .before .before .args .flags .invalid), byte-most (c .before .before .before .before .args .flags .overflow), byte-most (c .before .before .before .before .args .flags .underflow), byte-most (c .before .before .before .before .args .flags .inexact))
+add-n-3 c =
+    let a = c .before .before .before .before .args in
+    omega (arith, byte-most (a .flags .invalid), byte-most (a .flags .overflow), byte-most (a .flags .underflow), byte-most (a .flags .inexact))
 
 returns : tie.Need-returns
 returns c =

@@ -16,7 +16,8 @@ add-result c = search needs
 returns : tie.Need-returns
 returns c =
     let s = c .before .before .before in
-    (λ x y z r. omega (arith, step-length-two (s .args .number) (s .args .operation) x y z r (c .before .before .takes-two .result) (c .before .if1 .taken) (c .before .before .takes-two .ensures)), omega arith)
+    let two = c .before .before .takes-two in
+    (λ words is. omega (arith, step-length-two (s .args .number) words (two .result) (rw is (two .ensures)) (c .before .if1 .taken)), omega arith)
 
 decimal-requires-2 : tie.Need-decimal-requires-2
 decimal-requires-2 c κs = search needs
@@ -27,7 +28,8 @@ add-result-2 c = search needs
 returns-2 : tie.Need-returns-2
 returns-2 c =
     let s = c .before .before .before in
-    (λ x y z r. omega (arith, step-length-three (s .args .number) (s .args .operation) x y z r (c .before .before .takes-two .result) (c .before .if1 .left) (c .before .before .takes-two .ensures)), omega arith)
+    let two = c .before .before .takes-two in
+    (λ words is. omega (arith, step-length-three (s .args .number) words (two .result) (rw is (two .ensures)) (c .before .if1 .left)), omega arith)
 
 pub step-spec : {M : Type 1} → statement M
 step-spec =

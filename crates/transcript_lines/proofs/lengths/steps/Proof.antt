@@ -1,7 +1,9 @@
-use Prim.Native.Nat.{_+_, _*_, _-_, _≤_}
-use mathlib.Core.Path.{_≡_, sym}
+use Prim.Native.Nat.{ℕ, _+_, _*_, _-_, _≤_}
+use mathlib.Core.Path.{_≡_, sym, ap, _∙_}
 use native.Mathlib.Omega.{arith}
-use lib.ListN.{length, getD}
+use lib.ListN.{length, getD, drop}
+use lib.Seq.{getD-drop}
+use Rattle.worksheet_spec.specs.Lines.{lineSize}
 use Rattle.transcript_spec.specs.Texts.{stepsText}
 use Rattle.transcript_spec.proofs.WholeSteps.{more-length}
 use Rattle.transcript_lines.proofs.lengths.steps.Statement.{statement}
@@ -48,7 +50,10 @@ loop-again : tie.Need-loop-again Inv-loop μ-loop
 loop-again c =
     let l = c .before .before .before .loop in
     let words = c .before .before .before .before .args .words .now in
-    (omega arith, omega (arith, more-length (l .k) words, c .step .ensures .0 (getD words (5 * l .k + 1) 0) (getD words (5 * l .k + 2) 0) (getD words (5 * l .k + 3) 0) (getD words (5 * l .k + 4) 0)), omega arith)
+    let at = lineSize * l .k in
+    let e : at + 0 ≡ at = omega arith in
+    let first : getD (drop at words) 0 0 ≡ getD words at 0 = getD-drop at words 0 0 ∙ ap (λ (n : ℕ). getD words n 0) e in
+    (omega arith, omega (arith, more-length (l .k) words, c .step .ensures .0 (drop at words) first), omega arith)
 
 returns : tie.Need-returns Inv-loop μ-loop
 returns c =

@@ -1,7 +1,7 @@
-use Rattle.sheet_position.proofs.Placed.{no-byte, has-byte}
+use Rattle.sheet_line.proofs.Ready.{no-byte, has-byte}
 use borrow.Author.Needs.{needs}
-use Rattle.sheet_position.proofs.more.Statement.{statement}
-use Rattle.sheet_position.proofs.more.Tie as tie
+use Rattle.sheet_line.proofs.position.more.Statement.{statement}
+use Rattle.sheet_line.proofs.position.more.Tie as tie
 
 returns : tie.Need-returns
 returns c = no-byte _ _ _ (c .if1 .taken)

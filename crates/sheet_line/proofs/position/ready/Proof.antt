@@ -1,7 +1,7 @@
-use Rattle.sheet_position.proofs.Placed.{no-room, has-room}
+use Rattle.sheet_line.proofs.Ready.{no-room, has-room}
 use borrow.Author.Needs.{needs}
-use Rattle.sheet_position.proofs.ready.Statement.{statement}
-use Rattle.sheet_position.proofs.ready.Tie as tie
+use Rattle.sheet_line.proofs.position.ready.Statement.{statement}
+use Rattle.sheet_line.proofs.position.ready.Tie as tie
 
 returns : tie.Need-returns
 returns c = no-room _ _ _ (c .if1 .taken)

@@ -1,8 +1,8 @@
 use native.Mathlib.Omega.{arith}
-use Rattle.sheet_position.proofs.Extended.{one-more-byte, byte-dropped}
+use Rattle.sheet_line.proofs.Extended.{one-more-byte, byte-dropped}
 use borrow.Author.Needs.{needs}
-use Rattle.sheet_position.proofs.kept.Statement.{statement}
-use Rattle.sheet_position.proofs.kept.Tie as tie
+use Rattle.sheet_line.proofs.position.kept.Statement.{statement}
+use Rattle.sheet_line.proofs.position.kept.Tie as tie
 
 slice-write-text : tie.Need-slice-write-text
 slice-write-text c = search needs

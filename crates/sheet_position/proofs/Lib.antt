@@ -1,2 +1,0 @@
-pub mod Extended
-pub mod Placed

@@ -16,7 +16,7 @@ use Rattle.worksheet_spec.specs.Constants.{psi, two, half, kappa, twoTo2
 use Rattle.worksheet_spec.specs.Lines.{mostLines, Step, add, subtract, multiply, fused, Line, line, value, minus, equal, zero}
 use Rattle.worksheet_spec.specs.Sheets.{sumInOrder, swaps, sumSheet, productSheet, sheetOf}
 use Rattle.worksheet_spec.specs.Theorems.{positivePattern, ConstantPatterns, StepNumbers, EachLine, Derived, FirstLine, stepsOf, recompositionSteps, finishStep, edgeSteps, openingSteps}
-use Rattle.worksheet_spec.specs.Theorems.{halvedSteps, sumSteps, tinySteps, middleSteps, ProductSteps, InOrder, LineCount, FootIsPair, OperationNumbers, FillingRefused, SheetFilled, FilledPair}
+use Rattle.worksheet_spec.specs.Theorems.{halvedSteps, sumSteps, tinySteps, middleSteps, ProductSteps, InOrder, LineCount, FootIsPair, SheetSizes, FillingRefused, SheetFilled, FilledPair}
 use Rattle.worksheet_spec.specs.Theorems.{All}
 use Rattle.worksheet_spec.proofs.Patterns.{Pattern, pattern-of}
 use Rattle.worksheet_spec.proofs.EachLine as lines
@@ -142,8 +142,8 @@ pub foot-is-pair : FootIsPair
 foot-is-pair = feet.foot-is-pair
 
 -- ---- filling
-pub operation-numbers : OperationNumbers
-operation-numbers = (refl, refl, refl, refl, refl, refl)
+pub sheet-sizes : SheetSizes
+sheet-sizes = (refl, refl, refl)
 
 pub filling-refused : FillingRefused
 filling-refused = answers.filling-refused
@@ -155,4 +155,4 @@ pub filled-pair : FilledPair
 filled-pair = answers.filled-pair
 
 pub all : All
-all = (constant-patterns, step-numbers, each-line, derived, first-line, in-order, line-count, foot-is-pair, operation-numbers, filling-refused, sheet-filled, filled-pair)
+all = (constant-patterns, step-numbers, each-line, derived, first-line, in-order, line-count, foot-is-pair, sheet-sizes, filling-refused, sheet-filled, filled-pair)

@@ -7,6 +7,7 @@ use choose::choose_sign;
 use pattern::is_infinite;
 use pattern::zero_takes;
 use rounding::rest_pattern;
+use rounding::round;
 use rounding::round_with_rest;
 use rounding_spec::Ties;
 ghost use mathlib.Core.Path.{_≡_};
@@ -26,6 +27,24 @@ pub fn of_number(sign: bool, sig: u64, exp: u16) -> Pair
         twice_rounded(sign, sig, exp)
     } else {
         with_rest(sign, sig, exp)
+    }
+}
+
+// The flags alone: where the rest is a number of the format itself, first tells them.
+pub fn flags_of_number(sign: bool, sig: u64, exp: u16) -> Flags
+    requires { ⌜ sig < 2 ^ 48 ⌝ }
+    ensures { λ r. ⌜ r ≡ productAnswer sign (sig * 2 ^ exp) .flags ⌝ }
+{
+    if exp < 149 {
+        let both = twice_rounded(sign, sig, exp);
+        return both.flags;
+    }
+    let over = is_infinite(round(Ties::ToZero, sign, sig, exp));
+    Flags {
+        invalid: false,
+        overflow: over,
+        underflow: false,
+        inexact: over,
     }
 }
 

@@ -16,7 +16,12 @@ ghost use Rattle.sheet_spec.specs.Calls.{closingRoom};
 ghost use Rattle.sheet_feed.specs.Inner.{LastLine};
 
 // A line without newline counts, if it has a byte.
-pub fn open_line(position: Position, line: &[u8; KEPT_BYTES], total: &mut [u32], out: &mut [u8]) -> Progressed
+pub fn open_line(
+    position: Position,
+    line: &[u8; KEPT_BYTES],
+    total: &mut [u32],
+    out: &mut [u8],
+) -> Progressed
     requires { ⌜ (goesOn position ≡ true) × (lineRoom ≤ length (now out)) ⌝ }
     ensures { λ r. ⌜ LastLine (stateOf position (now (line .entry)) (now (total .entry))) (now (out .entry))
         (progressOf (r .position) (now (total .exit))) (r .written) (now (out .exit)) ⌝ }

@@ -39,7 +39,12 @@ pub fn feed(
 }
 
 // The open line, if it has a byte, and the last two lines. Without room for them, or after `stop`, nothing is done.
-pub fn finish(position: Position, line: &[u8; KEPT_BYTES], total: &mut [u32], out: &mut [u8]) -> usize
+pub fn finish(
+    position: Position,
+    line: &[u8; KEPT_BYTES],
+    total: &mut [u32],
+    out: &mut [u8],
+) -> usize
     ensures { λ r. ⌜ Ends (stateOf position (now (line .entry)) (now (total .entry))) (now (out .entry)) r
         (now (total .exit)) (now (out .exit)) ⌝ }
 {

@@ -14,7 +14,13 @@ ghost use Rattle.sheet_spec.specs.Printed.{mostInputLines};
 ghost use Rattle.sheet_spec.specs.Positions.{goesOn, stateOf};
 ghost use Rattle.sheet_feed.specs.Inner.{Steps, stoppedAt, Extends};
 
-pub fn byte(b: u8, position: Position, line: &mut [u8; KEPT_BYTES], total: &mut [u32], out: &mut [u8]) -> Progressed
+pub fn byte(
+    b: u8,
+    position: Position,
+    line: &mut [u8; KEPT_BYTES],
+    total: &mut [u32],
+    out: &mut [u8],
+) -> Progressed
     requires { ⌜ (goesOn position ≡ true) × (lineRoom ≤ length (now out)) ⌝ }
     ensures { λ r. ⌜ Steps (stateOf position (now (line .entry)) (now (total .entry))) b (now (out .entry)) r
         (stateOf (r .position) (now (line .exit)) (now (total .exit))) (now (out .exit)) ⌝ }

@@ -63,23 +63,32 @@ fn take(
         let n = fed.written;
         here = fed.position;
         if !io::write_all(output, &out[..n]) {
-            return passed(here, false);
+            return Passed {
+                position: here,
+                whole: false,
+            };
         }
         if taken == 0 {
-            return passed(here, true);
+            return Passed {
+                position: here,
+                whole: true,
+            };
         }
         at += taken;
     }
-    passed(here, true)
+    Passed {
+        position: here,
+        whole: true,
+    }
 }
 
-fn passed(position: Position, whole: bool) -> Passed
-    ensures { λ r. ⌜ r ≡ record { position = position; whole = whole } ⌝ }
-{
-    Passed { position, whole }
-}
-
-fn close(output: i32, position: Position, line: &[u8; KEPT_BYTES], total: &mut [u32], out: &mut [u8]) {
+fn close(
+    output: i32,
+    position: Position,
+    line: &[u8; KEPT_BYTES],
+    total: &mut [u32],
+    out: &mut [u8],
+) {
     let n = sheet_feed::finish(position, line, total, out);
     io::write_all(output, &out[..n]);
 }

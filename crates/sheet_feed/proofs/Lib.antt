@@ -1,4 +1,3 @@
-pub mod Starting
 pub mod Stepped
 pub mod Feeding
 pub mod Closing

@@ -1,33 +1,33 @@
--- What the crate's inner functions ask and promise. No public contract cites it.
+-- What the functions below `feed` and `finish` promise them.
 use Prim.Native.Nat.{ℕ, _≤_}
 use mathlib.Core.Path.{_≡_}
-use mathlib.Core.Bool.{false}
+use mathlib.Core.Bool.{true}
 use mathlib.Core.List.{List}
-use lib.ListN.{length as size}
-use Rattle.question_spec.specs.Questions.{reading}
-use Rattle.sheet_spec.specs.Printed.{lineText, Progress, afterLine}
-use Rattle.sheet_spec.specs.States.{State, takeByte, byteText, lastLine, lastText}
-use Rattle.sheet_position.specs.Places.{progressOf}
-use Rattle.sheet_feed.specs.Calls.{Starts}
-use Rattle.sheet_position.specs.declared.Place.{Place}
-use Rattle.sheet_feed.specs.declared.Next.{Next}
+use Rattle.transcript_spec.specs.Buffers.{Put}
+use Rattle.sheet_spec.specs.Printed.{Progress}
+use Rattle.sheet_spec.specs.States.{State, extend, takeByte, byteText, lastLine, lastText}
+use Rattle.sheet_spec.specs.Positions.{stateOf}
+use Rattle.sheet_spec.specs.declared.Position.{Position}
+use Rattle.sheet_spec.specs.declared.Progressed.{Progressed}
 
 -- a byte is taken
-pub record Steps (s : State) (b : ℕ) (out : List ℕ) (r : Next) (after : State) (out' : List ℕ) : Type 0 where
+pub record Steps (s : State) (b : ℕ) (out : List ℕ) (r : Progressed) (after : State) (out' : List ℕ) : Type 0 where
   pub state : after ≡ takeByte s b
-  pub text : Starts out (byteText s b) (r .written) out'
+  pub taken : r .taken ≡ 1
+  pub text : Put out 0 (byteText s b) (r .written) out'
 
--- the open line, whose bytes these are, is ended
-pub record LineEnds (p : Place) (begun total total' out : List ℕ) (r : Next) (number : ℕ) (out' : List ℕ) : Type 0 where
-  -- all of its bytes are there
-  pub whole : size begun ≡ p .length
-  pub progress : progressOf (r .place) total' ≡ afterLine (progressOf p total) begun
-  pub length : r .place .length ≡ 0
-  pub going : r .place .stopped ≡ false
-  pub text : Starts out (lineText number (reading begun)) (r .written) out'
+-- a position where `stop` was printed
+abbrev pub stoppedAt : Position → Position
+stoppedAt p = record { lines = p .lines; good = p .good; length = 0; stopped = true }
+
+-- the open line has a byte more
+pub record Extends (p : Position) (line : List ℕ) (b : ℕ) (r : Progressed) (line' : List ℕ) : Type 0 where
+  pub taken : r .taken ≡ 1
+  pub written : r .written ≡ 0
+  pub state : (total : List ℕ) → stateOf (r .position) line' total ≡ extend (stateOf p line total) b
 
 -- the open line, if it has a byte, is the last one
 pub record LastLine (s : State) (out : List ℕ) (p : Progress) (n : ℕ) (out' : List ℕ) : Type 0 where
   pub progress : p ≡ lastLine s
   pub sound : p .good ≤ p .lines
-  pub text : Starts out (lastText s) n out'
+  pub text : Put out 0 (lastText s) n out'

@@ -1,35 +1,48 @@
 // The end of the input.
-use crate::Next;
-use crate::Place;
-use crate::step;
 use accumulator::Reading;
+use sheet_spec::KEPT_BYTES;
+use sheet_spec::Position;
+use sheet_spec::Progressed;
+ghost use mathlib.Core.Path.{_≡_};
+ghost use mathlib.Core.Bool.{true};
 ghost use Prim.Native.Nat.{_≤_};
 ghost use lib.ListN.{length};
 ghost use Rattle.accumulator_spec.specs.Totals.{reading};
-ghost use Rattle.sheet_line.specs.Answers.{Writes};
+ghost use Rattle.transcript_spec.specs.Texts.{lineRoom};
+ghost use Rattle.transcript_spec.specs.Buffers.{Put, Writes};
 ghost use Rattle.sheet_spec.specs.Printed.{readText, closingText};
-ghost use Rattle.sheet_position.specs.Places.{stateOf, lineRoom, Runs, progressOf};
-ghost use Rattle.sheet_feed.specs.Calls.{Starts};
+ghost use Rattle.sheet_spec.specs.Positions.{goesOn, stateOf, progressOf};
+ghost use Rattle.sheet_spec.specs.Calls.{closingRoom};
 ghost use Rattle.sheet_feed.specs.Inner.{LastLine};
 
 // A line without newline counts, if it has a byte.
-pub fn open_line(place: Place, line: &[u8; 22], total: &mut [u32], out: &mut [u8]) -> Next
-    requires { ⌜ Runs place × (lineRoom ≤ length (now out)) ⌝ }
-    ensures { λ r. ⌜ LastLine (stateOf place (now (line .entry)) (now (total .entry))) (now (out .entry)) (progressOf (r .place) (now (total .exit))) (r .written) (now (out .exit)) ⌝ }
+pub fn open_line(
+    position: Position,
+    line: &[u8; KEPT_BYTES],
+    total: &mut [u32],
+    out: &mut [u8],
+) -> Progressed
+    requires { ⌜ (goesOn position ≡ true) × (lineRoom ≤ length (now out)) ⌝ }
+    ensures { λ r. ⌜ LastLine (stateOf position (now (line .entry)) (now (total .entry))) (now (out .entry))
+        (progressOf (r .position) (now (total .exit))) (r .written) (now (out .exit)) ⌝ }
 {
-    if place.length == 0 {
-        return Next { place, written: 0 };
+    if position.length == 0 {
+        return Progressed {
+            position,
+            taken: 0,
+            written: 0,
+        };
     }
-    step::end_line(place, line, total, out)
+    sheet_line::end_line(position, line, total, out)
 }
 
-pub fn closing(place: Place, total: &[u32], out: &mut [u8]) -> usize
-    requires { ⌜ (place .good ≤ place .lines) × (60 ≤ length (now out)) ⌝ }
-    ensures { λ r. ⌜ Starts (now (out .entry)) (closingText (progressOf place (now (total .entry)))) r (now (out .exit)) ⌝ }
+pub fn closing(position: Position, total: &[u32], out: &mut [u8]) -> usize
+    requires { ⌜ (position .good ≤ position .lines) × (closingRoom ≤ length (now out)) ⌝ }
+    ensures { λ r. ⌜ Put (now (out .entry)) 0 (closingText (progressOf position (now (total .entry)))) r (now (out .exit)) ⌝ }
 {
-    let bad = place.lines - place.good;
+    let bad = position.lines - position.good;
     let used = total_line(total, out);
-    used + transcript::end(&mut out[used..], place.good, bad)
+    used + transcript::end(&mut out[used..], position.good, bad)
 }
 
 fn total_line(total: &[u32], out: &mut [u8]) -> usize

@@ -33,7 +33,7 @@ use Rattle.sheet_spec.specs.Printed.{blank, filledText, lineText, halfTerms, pa
 use Rattle.sheet_spec.specs.States.{keptBytes}
 use Rattle.sheet_spec.specs.declared.Position.{Position}
 use Rattle.sheet_spec.proofs.Lengths.{line-most}
-use Rattle.sheet_line.specs.Inner.{lent, lineEnded, LineEnds}
+use Rattle.sheet_line.specs.Inner.{lineEnded, LineEnds}
 
 -- ---- the total
 module _ (total : List ℕ) (first second : ℕ) (finite : Bool) (are : finite ≡ bothFinite first second) where
@@ -91,11 +91,13 @@ not-asked the-question.Digit h = refl
 
 module _ (p : Position) (kept total out : List ℕ) (whole : length (take (p .length) kept) ≡ p .length) (room : lineRoom ≤ length out) where
   ends : (a : Answer Asked) → a ≡ readQuestion (take (p .length) kept) → (n : ℕ) (total' out' : List ℕ) → total' ≡ column total (lineTerms a) → Writes out (lineText (p .lines + 1) a) n out'
-      → LineEnds p kept (lent total out) (lineEnded p (cond (isDone a) 1 0) n) (lent total' out')
+      → LineEnds p kept total out (lineEnded p (cond (isDone a) 1 0) n) total' out'
   unfolding afterLine
   ends a is n total' out' t w = record {
     whole = whole;
-    progress = progress-is (p .lines + 1) (suc (p .lines)) (p .good + cond (isDone a) 1 0) _ total' _ (add-one (p .lines)) (counted is (p .good)) (t ∙ ap (λ (b : Answer Asked). column total (lineTerms b)) is);
+    progress =
+        progress-is (p .lines + 1) (suc (p .lines)) (p .good + cond (isDone a) 1 0) _ total' _ (add-one (p .lines)) (counted is (p .good))
+        (t ∙ ap (λ (b : Answer Asked). column total (lineTerms b)) is);
     length = refl;
     going = refl;
     taken = refl;
@@ -109,10 +111,10 @@ module _ (p : Position) (kept total out : List ℕ) (whole : length (take (p .le
       counted {b} {c} e g = commuted g (cond (isDone b) 1 0) ∙ ap (λ (d : Answer Asked). cond (isDone d) 1 0 + g) e
 
   pub good-ends : (o x y : ℕ) → asked o x y ≡ readQuestion (take (p .length) kept) → (n : ℕ) (total' out' : List ℕ) → Answers (p .lines + 1) o x y total out n total' out'
-      → LineEnds p kept (lent total out) (lineEnded p 1 n) (lent total' out')
+      → LineEnds p kept total out (lineEnded p 1 n) total' out'
   good-ends o x y e n total' out' s = ends (asked o x y) e n total' out' (s .1) (s .0)
 
   pub bad-ends : (q : Question) → OneOf (1 ∷ 2 ∷ 3 ∷ 4 ∷ []) (tagOf question-type.the-type q) → answerQuestion q ≡ readQuestion (take (p .length) kept) → (k : ℕ) → k ≡ refusalOf (answerQuestion q)
-      → (n : ℕ) (out' : List ℕ) → Writes out (badText (p .lines + 1) k) n out' → LineEnds p kept (lent total out) (lineEnded p 0 n) (lent total out')
+      → (n : ℕ) (out' : List ℕ) → Writes out (badText (p .lines + 1) k) n out' → LineEnds p kept total out (lineEnded p 0 n) total out'
   unfolding lineText column
   bad-ends q h e k f n out' w = ends (refused k) (ap refused f ∙ not-asked q h ∙ e) n total out' refl w

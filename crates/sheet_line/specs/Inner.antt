@@ -21,25 +21,17 @@ readyFor p room need = leb need room && goesOn p
 unfoldable pub takesMore : ℕ → Position → ℕ → Bool
 takesMore left p room = ltb 0 left && readyFor p room lineRoom
 
--- the lent total and buffer of a call
-pub record Lent : Type 0 where
-  pub total : List ℕ
-  pub out : List ℕ
-
-abbrev pub lent : List ℕ → List ℕ → Lent
-lent total out = record { total = total; out = out }
-
 -- a position after its line, which is good or not, and whose text has so many bytes
 abbrev pub lineEnded : Position → ℕ → ℕ → Progressed
 lineEnded p good written =
     record { position = record { lines = p .lines + 1; good = p .good + good; length = 0; stopped = false }; taken = 0; written = written }
 
 -- the open line, of these kept bytes, is ended
-pub record LineEnds (p : Position) (kept : List ℕ) (before : Lent) (r : Progressed) (after : Lent) : Type 0 where
+pub record LineEnds (p : Position) (kept total out : List ℕ) (r : Progressed) (total' out' : List ℕ) : Type 0 where
   -- all of its bytes are there
   pub whole : size (take (p .length) kept) ≡ p .length
-  pub progress : progressOf (r .position) (after .total) ≡ afterLine (progressOf p (before .total)) (take (p .length) kept)
+  pub progress : progressOf (r .position) total' ≡ afterLine (progressOf p total) (take (p .length) kept)
   pub length : r .position .length ≡ 0
   pub going : r .position .stopped ≡ false
   pub taken : r .taken ≡ 0
-  pub text : Put (before .out) 0 (lineText (suc (p .lines)) (readQuestion (take (p .length) kept))) (r .written) (after .out)
+  pub text : Put out 0 (lineText (suc (p .lines)) (readQuestion (take (p .length) kept))) (r .written) out'

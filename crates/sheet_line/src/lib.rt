@@ -20,7 +20,7 @@ ghost use Rattle.transcript_spec.specs.Texts.{lineRoom};
 ghost use Rattle.transcript_spec.specs.Buffers.{Writes};
 ghost use Rattle.sheet_spec.specs.Printed.{lineText, lineTerms};
 ghost use Rattle.sheet_spec.specs.Positions.{goesOn};
-ghost use Rattle.sheet_line.specs.Inner.{lent, LineEnds, lineEnded};
+ghost use Rattle.sheet_line.specs.Inner.{LineEnds, lineEnded};
 
 // The open line has ended. Its bytes have been taken one by one before, and a newline is the caller's to count.
 pub fn end_line(
@@ -30,7 +30,8 @@ pub fn end_line(
     out: &mut [u8],
 ) -> Progressed
     requires { ⌜ (goesOn position ≡ true) × (lineRoom ≤ length (now out)) ⌝ }
-    ensures { λ r. ⌜ LineEnds position (now (line .entry)) (lent (now (total .entry)) (now (out .entry))) r (lent (now (total .exit)) (now (out .exit))) ⌝ }
+    ensures { λ r. ⌜ LineEnds position (now (line .entry)) (now (total .entry)) (now (out .entry)) r
+        (now (total .exit)) (now (out .exit)) ⌝ }
 {
     let n = position.length;
     let number = position.lines + 1;

@@ -68,7 +68,8 @@ unfolding bytesText takeBytes closeText ending linesFrom afterLine
 ended p [] room h = refl
 ended p (c ∷ begun) zero h = absurd (let e : _≡_ {A = ℕ} (suc (length begun)) 0 = ap length (h refl) in omega arith)
 ended p (c ∷ begun) (suc room) h =
-    rw (has-byte c begun, has-byte c (take questionSize begun)) (ap₂ (λ (t : List ℕ) (a : Answer Asked). t ++ closingText (afterAnswer p a)) (ap (lineText (suc (p .lines))) (first-bytes (c ∷ begun))) (first-bytes (c ∷ begun)))
+    rw (has-byte c begun, has-byte c (take questionSize begun))
+    (ap₂ (λ (t : List ℕ) (a : Answer Asked). t ++ closingText (afterAnswer p a)) (ap (lineText (suc (p .lines))) (first-bytes (c ∷ begun))) (first-bytes (c ∷ begun)))
 
 -- no room: any byte stops
 stops : (p : Progress) (b : ℕ) (bs : List ℕ) → mostInputLines ≤ p .lines → printed (at p []) (b ∷ bs) ≡ stopText
@@ -90,7 +91,8 @@ module _ (p : Progress) (begun : List ℕ) (b : ℕ) (bs : List ℕ) (room : p .
   unfolding byteText takeByte afterLine
   at-newline e =
       one-byte (at p begun) b bs
-      ∙ rw (lt-leb mostInputLines (p .lines) room, e) (ap (λ (a : Answer Asked). lineText (suc (p .lines)) a ++ printed (record { progress = afterAnswer p a; begun = []; stopped = false }) bs) (first-bytes begun))
+      ∙ rw (lt-leb mostInputLines (p .lines) room, e)
+      (ap (λ (a : Answer Asked). lineText (suc (p .lines)) a ++ printed (record { progress = afterAnswer p a; begun = []; stopped = false }) bs) (first-bytes begun))
 
   at-byte : eqb b newline ≡ false → printed (at p begun) (b ∷ bs) ≡ printed (at p (begun ++ (b ∷ []))) bs
   unfolding byteText takeByte
@@ -110,7 +112,8 @@ unfolding linesFrom ending
 one-more p begun b bs room h true e l m = at-newline p begun b bs h e ∙ rw e (ap (λ (t : List ℕ). lineText (suc (p .lines)) (readQuestion begun) ++ t) l)
 one-more p begun b bs room h false e l m = at-byte p begun b bs h e ∙ rw e m
 
-bytes-are : (input : List ℕ) (p : Progress) (begun : List ℕ) (room : ℕ) → p .lines + room ≡ mostInputLines → (room ≡ 0 → begun ≡ []) → printed (at p begun) input ≡ ending p room (linesFrom begun input)
+bytes-are : (input : List ℕ) (p : Progress) (begun : List ℕ) (room : ℕ) → p .lines + room ≡ mostInputLines → (room ≡ 0 → begun ≡ [])
+    → printed (at p begun) input ≡ ending p room (linesFrom begun input)
 bytes-are [] p begun room e h = ended p begun room h
 bytes-are (b ∷ bs) p begun zero e h =
     let none = h refl in

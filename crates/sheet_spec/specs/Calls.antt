@@ -17,8 +17,8 @@ closingRoom = 60
 abbrev pub lastRoom : ℕ
 lastRoom = lineRoom + closingRoom
 
--- Some of the bytes are taken, from the first on, until none is left, the run has stopped, or there is no room for another line's text. Free
--- is what the lent line holds behind the open line's bytes, and of counts that no run can have which such counts come back.
+-- Some of the bytes are taken, from the first on, until none is left, the run has stopped, or there is no room for another line's text.
+-- Free is what the lent line holds behind the open line's bytes, and of counts that no run can have which such counts come back.
 pub record Feeds (bytes : List ℕ) (s : State) (out : List ℕ) (r : Progressed) (after : State) (out' : List ℕ) : Type 0 where
   pub within : r .taken ≤ length bytes
   pub state : after ≡ takeBytes s (take (r .taken) bytes)

@@ -14,7 +14,7 @@ use Rattle.question_spec.specs.Ascii.{newline}
 use Rattle.question_spec.specs.Questions.{Asked, readQuestion}
 use Rattle.transcript_spec.specs.Texts.{answeredText, badText, totalText, endText, stopText}
 
--- ---- the lines of the input, after the bytes of an open line: only a newline ends one, and bytes after the last newline are one too (R9.1)
+-- ---- the lines of the input, after the bytes of an open line. Only a newline ends one; bytes after the last newline are one too (R9.1).
 unfoldable pub linesFrom : List ℕ → List ℕ → List (List ℕ)
 linesFrom begun [] = cond (eqb (length begun) 0) [] (begun ∷ [])
 linesFrom begun (b ∷ bs) = cond (eqb b newline) (begun ∷ linesFrom [] bs) (linesFrom (begun ++ (b ∷ [])) bs)

@@ -33,9 +33,10 @@ readsText s (r ∷ rs) = bytesText s r ++ readsText (takeBytes s r) rs
 abbrev pub AnyReads : Type 0
 AnyReads = (reads : List (List ℕ)) → readsText begin reads ≡ output (joined reads)
 
--- ---- after `stop` nothing is printed, whatever follows (R8.11); that no more is read is the program's own loop, which no definition covers
+-- ---- after `stop` nothing is printed, whatever follows (R8.11). That no more is read is the program's own loop: no definition covers it.
 abbrev pub NothingAfterStop : Type 0
-NothingAfterStop = (s : State) (bytes : List ℕ) → s .stopped ≡ true → (takeBytes s bytes ≡ s) × (bytesText s bytes ≡ []) × (closeText s ≡ [])
+NothingAfterStop =
+    (s : State) (bytes : List ℕ) → s .stopped ≡ true → (takeBytes s bytes ≡ s) × (bytesText s bytes ≡ []) × (closeText s ≡ [])
 
 -- ---- no question that is read is refused when its sheet is filled
 abbrev pub NeverRefused : Type 0

@@ -1,139 +1,94 @@
-// Reads questions to the input's end and writes their model sheets. Of all crates only this one reads and writes; the text is `printer`'s.
+// Reads questions to the input's end and writes their model sheets. Of all crates only this one reads and writes; the text is sheet_feed's.
 // No contract can say what a call read or wrote; what is done with the bytes of a read, `take` says.
-use sheet_feed::Place;
+use accumulator_spec::TOTAL_SIZE;
+use sheet_line::position;
+use sheet_spec::KEPT_BYTES;
+use sheet_spec::Position;
 ghost use lib.ListN.{length};
-ghost use Rattle.sheet_position.specs.Places.{stateOf};
-ghost use Rattle.sheet_stream.specs.Reads.{Takes, TakesAll};
+ghost use Rattle.sheet_spec.specs.Positions.{stateOf};
+ghost use Rattle.sheet_stream.specs.Inner.{TakesAll};
 
-// The place in the input; whether there may be more of it to take; and whether every call has done its work so far.
-pub struct Turn {
-    pub place: Place,
-    pub reading: bool,
+// A position, and whether every write on the way to it has done its work.
+pub struct Passed {
+    pub position: Position,
     pub whole: bool,
 }
 
-pub struct Moved {
-    pub turn: Turn,
-    pub taken: usize,
-}
-
-// A loop that is proved has to end: this one counts down from a number of reads that no run uses up.
+// A loop that is proved has to end: this one counts down from a number of reads that no run uses up. After a read or a write that failed
+// nothing is closed: a text without its last lines is not taken for a whole one.
 pub fn run(input: i32, output: i32) {
     let mut bytes = io::large_buffer();
     let mut out = io::large_buffer();
-    let mut line = [0u8; 22];
-    let mut total = [0u32; 21];
-    let mut here = Turn {
-        place: sheet_feed::begin(),
-        reading: true,
-        whole: true,
-    };
+    let mut line = [0u8; KEPT_BYTES];
+    let mut total = [0u32; TOTAL_SIZE];
+    let mut here = position::begin();
     let mut reads = u64::MAX;
-    while reads > 0 && here.reading {
-        here = read_once(
-            input,
-            output,
-            here.place,
-            &mut bytes,
-            &mut line,
-            &mut total,
-            &mut out,
-        );
+    while reads > 0 && !here.stopped {
+        let got = libc::read(input, &mut bytes);
+        if got < 0 {
+            return;
+        }
+        if got == 0 {
+            break;
+        }
+        let n = io::count(got, &bytes);
+        let passed = take(output, &bytes[..n], here, &mut line, &mut total, &mut out);
+        if !passed.whole {
+            return;
+        }
+        here = passed.position;
         reads -= 1;
     }
-    if here.whole {
-        close(output, here.place, &line, &mut total, &mut out);
-    }
+    close(output, here, &line, &mut total, &mut out);
 }
 
-// After a read that failed nothing is closed: a text without its last lines is not taken for a whole one.
-fn read_once(
-    input: i32,
-    output: i32,
-    place: Place,
-    bytes: &mut [u8],
-    line: &mut [u8; 22],
-    total: &mut [u32],
-    out: &mut [u8],
-) -> Turn {
-    let got = libc::read(input, bytes);
-    if got <= 0 {
-        return Turn {
-            place,
-            reading: false,
-            whole: got == 0,
-        };
-    }
-    let n = io::count(got, bytes);
-    take(output, &bytes[..n], place, line, total, out)
-}
-
-// Takes all the bytes. What they print is written whenever the buffer is full, and at the last byte.
+// Takes all the bytes. What they print is written whenever the buffer is full, and at the last byte. A write that fails ends the run at
+// once, and so does `stop`.
 fn take(
     output: i32,
     bytes: &[u8],
-    place: Place,
-    line: &mut [u8; 22],
+    position: Position,
+    line: &mut [u8; KEPT_BYTES],
     total: &mut [u32],
     out: &mut [u8],
-) -> Turn
-    ensures { λ r. ⌜ TakesAll (now (bytes .entry)) (length (now (out .entry))) (stateOf place (now (line .entry)) (now (total .entry))) r (stateOf (r .place) (now (line .exit)) (now (total .exit))) ⌝ }
+) -> Passed
+    ensures { λ r. ⌜ TakesAll (now (bytes .entry)) (length (now (out .entry))) (stateOf position (now (line .entry)) (now (total .entry))) r
+        (stateOf (r .position) (now (line .exit)) (now (total .exit))) ⌝ }
 {
-    let mut here = Turn {
-        place,
-        reading: true,
-        whole: true,
-    };
+    let mut here = position;
     let mut at: usize = 0;
-    while at < bytes.len() && here.reading {
-        let moved = some(output, &bytes[at..], here.place, line, total, out);
-        let taken = moved.taken;
-        here = moved.turn;
+    while at < bytes.len() && !here.stopped {
+        let fed = sheet_feed::feed(&bytes[at..], here, line, total, out);
+        let taken = fed.taken;
+        let n = fed.written;
+        here = fed.position;
+        if !io::write_all(output, &out[..n]) {
+            return Passed {
+                position: here,
+                whole: false,
+            };
+        }
         if taken == 0 {
-            return here;
+            return Passed {
+                position: here,
+                whole: true,
+            };
         }
         at += taken;
     }
-    here
+    Passed {
+        position: here,
+        whole: true,
+    }
 }
 
-// One fill of the buffer. A write that fails ends the run at once, and so does `stop`.
-fn some(
+fn close(
     output: i32,
-    bytes: &[u8],
-    place: Place,
-    line: &mut [u8; 22],
+    position: Position,
+    line: &[u8; KEPT_BYTES],
     total: &mut [u32],
     out: &mut [u8],
-) -> Moved
-    ensures { λ r. ⌜ Takes (now (bytes .entry)) (length (now (out .entry))) (stateOf place (now (line .entry)) (now (total .entry))) r (stateOf (r .turn .place) (now (line .exit)) (now (total .exit))) ⌝ }
-{
-    let fed = sheet_feed::feed(bytes, place, line, total, out);
-    let n = fed.written;
-    let whole = io::write_all(output, &out[..n]);
-    let taken = fed.taken;
-    let next = fed.place;
-    if !whole {
-        return Moved {
-            turn: Turn {
-                place: next,
-                reading: false,
-                whole: false,
-            },
-            taken,
-        };
-    }
-    Moved {
-        turn: Turn {
-            place: next,
-            reading: !next.stopped,
-            whole: true,
-        },
-        taken,
-    }
-}
-
-fn close(output: i32, place: Place, line: &[u8; 22], total: &mut [u32], out: &mut [u8]) {
-    let n = sheet_feed::finish(place, line, total, out);
+) {
+    let n = sheet_feed::finish(position, line, total, out);
     io::write_all(output, &out[..n]);
 }

@@ -3,9 +3,10 @@ use Prim.Native.Nat.{_-_}
 use native.Mathlib.Omega.{arith}
 use borrow.Author.Needs.{needs}
 use lib.ListN.{length}
-use Rattle.sheet_position.specs.Places.{stateOf}
+use Rattle.sheet_spec.specs.Positions.{stateOf}
 use Rattle.sheet_feed.proofs.Feeding.{Taken, none-taken, room-for-line, used-within, one-taken, feeds}
-use Rattle.sheet_position.proofs.Placed.{more-left, none-left, running}
+use Rattle.sheet_spec.proofs.Positions.{running}
+use Rattle.sheet_line.proofs.Ready.{more-left, none-left}
 use Rattle.sheet_feed.proofs.feed.Statement.{statement}
 use Rattle.sheet_feed.proofs.feed.Tie as tie
 
@@ -40,19 +41,45 @@ part-byte-end : tie.Need-part-byte-end Inv-loop μ-loop
 part-byte-end c = search needs
 
 byte-requires : tie.Need-byte-requires Inv-loop μ-loop
-byte-requires c κs = let m = more-left _ _ _ _ (c .before .before .before .before .before .more .ensures) (c .before .before .before .before .if1 .taken) in (m .2, room-for-line _ _ _ _ _ _ _ (c .before .before .before .before .before .before .loop .inv .0) (m .1))
+byte-requires c κs =
+    let l = c .before .before .before .before .before .before .loop in
+    let more = c .before .before .before .before .before .more in
+    let if1 = c .before .before .before .before .if1 in
+    let m = more-left _ _ _ _ (more .ensures) (if1 .taken) in
+    (m .2, room-for-line _ _ _ _ _ _ _ (l .inv .0) (m .1))
 
 add-used : tie.Need-add-used Inv-loop μ-loop
-add-used c = let h = c .before .before .before .before .before .before .before .before .before .before .before .before .before .loop .inv .0 in omega (arith, c .before .before .before .before .before .before .before .before .before .before .before .before .before .before .before .before .before .good .1 .1 .1 .1 .0, h .long, used-within _ _ _ _ _ _ _ h (more-left _ _ _ _ (c .before .before .before .before .before .before .before .before .before .before .before .before .more .ensures) (c .before .before .before .before .before .before .before .before .before .before .before .if1 .taken) .1) _ _ _ (c .before .before .before .before .before .before .byte .ensures))
+add-used c =
+    let good = c .before .before .before .before .before .before .before .before .before .before .before .before .before .before .before .before .before .good in
+    let l = c .before .before .before .before .before .before .before .before .before .before .before .before .before .loop in
+    let more = c .before .before .before .before .before .before .before .before .before .before .before .before .more in
+    let if1 = c .before .before .before .before .before .before .before .before .before .before .before .if1 in
+    let byte = c .before .before .before .before .before .before .byte in
+    let h = l .inv .0 in
+    omega (arith, good .1 .1 .1 .1 .0, h .long, used-within _ _ _ _ _ _ _ h (more-left _ _ _ _ (more .ensures) (if1 .taken) .1) _ _ _ (byte .ensures))
 
 add-at : tie.Need-add-at Inv-loop μ-loop
-add-at c = omega (arith, more-left _ _ _ _ (c .before .before .before .before .before .before .before .before .before .before .before .before .more .ensures) (c .before .before .before .before .before .before .before .before .before .before .before .if1 .taken) .0)
+add-at c =
+    let good = c .before .before .before .before .before .before .before .before .before .before .before .before .before .before .before .before .before .before .good in
+    let more = c .before .before .before .before .before .before .before .before .before .before .before .before .before .more in
+    let if1 = c .before .before .before .before .before .before .before .before .before .before .before .before .if1 in
+    let byte = c .before .before .before .before .before .before .before .byte in
+    omega (arith, good .0, byte .ensures .taken, more-left _ _ _ _ (more .ensures) (if1 .taken) .0)
 
 loop-less : tie.Need-loop-less Inv-loop μ-loop
-loop-less c = omega (arith, more-left _ _ _ _ (c .before .before .before .before .before .before .before .before .before .before .before .before .more .ensures) (c .before .before .before .before .before .before .before .before .before .before .before .if1 .taken) .0)
+loop-less c =
+    let more = c .before .before .before .before .before .before .before .before .before .before .before .before .before .more in
+    let if1 = c .before .before .before .before .before .before .before .before .before .before .before .before .if1 in
+    omega (arith, more-left _ _ _ _ (more .ensures) (if1 .taken) .0)
 
 loop-again : tie.Need-loop-again Inv-loop μ-loop
-loop-again c = let m = more-left _ _ _ _ (c .before .before .before .before .before .before .before .before .before .before .before .before .more .ensures) (c .before .before .before .before .before .before .before .before .before .before .before .if1 .taken) in (one-taken _ _ _ _ _ _ _ (c .before .before .before .before .before .before .before .before .before .before .before .before .before .loop .inv .0) (m .1) _ _ _ (c .before .before .before .before .before .before .byte .ensures) (running _ _ _ (m .2)) (omega (arith, m .0)), search needs)
+loop-again c =
+    let l = c .before .before .before .before .before .before .before .before .before .before .before .before .before .before .loop in
+    let more = c .before .before .before .before .before .before .before .before .before .before .before .before .before .more in
+    let if1 = c .before .before .before .before .before .before .before .before .before .before .before .before .if1 in
+    let byte = c .before .before .before .before .before .before .before .byte in
+    let m = more-left _ _ _ _ (more .ensures) (if1 .taken) in
+    (one-taken _ _ _ _ _ _ _ (l .inv .0) (m .1) _ _ _ (byte .ensures) (running _ _ _ (m .2)) (omega (arith, m .0)), search needs)
 
 same-length : tie.Need-same-length Inv-loop μ-loop
 same-length c = c .before .before .loop .inv .1

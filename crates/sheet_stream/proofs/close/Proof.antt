@@ -4,10 +4,6 @@ use Rattle.sheet_stream.proofs.Within.{end-within}
 use borrow.Author.Needs.{needs}
 use Rattle.sheet_stream.proofs.close.Statement.{statement}
 use Rattle.sheet_stream.proofs.close.Tie as tie
-use Rattle.sheet_stream.proofs.close.Reads as reads
-use Rattle.sheet_stream.proofs.close.Lts as lts
-use Rattle.io.proofs.write_all.Reads as write-all-reads
-use Rattle.sheet_feed.proofs.finish.Reads as finish-reads
 
 finish-requires : tie.Need-finish-requires
 finish-requires c κs = search needs

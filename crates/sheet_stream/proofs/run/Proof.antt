@@ -1,17 +1,12 @@
 use mathlib.Core.Path.{_≡_}
 use lib.ListN.{length}
 use borrow.Author.Needs.{needs}
+use Rattle.accumulator_spec.specs.Totals.{totalSize}
 use Rattle.sheet_stream.proofs.run.Statement.{statement}
 use Rattle.sheet_stream.proofs.run.Tie as tie
-use Rattle.sheet_stream.proofs.run.Reads as reads
-use Rattle.sheet_stream.proofs.run.Lts as lts
-use Rattle.io.proofs.large_buffer.Reads as large-buffer-reads
-use Rattle.sheet_position.proofs.begin.Reads as begin-reads
-use Rattle.sheet_stream.proofs.close.Reads as close-reads
-use Rattle.sheet_stream.proofs.read_once.Reads as read-once-reads
 
 abbrev Inv-loop : tie.InvT-loop
-Inv-loop input output bytes₀ out₀ line₀ total₀ here₀ reads₀ bytes out line total here reads = (65536 ≡ length bytes) × (21 ≡ length total) × (65536 ≡ length out)
+Inv-loop input output bytes₀ out₀ line₀ total₀ here₀ reads₀ bytes out line total here reads = (65536 ≡ length bytes) × (totalSize ≡ length total) × (65536 ≡ length out)
 
 abbrev μ-loop : tie.MeasureT-loop
 μ-loop input output bytes₀ out₀ line₀ total₀ here₀ reads₀ bytes out line total here reads = reads
@@ -28,17 +23,38 @@ begin-requires c κs = search needs
 loop-holds : tie.Need-loop-holds Inv-loop μ-loop
 loop-holds c = search needs
 
-slice-aggregate-read-once : tie.Need-slice-aggregate-read-once Inv-loop μ-loop
-slice-aggregate-read-once c = search needs
+slice-aggregate-read : tie.Need-slice-aggregate-read Inv-loop μ-loop
+slice-aggregate-read c = search needs
 
-slice-aggregate-read-once-2 : tie.Need-slice-aggregate-read-once-2 Inv-loop μ-loop
-slice-aggregate-read-once-2 c = search needs
+read-requires : tie.Need-read-requires Inv-loop μ-loop
+read-requires c κs = search needs
 
-slice-aggregate-read-once-3 : tie.Need-slice-aggregate-read-once-3 Inv-loop μ-loop
-slice-aggregate-read-once-3 c = search needs
+returns : tie.Need-returns Inv-loop μ-loop
+returns c = search needs
 
-read-once-requires : tie.Need-read-once-requires Inv-loop μ-loop
-read-once-requires c κs = search needs
+slice-aggregate-count : tie.Need-slice-aggregate-count Inv-loop μ-loop
+slice-aggregate-count c = search needs
+
+count-requires : tie.Need-count-requires Inv-loop μ-loop
+count-requires c κs = search needs
+
+array-share-prefix-bytes : tie.Need-array-share-prefix-bytes Inv-loop μ-loop
+array-share-prefix-bytes c = search needs
+
+slice-aggregate-take : tie.Need-slice-aggregate-take Inv-loop μ-loop
+slice-aggregate-take c = search needs
+
+slice-aggregate-take-2 : tie.Need-slice-aggregate-take-2 Inv-loop μ-loop
+slice-aggregate-take-2 c = search needs
+
+slice-aggregate-take-3 : tie.Need-slice-aggregate-take-3 Inv-loop μ-loop
+slice-aggregate-take-3 c = search needs
+
+take-requires : tie.Need-take-requires Inv-loop μ-loop
+take-requires c κs = search needs
+
+returns-2 : tie.Need-returns-2 Inv-loop μ-loop
+returns-2 c = search needs
 
 sub-reads : tie.Need-sub-reads Inv-loop μ-loop
 sub-reads c = search needs
@@ -58,11 +74,8 @@ slice-aggregate-close-2 c = search needs
 close-requires : tie.Need-close-requires Inv-loop μ-loop
 close-requires c κs = search needs
 
-returns : tie.Need-returns Inv-loop μ-loop
-returns c = search needs
-
-returns-2 : tie.Need-returns-2 Inv-loop μ-loop
-returns-2 c = search needs
+returns-3 : tie.Need-returns-3 Inv-loop μ-loop
+returns-3 c = search needs
 
 pub run-spec : {M : Type 1} → statement M
 run-spec =
@@ -74,15 +87,21 @@ run-spec =
     large-buffer-requires-2
     begin-requires
     loop-holds
-    slice-aggregate-read-once
-    slice-aggregate-read-once-2
-    slice-aggregate-read-once-3
-    read-once-requires
+    slice-aggregate-read
+    read-requires
+    returns
+    slice-aggregate-count
+    count-requires
+    array-share-prefix-bytes
+    slice-aggregate-take
+    slice-aggregate-take-2
+    slice-aggregate-take-3
+    take-requires
+    returns-2
     sub-reads
     loop-less
     loop-again
     slice-aggregate-close
     slice-aggregate-close-2
     close-requires
-    returns
-    returns-2)
+    returns-3)

@@ -21,7 +21,11 @@ same-length : tie.Need-same-length
 same-length c = search needs
 
 returns-2 : tie.Need-returns-2
-returns-2 c = total-written _ _ _ _ _ _ (ap answerRead (sym (c .before .before .before .before .before .first .given .1)) ∙ c .before .before .before .before .before .before .before .read .ensures) (c .before .before .total .ensures)
+returns-2 c =
+    let read = c .before .before .before .before .before .before .before .read in
+    let first = c .before .before .before .before .before .first in
+    let total = c .before .before .total in
+    total-written _ _ _ _ _ _ (ap answerRead (sym (first .given .1)) ∙ read .ensures) (total .ensures)
 
 pub total-line-spec : {M : Type 1} → statement M
 total-line-spec =

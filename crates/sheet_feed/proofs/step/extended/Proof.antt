@@ -8,7 +8,9 @@ kept-requires : tie.Need-kept-requires
 kept-requires c κs = search needs
 
 returns : tie.Need-returns
-returns c = (refl, λ total. extended _ (c .before .before .pre .0) (c .before .before .pre .1) _ _ _ _ (c .kept .ensures) total)
+returns c =
+    let p = c .before .before .pre in
+    record { taken = refl; written = refl; state = λ total. extended _ (p .0) (p .1) _ _ _ _ (c .kept .ensures) total }
 
 pub extended-spec : {M : Type 1} → statement M
 extended-spec = tie.close (tie.spec kept-requires returns)

@@ -2,7 +2,7 @@ use mathlib.Core.Path.{refl}
 use native.Mathlib.Omega.{arith}
 use borrow.Author.Needs.{needs}
 use Rattle.transcript_spec.specs.Texts.{stopText}
-use Rattle.sheet_feed.proofs.Starting.{wrote}
+use Rattle.transcript_spec.proofs.Parts.{wrote}
 use Rattle.sheet_feed.proofs.step.stopped.Statement.{statement}
 use Rattle.sheet_feed.proofs.step.stopped.Tie as tie
 
@@ -13,7 +13,7 @@ same-length : tie.Need-same-length
 same-length c = search needs
 
 returns : tie.Need-returns
-returns c = (refl, wrote _ stopText _ _ (omega (arith, c .before .before .before .before .before .pre)) (c .before .before .stop .ensures .0) (c .before .before .stop .ensures .1))
+returns c = (refl, refl, wrote {text = stopText} (omega (arith, c .before .before .before .before .before .pre)) (c .before .before .stop .ensures))
 
 pub stopped-spec : {M : Type 1} → statement M
 stopped-spec = tie.close (tie.spec stop-requires same-length returns)

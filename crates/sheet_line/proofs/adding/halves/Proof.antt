@@ -16,7 +16,12 @@ same-length : tie.Need-same-length
 same-length c = search needs
 
 returns : tie.Need-returns
-returns c = both-added _ _ _ _ (c .before .before .before .before .before .before .before .before .before .both-finite .ensures) _ _ (c .before .before .before .before .before .before .before .before .if1 .taken) (c .before .before .before .before .before .before .add-pattern .ensures .1) (c .before .before .add-pattern2 .ensures .1)
+returns c =
+    let both-finite = c .before .before .before .before .before .before .before .before .before .both-finite in
+    let if1 = c .before .before .before .before .before .before .before .before .if1 in
+    let add-pattern = c .before .before .before .before .before .before .add-pattern in
+    let add-pattern2 = c .before .before .add-pattern2 in
+    both-added _ _ _ _ (both-finite .ensures) _ _ (if1 .taken) (add-pattern .ensures .1) (add-pattern2 .ensures .1)
 
 returns-2 : tie.Need-returns-2
 returns-2 c = none-added _ _ _ _ (c .before .both-finite .ensures) (c .if1 .left)

@@ -18,7 +18,8 @@ use Rattle.augmented_spec.specs.declared.Flags.{Flags}
 use Rattle.augmented_spec.specs.declared.Pair.{Pair}
 use Rattle.augmented_spec.specs.Pairs.{sumPair, differencePair, productPair}
 use Rattle.augmented_spec.specs.Cases.{Table}
-use Rattle.augmented_spec.specs.Direct.{Operation, sum, difference, product, operationNumber, operationOf, directPair, exactResult, none, I, OX, UX}
+use Rattle.augmented_spec.specs.Direct.{Operation, sum, difference, product, operationNumber, operationOf}
+use Rattle.augmented_spec.specs.Direct.{directPair, exactResult, none, I, OX, UX}
 
 -- ---- what the statements are about
 -- the sign that an exact zero takes (R3.4)

@@ -1,9 +1,11 @@
 // Exact totals of patterns and products of two patterns, in lent words (R6).
+pub mod numbers;
+
 use accumulator_spec::TOTAL_SIZE;
 ghost use mathlib.Core.Path.{_≡_};
 ghost use Rattle.accumulator_spec.specs.Totals.{isCleared, ofPattern, ofProduct, Adds, Clears, reading};
-ghost use Rattle.accumulator_add.specs.Inner.{numbered};
 ghost use Rattle.accumulator.specs.Answers.{answerCleared, answerAdded, answerRead};
+ghost use Rattle.accumulator.specs.Inner.{numbered};
 
 pub enum Cleared {
     Done,

@@ -1,16 +1,11 @@
--- The numbers that answers go by below the calls of `accumulator`, and what adding to a fit total promises.
+-- What adding to a fit total promises.
 use Prim.Native.Nat.{ℕ, suc}
 use mathlib.Core.Path.{_≡_}
 use mathlib.Core.Bool.{Bool, not, cond}
 use mathlib.Core.List.{List}
 use lib.Dec.{eqb}
 use lib.IntN.{ℤ, _+ℤ_}
-use Rattle.pattern_spec.specs.Answer.{Answer, refused, done}
 use Rattle.accumulator_spec.specs.Totals.{mostTerms, number, count, totalOf}
-
--- what a number says: 0 that the term was added, 5 to 8 a refusal (R8.7)
-abbrev pub numbered : ℕ → Answer (Unit {0})
-numbered n = cond (eqb n 0) (done tt) (cond (eqb n 5) (refused 5) (cond (eqb n 6) (refused 6) (cond (eqb n 7) (refused 7) (refused 8))))
 
 -- one term more can be counted
 abbrev pub hasRoom : List ℕ → Bool

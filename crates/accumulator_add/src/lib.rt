@@ -1,5 +1,4 @@
-// Terms of a total: patterns, and products of two (R6.2). A call answers by the refusal's number (R8.7), or by 0; free is which number
-// stands for 8 (`numbered`).
+// Terms of a total: patterns, and products of two (R6.2). A call answers by the refusal's number (R8.7), or by 0.
 use accumulator_spec::MOST_TERMS;
 use accumulator_spec::NUMBER_SIZE;
 use accumulator_words::fit::refusal;
@@ -10,11 +9,11 @@ ghost use mathlib.Core.Path.{_≡_};
 ghost use Prim.Native.Nat.{_*_, _^_, _≤_};
 ghost use lib.ListN.{length};
 ghost use Rattle.pattern_spec.specs.Exact.{int};
-ghost use Rattle.accumulator_spec.specs.Totals.{numberSize, totalSize, mostTerms, count, ofPattern, ofProduct, Adds};
-ghost use Rattle.accumulator_add.specs.Inner.{numbered, AddsNumber};
+ghost use Rattle.accumulator_spec.specs.Totals.{numberSize, totalSize, mostTerms, count, ofPattern, ofProduct, AddsNumbered};
+ghost use Rattle.accumulator_add.specs.Inner.{AddsNumber};
 
 pub fn add_pattern(total: &mut [u32], x: u32) -> u32
-    ensures { λ r. ⌜ Adds (now (total .entry)) (ofPattern x) (numbered r) (now (total .exit)) ⌝ }
+    ensures { λ r. ⌜ AddsNumbered (now (total .entry)) (ofPattern x) r (now (total .exit)) ⌝ }
 {
     let wrong = refusal(total);
     if wrong != 0 {
@@ -30,7 +29,7 @@ pub fn add_pattern(total: &mut [u32], x: u32) -> u32
 }
 
 pub fn add_product(total: &mut [u32], x: u32, y: u32) -> u32
-    ensures { λ r. ⌜ Adds (now (total .entry)) (ofProduct x y) (numbered r) (now (total .exit)) ⌝ }
+    ensures { λ r. ⌜ AddsNumbered (now (total .entry)) (ofProduct x y) r (now (total .exit)) ⌝ }
 {
     let wrong = refusal(total);
     if wrong != 0 {

@@ -1,5 +1,6 @@
 // The magnitude of a total's number, and its leading digits: what rounding asks of it.
 use accumulator_spec::NUMBER_SIZE;
+use accumulator_words::wide;
 use choose::choose;
 use choose::choose_pattern;
 ghost use mathlib.Core.Path.{_≡_};
@@ -64,10 +65,4 @@ pub fn first_digits(words: [u32; NUMBER_SIZE]) -> Digits
         }
     }
     Digits { sig, exp }
-}
-
-fn wide(w: u32) -> u64
-    ensures { λ r. ⌜ r ≡ w ⌝ }
-{
-    w as u64
 }

@@ -1,5 +1,6 @@
 -- All that specs/Theorems states, proved.
-use Rattle.accumulator_spec.specs.Theorems.{All}
+use mathlib.Core.Path.{refl}
+use Rattle.accumulator_spec.specs.Theorems.{TotalSizes, All}
 use Rattle.accumulator_spec.proofs.EachWord.{word-at, natural-words}
 use Rattle.accumulator_spec.proofs.TwosComplement.{words-formed, integer-held, words-unique}
 use Rattle.accumulator_spec.proofs.Zeros.{cleared-zeros}
@@ -11,8 +12,12 @@ use Rattle.accumulator_spec.proofs.Columns.{column-next, accepted-each,
 use Rattle.accumulator_spec.proofs.ReadTotal.{read-fit, read-column, read-finite, read-zero, read-rounded-to-zero}
 use Rattle.accumulator_spec.proofs.ReadPairs.{read-overflow, read-sum, read-product}
 
+pub total-sizes : TotalSizes
+total-sizes = (refl, refl, refl)
+
 pub all : All
 all = (
+  total-sizes,
   word-at,
   words-formed,
   natural-words,

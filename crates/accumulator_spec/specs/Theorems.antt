@@ -45,6 +45,10 @@ IntegerHeld = (k : ℕ) (z : ℤ) → 2 * natAbs z < 2 ^ (32 * k) → integer (w
 abbrev pub WordsUnique : Type 0
 WordsUnique = (ws : List ℕ) → Words ws → wordsOfInteger (length ws) (integer ws) ≡ ws
 
+-- R6.1, R6.3: a total has 21 words, 20 of them for its number, and takes 65,536 terms
+abbrev pub TotalSizes : Type 0
+TotalSizes = (totalSize ≡ 21) × (numberSize ≡ 20) × (mostTerms ≡ 65536)
+
 -- ---- the number and the count of a total (R6.1)
 -- the count stands behind the words of the number
 abbrev pub NumberAndCount : Type 0
@@ -232,9 +236,7 @@ ReadProduct =
 -- all of them
 abbrev pub All : Type 0
 All =
-    WordAt × WordsFormed × NaturalWords × IntegerHeld × WordsUnique
-    × NumberAndCount × NumberHeld × TotalUnique × TotalLandmarks × FitIs × LowestUnfit × ClearedZeros
-    × FiniteOperandsAre × PatternTerm × ProductTerm × TermLandmarks
-    × AddingRefused × AcceptedTerm × ExactAdding × RefusedTerm × ClearingIs
-    × ColumnNext × AcceptedEach × AllFiniteIs × ExactColumn × AnyOrder
+    TotalSizes × WordAt × WordsFormed × NaturalWords × IntegerHeld × WordsUnique × NumberAndCount × NumberHeld × TotalUnique
+    × TotalLandmarks × FitIs × LowestUnfit × ClearedZeros × FiniteOperandsAre × PatternTerm × ProductTerm × TermLandmarks × AddingRefused
+    × AcceptedTerm × ExactAdding × RefusedTerm × ClearingIs × ColumnNext × AcceptedEach × AllFiniteIs × ExactColumn × AnyOrder
     × ReadingRefused × ReadFit × ReadColumn × ExactBack × ReadFinite × ReadOverflow × ReadZero × ReadRoundedToZero × ReadSum × ReadProduct

@@ -9,7 +9,7 @@ use lib.ListN.{length, take, getD, replicate}
 use lib.IntN.{ℤ, pos, negsuc, natAbs, _+ℤ_}
 use Rattle.rounding_spec.specs.Format.{binary32}
 use Rattle.rounding_spec.specs.Value.{Value, finite, decode, encode, isFinite}
-use Rattle.pattern_spec.specs.Answer.{Answer, refused, done, isDone}
+use Rattle.pattern_spec.specs.Answer.{Answer, refused, done, isDone, refusalOf}
 use Rattle.pattern_spec.specs.Exact.{times, finer}
 pub use Rattle.pattern_spec.specs.Exact.{whole}
 use Rattle.augmented_spec.specs.Pairs.{Halves, pairOf}
@@ -86,6 +86,10 @@ afterAdding t x = cond (isDone (adding t x)) (totalOf (number t +ℤ whole (exac
 -- what a call that adds x to these words answers, and the words that it leaves
 abbrev pub Adds : List ℕ → Term → Answer (Unit {0}) → List ℕ → Type 0
 Adds before x answer after = (answer ≡ adding before x) × (after ≡ afterAdding before x)
+
+-- the same, with the answer as a number: the refusal's, or 0
+abbrev pub AddsNumbered : List ℕ → Term → ℕ → List ℕ → Type 0
+AddsNumbered before x n after = (n ≡ refusalOf (adding before x)) × (after ≡ afterAdding before x)
 
 -- ---- R8.9: clearing a total
 -- the answer: 5, other than a total's words; an unfit total is cleared too

@@ -43,7 +43,7 @@ fn carry(words: &mut [u32], minus: bool, sig: u64, shift: u16)
     }
 }
 
-fn wide(w: u32) -> u64
+pub fn wide(w: u32) -> u64
     ensures { λ r. ⌜ r ≡ w ⌝ }
 {
     w as u64

@@ -56,6 +56,22 @@ pub fn product(x: u32, y: u32) -> Pair
     }
 }
 
+// A product's flags alone.
+pub fn product_flags(x: u32, y: u32) -> Flags
+    ensures { λ r. ⌜ r ≡ productPair binary32 x y .flags ⌝ }
+{
+    let class = exact::product(x, y);
+    match class {
+        Class::Finite {
+            sign: s,
+            sig: m,
+            exp: e,
+        } => augmented_product::flags_of_number(s, m, e),
+        Class::Infinite(s) => raised::of_special(x, y, infinity(s)),
+        Class::NotANumber => raised::of_special(x, y, NAN),
+    }
+}
+
 // A finite first comes from finite operands, and no sum is inexact.
 fn pair(x: u32, y: u32, first: u32, second: u32) -> Pair
     requires { ⌜ (isFinite (decode binary32 first) ≡ true → flagsWithoutU x y first ≡ none) ⌝ }

@@ -7,6 +7,7 @@ use choose::choose_sign;
 use pattern::is_infinite;
 use pattern::zero_takes;
 use rounding::rest_pattern;
+use rounding::round;
 use rounding::round_with_rest;
 use rounding_spec::Ties;
 ghost use mathlib.Core.Path.{_≡_};
@@ -27,6 +28,39 @@ pub fn of_number(sign: bool, sig: u64, exp: u16) -> Pair
     } else {
         with_rest(sign, sig, exp)
     }
+}
+
+// The flags alone. Where the exponent is below 149, the product is too small to overflow.
+pub fn flags_of_number(sign: bool, sig: u64, exp: u16) -> Flags
+    requires { ⌜ sig < 2 ^ 48 ⌝ }
+    ensures { λ r. ⌜ r ≡ productAnswer sign (sig * 2 ^ exp) .flags ⌝ }
+{
+    if exp < 149 {
+        let under = underflows(sign, sig, exp);
+        return Flags {
+            invalid: false,
+            overflow: false,
+            underflow: under,
+            inexact: under,
+        };
+    }
+    let over = is_infinite(round(Ties::ToZero, sign, sig, exp));
+    Flags {
+        invalid: false,
+        overflow: over,
+        underflow: false,
+        inexact: over,
+    }
+}
+
+// Whether the rest, rounded again, leaves something over; on which side it is makes no difference.
+fn underflows(sign: bool, sig: u64, exp: u16) -> bool
+    requires { ⌜ (sig < 2 ^ 48) × (exp < 149) ⌝ }
+    ensures { λ r. ⌜ r ≡ productAnswer sign (sig * 2 ^ exp) .flags .underflow ⌝ }
+{
+    let first = round_with_rest(Ties::ToZero, sign, sig, exp);
+    let second = round_with_rest(Ties::ToZero, sign, first.rest, exp);
+    second.rest != 0
 }
 
 // The rest is a number of the format itself, and nothing is lost.

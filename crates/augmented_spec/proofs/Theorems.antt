@@ -17,7 +17,7 @@ use Rattle.augmented_spec.specs.Pairs.{secondOf, pairOf}
 use Rattle.augmented_spec.specs.Cases.{Table}
 use Rattle.augmented_spec.specs.Direct.{directPair}
 use Rattle.augmented_spec.specs.Theorems.{EveryFinite, DirectPairs, FirstRounded, FirstNearest, Overflow, SecondRounded, SecondNearest, HalfUnit, SumAddsUp, ProductAddsUp, FlagsOfFinite}
-use Rattle.augmented_spec.specs.Theorems.{NaNOperand, OppositeInfinities, ZeroTimesInfinity, InfiniteOperand, FlagSets, InfiniteTwice, NaNTwice, PatternWidth, All}
+use Rattle.augmented_spec.specs.Theorems.{OperationNumbers, NaNOperand, OppositeInfinities, ZeroTimesInfinity, InfiniteOperand, FlagSets, InfiniteTwice, NaNTwice, PatternWidth, All}
 use Rattle.augmented_spec.proofs.Second.{head, tail-le, first-finite, first-infinite}
 use Rattle.augmented_spec.proofs.Read.{exactFor, first, second, first-pattern, second-pattern, first-fits, second-fits, first-read}
 use Rattle.augmented_spec.proofs.Width.{encode-width}
@@ -127,6 +127,9 @@ pattern-width o F ok x y = (
   rw (second-pattern o F x y) (encode-width F (ok .0) (second o F x y) (second-fits o F x y)),
 )
 
+pub operation-numbers : OperationNumbers
+operation-numbers = (refl, refl, refl, refl, refl, refl)
+
 -- ---- the table of cases
 pub table : Table
 table = cases.table
@@ -135,6 +138,7 @@ pub all : All
 all = (
   every-finite,
   direct-pairs,
+  operation-numbers,
   first-rounded,
   first-nearest,
   overflow,

@@ -18,7 +18,8 @@ use Rattle.augmented_spec.specs.declared.Flags.{Flags}
 use Rattle.augmented_spec.specs.declared.Pair.{Pair}
 use Rattle.augmented_spec.specs.Pairs.{sumPair, differencePair, productPair}
 use Rattle.augmented_spec.specs.Cases.{Table}
-use Rattle.augmented_spec.specs.Direct.{Operation, sum, difference, product, directPair, exactResult, none, I, OX, UX}
+use Rattle.augmented_spec.specs.Direct.{Operation, sum, difference, product, operationNumber, operationOf}
+use Rattle.augmented_spec.specs.Direct.{directPair, exactResult, none, I, OX, UX}
 
 -- ---- what the statements are about
 -- the sign that an exact zero takes (R3.4)
@@ -58,6 +59,12 @@ EveryFinite =
 -- and their pairs are those of the contracts
 abbrev pub DirectPairs : Type 0
 DirectPairs = (directPair sum ≡ sumPair) × (directPair difference ≡ differencePair) × (directPair product ≡ productPair)
+
+-- the numbers of operations (R8.5)
+abbrev pub OperationNumbers : Type 0
+OperationNumbers =
+    (operationOf 1 ≡ sum) × (operationOf 2 ≡ difference) × (operationOf 3 ≡ product)
+    × (operationNumber sum ≡ 1) × (operationNumber difference ≡ 2) × (operationNumber product ≡ 3)
 
 -- ---- first
 -- the exact number, rounded once (R3.1, R3.2); a zero has the sign of R3.4
@@ -196,6 +203,6 @@ PatternWidth =
 -- ---- all of them, and the table of cases: `proofs/Theorems.antt` proves this
 abbrev pub All : Type 0
 All =
-    EveryFinite × DirectPairs × FirstRounded × FirstNearest × Overflow × SecondRounded × SecondNearest × HalfUnit × SumAddsUp
-    × ProductAddsUp × FlagsOfFinite × NaNOperand × OppositeInfinities × ZeroTimesInfinity × InfiniteOperand × FlagSets × InfiniteTwice
-    × NaNTwice × PatternWidth × Table
+    EveryFinite × DirectPairs × OperationNumbers × FirstRounded × FirstNearest × Overflow × SecondRounded × SecondNearest × HalfUnit
+    × SumAddsUp × ProductAddsUp × FlagsOfFinite × NaNOperand × OppositeInfinities × ZeroTimesInfinity × InfiniteOperand × FlagSets
+    × InfiniteTwice × NaNTwice × PatternWidth × Table

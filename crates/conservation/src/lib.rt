@@ -55,7 +55,8 @@ fn ask_all(
     requires { ⌜ (length (now xs) ≡ length (now operations)) × (length (now ys) ≡ length (now operations))
         × (length (now counts) ≡ length (now operations)) ⌝ }
     requires { ⌜ allWithin (now counts) (length (now words)) ≡ true ⌝ }
-    ensures { λ _. ⌜ record { words = now (words .exit); totals = record { first = now (first .exit); other = now (other .exit) } } ≡ afterAsking
+    ensures { λ _. ⌜ record { words = now (words .exit); totals = record { first = now (first .exit); other = now (other .exit) } }
+        ≡ afterAsking
         (record { operations = now (operations .entry); xs = now (xs .entry); ys = now (ys .entry); counts = now (counts .entry) })
         (record { words = now (words .entry); totals = record { first = now (first .entry); other = now (other .entry) } }) ⌝ }
 {

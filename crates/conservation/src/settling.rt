@@ -1,4 +1,6 @@
 // One question: its sheet, and its terms on both totals where it enters.
+use accumulator::numbers::add_pattern;
+use accumulator::numbers::add_product;
 use augmented_spec::DIFFERENCE;
 use augmented_spec::Pair;
 use augmented_spec::SUM;
@@ -11,7 +13,7 @@ ghost use Rattle.augmented_spec.specs.Direct.{operationOf};
 ghost use Rattle.accumulator_spec.specs.Totals.{ofPattern};
 ghost use Rattle.accumulator_spec.specs.Columns.{column};
 ghost use Rattle.conservation_spec.specs.Lists.{pairEnters, setTerms};
-ghost use Rattle.conservation_spec.specs.Replay.{Settles};
+ghost use Rattle.conservation_spec.specs.Inner.{Settles};
 
 // The terms of the foot are the filled pair's, never the operands'.
 pub fn settle(
@@ -53,8 +55,8 @@ fn enters(pair: Pair) -> bool
 fn add_two(x: u32, y: u32, total: &mut [u32])
     ensures { λ _. ⌜ now (total .exit) ≡ column (now (total .entry)) (ofPattern x ∷ ofPattern y ∷ []) ⌝ }
 {
-    accumulator::add_pattern(total, x);
-    accumulator::add_pattern(total, y);
+    add_pattern(total, x);
+    add_pattern(total, y);
 }
 
 fn add_set(operation: u32, x: u32, y: u32, total: &mut [u32])
@@ -69,7 +71,7 @@ fn add_set(operation: u32, x: u32, y: u32, total: &mut [u32])
         }
         // PRODUCT
         _ => {
-            accumulator::add_product(total, x, y);
+            add_product(total, x, y);
         }
     }
 }

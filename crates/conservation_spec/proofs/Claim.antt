@@ -58,7 +58,8 @@ module _ (z : ℤ) (m : ℕ) (few : m ≤ mostTerms) (small : natAbs z ≤ m * 2
 number-words : (z : ℤ) (m : ℕ) → take numberSize (totalOf z m) ≡ wordsOfInteger numberSize z
 number-words z m = take-at (wordsOfInteger numberSize z) (m ∷ []) numberSize (words-full z m)
 
-holds : (es : List Event) → questions es ≤ mostQuestions → natAbs (book es) ≤ firstTerms es * 2 ^ 554 → natAbs (book es) ≤ otherTerms es * 2 ^ 554 → BothHold (holding (book es) (firstTerms es) (otherTerms es)) es
+holds : (es : List Event) → questions es ≤ mostQuestions → natAbs (book es) ≤ firstTerms es * 2 ^ 554 → natAbs (book es) ≤ otherTerms es * 2 ^ 554
+    → BothHold (holding (book es) (firstTerms es) (otherTerms es)) es
 holds es h s s' =
     let e = entered es in
     let f : firstTerms es ≤ mostTerms = omega arith in

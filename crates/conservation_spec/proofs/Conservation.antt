@@ -73,7 +73,8 @@ joined z d m n c c' e es s k =
     let f : m + c + firstTerms es ≡ m + firstTerms (e ∷ es) = omega (arith, s .firstMore) in
     let o : n + c' + otherTerms es ≡ n + otherTerms (e ∷ es) = omega (arith, s .otherMore) in
     record {
-      is = ap (λ (t : Totals). afterEvents t es) (s .leaves) ∙ k .is ∙ ap₂ (λ (w : ℤ) (i : ℕ). holding w i (n + c' + otherTerms es)) b f ∙ ap (holding (z +ℤ book (e ∷ es)) (m + firstTerms (e ∷ es))) o;
+      is = ap (λ (t : Totals). afterEvents t es) (s .leaves) ∙ k .is ∙ ap₂ (λ (w : ℤ) (i : ℕ). holding w i (n + c' + otherTerms es)) b f
+          ∙ ap (holding (z +ℤ book (e ∷ es)) (m + firstTerms (e ∷ es))) o;
       met = (s .metNow, subst (λ (t : Totals). Met t es) (sym (s .leaves)) (k .met));
       firstSmall = le-trans (le-of-eq (ap natAbs (sym b))) (le-trans (k .firstSmall) (le-of-eq (ap (λ (i : ℕ). i * 2 ^ 554) f)));
       otherSmall = le-trans (le-of-eq (ap natAbs (sym b))) (le-trans (k .otherSmall) (le-of-eq (ap (λ (i : ℕ). i * 2 ^ 554) o)));
@@ -83,7 +84,8 @@ joined z d m n c c' e es s k =
 same : (z : ℤ) (m n : ℕ) → holding z m n ≡ holding (z +ℤ pos 0) (m + 0) (n + 0)
 same z m n = sym (ap₂ (λ (w : ℤ) (i : ℕ). holding w i (n + 0)) (+ℤ-idr z) (add-zero m) ∙ ap (holding z m) (add-zero n))
 
-idle : (z : ℤ) (m n : ℕ) (e : Event) (es : List Event) → natAbs z ≤ m * 2 ^ 554 → natAbs z ≤ n * 2 ^ 554 → afterEvent (holding z m n) e ≡ holding z m n → MetNow (holding z m n) e → book (e ∷ es) ≡ pos 0 +ℤ book es
+idle : (z : ℤ) (m n : ℕ) (e : Event) (es : List Event) → natAbs z ≤ m * 2 ^ 554 → natAbs z ≤ n * 2 ^ 554 → afterEvent (holding z m n) e ≡ holding z m n → MetNow (holding z m n) e
+    → book (e ∷ es) ≡ pos 0 +ℤ book es
     → firstTerms (e ∷ es) ≡ firstTerms es → otherTerms (e ∷ es) ≡ otherTerms es → Step z (pos 0) m n 0 0 e es
 idle z m n e es s s' a k b f o =
     record {
@@ -139,7 +141,8 @@ module _ (z : ℤ) (m n : ℕ) (es : List Event) (few : m ≤ mostTerms) (few' :
       idle z m n (asks q) es small small' u (λ (f : enters q ≡ true). absurd (true≢false (sym f ∙ e)), λ (f : enters q ≡ false). u) (rw e) (rw e (omega arith)) (rw e (omega arith))
 
   entering-step : (q : Posed) → q .y < 2 ^ 32 → enters q ≡ true → m + 2 ≤ mostTerms → n + 2 ≤ mostTerms
-      → Step z (exactOfPatterns (operationFor q) (q .x) (q .y)) m n (2 * (oneSum (operationFor q) + oneProduct (operationFor q))) (2 * oneSum (operationFor q) + oneProduct (operationFor q)) (asks q) es
+      → Step z (exactOfPatterns (operationFor q) (q .x) (q .y)) m n (2 * (oneSum (operationFor q) + oneProduct (operationFor q))) (2 * oneSum (operationFor q) + oneProduct (operationFor q)) (asks q)
+      es
   unfolding book enteringSums enteringProducts
   entering-step q w e h h' =
       let k = entering q w e in
@@ -149,7 +152,8 @@ module _ (z : ℤ) (m n : ℕ) (es : List Event) (few : m ≤ mostTerms) (few' :
       let b = exact-from (setTerms (operationFor q) (q .x) (q .y)) z n (omega (arith, k .setCount, most)) small' (k .setFinite) in
       let f : column (totalOf z m) (footTerms (sheetFor q)) ≡ totalOf (z +ℤ exactOfPatterns (operationFor q) (q .x) (q .y)) (m + 2 * (oneSum (operationFor q) + oneProduct (operationFor q))) =
       a .is ∙ ap₂ (λ (d : ℤ) (i : ℕ). totalOf (z +ℤ d) (m + i)) (k .footAdds) (k .footCount) in
-      let g : column (totalOf z n) (setTerms (operationFor q) (q .x) (q .y)) ≡ totalOf (z +ℤ exactOfPatterns (operationFor q) (q .x) (q .y)) (n + (2 * oneSum (operationFor q) + oneProduct (operationFor q))) =
+      let g : column (totalOf z n) (setTerms (operationFor q) (q .x) (q .y)) ≡ totalOf (z +ℤ exactOfPatterns (operationFor q) (q .x) (q .y))
+      (n + (2 * oneSum (operationFor q) + oneProduct (operationFor q))) =
       b .is ∙ ap₂ (λ (d : ℤ) (i : ℕ). totalOf (z +ℤ d) (n + i)) (k .setAdds) (k .setCount) in
       record {
         leaves = rw (e, f, g);
@@ -178,15 +182,18 @@ module _ (z : ℤ) (m n : ℕ) (es : List Event) (few : m ≤ mostTerms) (few' :
           }
 
 -- ---- all of them, while there is room: k questions so far, two terms each at most
-pub kept : (es : List Event) (z : ℤ) (m n k : ℕ) → m ≤ 2 * k → n ≤ 2 * k → k + questions es ≤ mostQuestions → natAbs z ≤ m * 2 ^ 554 → natAbs z ≤ n * 2 ^ 554 → Allowed (holding z m n) es → Kept z m n es
+pub kept : (es : List Event) (z : ℤ) (m n k : ℕ) → m ≤ 2 * k → n ≤ 2 * k → k + questions es ≤ mostQuestions → natAbs z ≤ m * 2 ^ 554 → natAbs z ≤ n * 2 ^ 554 → Allowed (holding z m n) es
+    → Kept z m n es
 unfolding afterEvents book questions enteringSums enteringProducts Allowed Met
 kept [] z m n k a b c s s' h = record { is = same z m n; met = tt; firstSmall = rw (+ℤ-idr z, add-zero m) s; otherSmall = rw (+ℤ-idr z, add-zero n) s' }
 kept (reads side ∷ es) z m n k a b c s s' h =
     let t = reading-step z m n es (omega arith) (omega arith) s s' side in
-    joined z (pos 0) m n 0 0 (reads side) es t (kept es (z +ℤ pos 0) (m + 0) (n + 0) k (omega arith) (omega arith) c (t .firstRoom) (t .otherRoom) (subst (λ (v : Totals). Allowed v es) (t .leaves) (h .1)))
+    joined z (pos 0) m n 0 0 (reads side) es t (kept es (z +ℤ pos 0) (m + 0) (n + 0) k (omega arith) (omega arith) c (t .firstRoom) (t .otherRoom)
+    (subst (λ (v : Totals). Allowed v es) (t .leaves) (h .1)))
 kept (adds side x ∷ es) z m n k a b c s s' h =
     let t = adding-step z m n es (omega arith) (omega arith) s s' side x (h .0) in
-    joined z (pos 0) m n 0 0 (adds side x) es t (kept es (z +ℤ pos 0) (m + 0) (n + 0) k (omega arith) (omega arith) c (t .firstRoom) (t .otherRoom) (subst (λ (v : Totals). Allowed v es) (t .leaves) (h .1)))
+    joined z (pos 0) m n 0 0 (adds side x) es t (kept es (z +ℤ pos 0) (m + 0) (n + 0) k (omega arith) (omega arith) c (t .firstRoom) (t .otherRoom)
+    (subst (λ (v : Totals). Allowed v es) (t .leaves) (h .1)))
 kept (asks q ∷ es) z m n k a b c s s' h =
     let t = question-step z m n es (omega arith) (omega arith) s s' q (h .0 .1) (omega arith) (omega arith) in
     joined z (t .amount) m n (t .more) (t .more') (asks q) es (t .step)

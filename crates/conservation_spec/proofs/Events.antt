@@ -8,7 +8,8 @@ use lib.ListN.{length, drop, getD, drop-of-length-le}
 use lib.Seq.{drop-cons}
 use Rattle.accumulator_spec.specs.Words.{Words}
 use Rattle.conservation_spec.specs.Lists.{Posed, Totals, afterQuestion, afterEvents, questions}
-use Rattle.conservation_spec.specs.Replay.{Asking, Lent, Entry, entries, posedOn, wordsAfter, eventsOf, wordsAfterAll, afterAsking, Settles}
+use Rattle.conservation_spec.specs.Replay.{Asking, Lent, Entry, entries, posedOn, wordsAfter, eventsOf, wordsAfterAll, afterAsking}
+use Rattle.conservation_spec.specs.Inner.{Settles}
 use Rattle.conservation_spec.specs.Theorems.{Allowed}
 
 -- ---- as many questions as operation numbers

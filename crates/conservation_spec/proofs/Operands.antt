@@ -98,7 +98,8 @@ scaled-sum : (s : Bool) (a : ℕ) (t : Bool) (b G : ℕ) → 0 < G → int s a *
 scaled-sum s a t b G h =
     let e = plus-exact s a t b in
     let f = plus-exact s (a * G) t (b * G) in
-    ap₂ _+ℤ_ (sym (int-scale s a G)) (sym (int-scale t b G)) ∙ sym (f .3) ∙ ap whole (sym (f .2) ∙ sum-scale s a t b G h (e .0) (e .1) (e .2)) ∙ int-scale (e .0) (e .1) G ∙ ap (λ (k : ℤ). k *ℤ pos G) (e .3)
+    ap₂ _+ℤ_ (sym (int-scale s a G)) (sym (int-scale t b G)) ∙ sym (f .3) ∙ ap whole (sym (f .2) ∙ sum-scale s a t b G h (e .0) (e .1) (e .2)) ∙ int-scale (e .0) (e .1) G
+    ∙ ap (λ (k : ℤ). k *ℤ pos G) (e .3)
 
 module _ (x y : ℕ) (s : Bool) (a : ℕ) (t : Bool) (b : ℕ) (width : y < 2 ^ 32) (left : decode binary32 x ≡ finite s a) (right : decode binary32 y ≡ finite t b) where
   pub result-is : (o : Operation) → exactOfPatterns o x y ≡ exactResult o binary32 (int s a) (int t b)

@@ -14,7 +14,7 @@ use Rattle.worksheet_spec.proofs.Theorems.{filled-pair}
 use Rattle.accumulator_spec.specs.Totals.{Term, ofPattern, ofProduct, afterAdding}
 use Rattle.accumulator_spec.specs.Columns.{column}
 use Rattle.conservation_spec.specs.Lists.{Posed, sheetFor, operationFor, directFor, pairEnters, enters, setTerms, Totals}
-use Rattle.conservation_spec.specs.Replay.{Settles}
+use Rattle.conservation_spec.specs.Inner.{Settles}
 
 module _ (q : Posed) where
   -- the pair that came back is the direct pair

@@ -1,5 +1,6 @@
 -- The theorems of `specs/Theorems.antt`.
-use Rattle.conservation_spec.specs.Theorems.{Conserved, EntersExactly, Replayed, ReplayRefused, ReplayUnchanged, All}
+use mathlib.Core.Path.{refl}
+use Rattle.conservation_spec.specs.Theorems.{QuestionLimit, Conserved, EntersExactly, Replayed, ReplayRefused, ReplayUnchanged, All}
 use Rattle.conservation_spec.proofs.Claim as claim
 use Rattle.conservation_spec.proofs.Outcome as outcome
 use Rattle.conservation_spec.proofs.Refusals as refusals
@@ -19,5 +20,8 @@ replay-refused = refusals.replay-refused
 pub replay-unchanged : ReplayUnchanged
 replay-unchanged = refusals.replay-unchanged
 
+pub question-limit : QuestionLimit
+question-limit = refl
+
 pub all : All
-all = (conserved, enters-exactly, replayed, replay-refused, replay-unchanged)
+all = (question-limit, conserved, enters-exactly, replayed, replay-refused, replay-unchanged)

@@ -1,4 +1,5 @@
 pub mod Lists
 pub mod Claim
 pub mod Replay
+pub mod Inner
 pub mod Theorems

@@ -8,7 +8,7 @@ use lib.ListN.{length, take, drop}
 use Rattle.pattern_spec.specs.Answer.{Answer, refused, done, isDone}
 use Rattle.worksheet_spec.specs.Filling.{afterFilling}
 use Rattle.accumulator_spec.specs.Totals.{isCleared}
-use Rattle.conservation_spec.specs.Lists.{mostQuestions, Posed, Totals, Event, asks, afterQuestion, afterEvents}
+use Rattle.conservation_spec.specs.Lists.{mostQuestions, Posed, Totals, Event, asks, afterEvents}
 use Rattle.conservation_spec.specs.Claim.{Conserves}
 
 -- ---- what is lent
@@ -94,8 +94,3 @@ pub record Replays (q : Asking) (before : Lent) (answer : Answer (Unit {0})) (af
   pub answered : answer ≡ replaying q before
   pub left : after ≡ afterReplaying q before
   pub conserves : Conserves answer (eventsOf (entriesOf q) (before .words)) (before .totals) (after .totals)
-
--- ---- one question of it: its sheet in the lent words, and its terms on both totals
-abbrev pub Settles : Posed → Totals → List ℕ → Totals → Type 0
-Settles q before words after =
-    (words ≡ afterFilling (q .operation) (q .x) (q .y) (q .words)) × (after ≡ afterQuestion q before)

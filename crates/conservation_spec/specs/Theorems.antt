@@ -72,6 +72,10 @@ ReplayRefused =
 abbrev pub ReplayUnchanged : Type 0
 ReplayUnchanged = (q : Asking) (l : Lent) (m : ℕ) → replaying q l ≡ refused m → afterReplaying q l ≡ l
 
+-- ---- how many questions a list has at most (R7.6)
+abbrev pub QuestionLimit : Type 0
+QuestionLimit = mostQuestions ≡ 32768
+
 -- ---- all of them
 abbrev pub All : Type 0
-All = Conserved × EntersExactly × Replayed × ReplayRefused × ReplayUnchanged
+All = QuestionLimit × Conserved × EntersExactly × Replayed × ReplayRefused × ReplayUnchanged

@@ -3,7 +3,7 @@ use Prim.Native.Nat.{ℕ}
 use mathlib.Core.Path.{_≡_}
 use mathlib.Core.List.{List}
 use Rattle.pattern_spec.specs.Answer.{Answer, refused, done, refusalOf}
-use Rattle.accumulator_spec.specs.Totals.{Term, TwoPatterns, adding, afterAdding, clearing, afterClearing}
+use Rattle.accumulator_spec.specs.Totals.{TwoPatterns, clearing, afterClearing}
 use Rattle.jirmeklo.specs.declared.totals.FlatReading.{FlatReading}
 
 -- two zeros where no pair is read, told from a pair of zeros by the refusal's number
@@ -15,9 +15,6 @@ abbrev pub readingNumbers : Answer TwoPatterns → FlatReading
 readingNumbers (refused n) = noReading n
 readingNumbers (done p) = record { refusal = 0; first = p .first; second = p .second }
 
--- ---- r is answered, and the total's words are `after` where they were `before` (R8.9, R8.7)
-abbrev pub Clears : ℕ → List ℕ → List ℕ → Type 0
-Clears r before after = (r ≡ refusalOf (clearing before)) × (after ≡ afterClearing before)
-
-abbrev pub Adds : Term → ℕ → List ℕ → List ℕ → Type 0
-Adds x r before after = (r ≡ refusalOf (adding before x)) × (after ≡ afterAdding before x)
+-- what a call that clears these words answers, the refusal's number or 0, and the words that it leaves (R8.9)
+abbrev pub ClearsNumbered : List ℕ → ℕ → List ℕ → Type 0
+ClearsNumbered before n after = (n ≡ refusalOf (clearing before)) × (after ≡ afterClearing before)

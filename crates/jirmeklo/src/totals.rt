@@ -1,12 +1,9 @@
 // Column totals for programs in C. Lent words are a pointer and a count.
-use accumulator::Added;
 use accumulator::Cleared;
 use accumulator::Reading;
 ghost use mathlib.Core.Path.{_≡_};
-ghost use Rattle.pattern_spec.specs.Answer.{refusalOf};
-ghost use Rattle.accumulator_spec.specs.Totals.{ofPattern, ofProduct, reading};
-ghost use Rattle.accumulator.specs.Answers.{answerAdded};
-ghost use Rattle.jirmeklo.specs.Totals.{noReading, readingNumbers, Clears, Adds};
+ghost use Rattle.accumulator_spec.specs.Totals.{ofPattern, ofProduct, AddsNumbered, reading};
+ghost use Rattle.jirmeklo.specs.Totals.{noReading, readingNumbers, ClearsNumbered};
 
 // The refusal's number and two zeros; or 0 and the pair.
 #[repr(C)]
@@ -18,7 +15,7 @@ pub struct FlatReading {
 
 #[no_mangle]
 pub extern "C" fn jirmeklo_clear(total: &mut [u32]) -> u32
-    ensures { λ r. ⌜ Clears r (now (total .entry)) (now (total .exit)) ⌝ }
+    ensures { λ r. ⌜ ClearsNumbered (now (total .entry)) r (now (total .exit)) ⌝ }
 {
     let answer = accumulator::clear(total);
     match answer {
@@ -29,16 +26,16 @@ pub extern "C" fn jirmeklo_clear(total: &mut [u32]) -> u32
 
 #[no_mangle]
 pub extern "C" fn jirmeklo_add_pattern(total: &mut [u32], x: u32) -> u32
-    ensures { λ r. ⌜ Adds (ofPattern x) r (now (total .entry)) (now (total .exit)) ⌝ }
+    ensures { λ r. ⌜ AddsNumbered (now (total .entry)) (ofPattern x) r (now (total .exit)) ⌝ }
 {
-    refusal_number(accumulator::add_pattern(total, x))
+    accumulator::numbers::add_pattern(total, x)
 }
 
 #[no_mangle]
 pub extern "C" fn jirmeklo_add_product(total: &mut [u32], x: u32, y: u32) -> u32
-    ensures { λ r. ⌜ Adds (ofProduct x y) r (now (total .entry)) (now (total .exit)) ⌝ }
+    ensures { λ r. ⌜ AddsNumbered (now (total .entry)) (ofProduct x y) r (now (total .exit)) ⌝ }
 {
-    refusal_number(accumulator::add_product(total, x, y))
+    accumulator::numbers::add_product(total, x, y)
 }
 
 #[no_mangle]
@@ -54,18 +51,6 @@ pub extern "C" fn jirmeklo_read(total: &[u32]) -> FlatReading
         },
         Reading::Length => refused(5),
         Reading::Unfit => refused(6),
-    }
-}
-
-fn refusal_number(answer: Added) -> u32
-    ensures { λ r. ⌜ r ≡ refusalOf (answerAdded answer) ⌝ }
-{
-    match answer {
-        Added::Done => 0,
-        Added::Length => 5,
-        Added::Unfit => 6,
-        Added::NotFinite => 7,
-        Added::Full => 8,
     }
 }
 

@@ -3,6 +3,7 @@ use mathlib.Core.Path.{_≡_}
 use Prim.Native.Nat.{ℕ}
 use borrow.Author.Tests.{ne-eqb}
 use Rattle.rounding_spec.specs.Format.{binary32}
+use Rattle.augmented_spec.specs.declared.Flags.{Flags}
 use Rattle.augmented_spec.specs.declared.Pair.{Pair}
 use Rattle.augmented_spec.specs.Pairs.{sumPair, differencePair, productPair}
 use Rattle.augmented_spec.specs.Direct.{directPair, operationOf}
@@ -37,6 +38,6 @@ module _ (o x y : ℕ) where
     unfolding directPair
     difference-flags e k = rw (e, k)
 
-    pub product-flags : (o ≡ 1 → ⊥) → (o ≡ 2 → ⊥) → p ≡ productPair binary32 x y → p .flags ≡ directPair (operationOf o) binary32 x y .flags
-    unfolding directPair
-    product-flags h l k = rw (ne-eqb o 1 h, ne-eqb o 2 l, k)
+  pub product-flags : {f : Flags} → (o ≡ 1 → ⊥) → (o ≡ 2 → ⊥) → f ≡ productPair binary32 x y .flags → f ≡ directPair (operationOf o) binary32 x y .flags
+  unfolding directPair
+  product-flags h l k = rw (ne-eqb o 1 h, ne-eqb o 2 l, k)

@@ -39,7 +39,8 @@ flat-append [] ls = refl
 flat-append (k ∷ ks) ls = rw (flat-append ks ls, append-assoc)
 
 -- rows that are filled, and blank ones
-rowsWith-words : (ls : List Line) (full : Rows) (k : ℕ) → length ls ≤ k → flat (rowsWith (full ++ blank k) (length full) ls) ≡ flat full ++ (linesWords ls ++ replicate (lineSize * k - lineSize * length ls) 0)
+rowsWith-words : (ls : List Line) (full : Rows) (k : ℕ) → length ls ≤ k
+    → flat (rowsWith (full ++ blank k) (length full) ls) ≡ flat full ++ (linesWords ls ++ replicate (lineSize * k - lineSize * length ls) 0)
 unfolding rowsWith linesWords
 rowsWith-words [] full k h =
     let all : lineSize * k ≡ lineSize * k - 0 = omega arith in
@@ -83,6 +84,7 @@ module _ (o x y : ℕ) (words : List ℕ) where
     fills-words e w =
         let r = answers e in (
           r,
-          w ∙ ap (λ (ws : List ℕ). ws ++ drop sheetSize words) (ap flat (f .rows) ∙ sheet-words (sheetOf (operationOf o) x y .lines) (line-count (operationOf o) x y .1)) ∙ sym (filled-words o x y words _ _ (sym r)),
+          w ∙ ap (λ (ws : List ℕ). ws ++ drop sheetSize words) (ap flat (f .rows) ∙ sheet-words (sheetOf (operationOf o) x y .lines) (line-count (operationOf o) x y .1))
+              ∙ sym (filled-words o x y words _ _ (sym r)),
           subst (HasDirectPair o x y) (sym r) (filled-pair o x y words),
         )

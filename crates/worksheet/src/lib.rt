@@ -96,9 +96,6 @@ fn flags(operation: u32, x: u32, y: u32) -> Flags
             direct.flags
         }
         // PRODUCT
-        _ => {
-            let direct = augmented::product(x, y);
-            direct.flags
-        }
+        _ => augmented::product_flags(x, y),
     }
 }

@@ -7,7 +7,7 @@ use pattern::is_zero;
 ghost use mathlib.Core.Path.{_≡_};
 ghost use Rattle.worksheet_spec.specs.Lines.{value, equal};
 ghost use Rattle.worksheet_spec.specs.Sheets.{swaps, atEdge, overflows, tinyTie, restTie, branchOf};
-ghost use Rattle.worksheet_choices.specs.Branches.{branchCase};
+ghost use Rattle.worksheet_choices.specs.Inner.{branchCase};
 
 // How a product goes on, by its first line.
 pub enum Branch {

@@ -6,7 +6,8 @@ use Prim.Native.Nat.{ℕ}
 use native.Mathlib.Omega.{arith}
 use Rattle.worksheet_spec.specs.Constants.{half, twoTo24, twoTo48, twoToMinus24, plusZero, smallest}
 use Rattle.worksheet_spec.specs.Lines.{add, subtract, multiply, line, fusedLine, value, minus, copySign}
-use Rattle.worksheet_spec.specs.Sheets.{recomposition, zeroFinish, recomposedFinished, edgeFinish, infiniteProduct, lowered, lowering, tinyTie, tinyProduct, restTie, scaledDown, middleProduct, otherProduct, Branch, branchOf, productBy, productSheet}
+use Rattle.worksheet_spec.specs.Sheets.{recomposition, zeroFinish, recomposedFinished, edgeFinish, infiniteProduct, lowered, lowering, tinyTie, tinyProduct, restTie, scaledDown, middleProduct}
+use Rattle.worksheet_spec.specs.Sheets.{otherProduct, Branch, branchOf, productBy, productSheet}
 use Rattle.worksheet_lines.specs.Inner.{Written, Follows}
 use Rattle.worksheet_lines.specs.declared.Foot.{Foot}
 use Rattle.worksheet_lines.proofs.Rows.{Rows, Standing, none-yet, foot-follows, then-line, then-lines, then-sheet}
@@ -26,7 +27,8 @@ module _ (x y a : ℕ) {l₀ l₁ l₂ l₃ l₄ l₅ l₆ l₇ l₈ : Rows} {m 
     (e : f ≡ minus t₁) (c₄ : Written l₃ l₄ 4 (fusedLine m n f t₂)) (c₅ : Written l₄ l₅ 5 (line multiply twoTo48 a g)) (c₆ : Written l₅ l₆ 6 (line subtract t₁ g t₃))
     (c₇ : Written l₆ l₇ 7 (line add t₂ t₃ z)) (c₈ : Written l₇ l₈ 8 (line subtract z t₃ w)) where
   eight-lines : Standing l₀ l₈ 1
-      (line multiply twoTo24 x m ∷ line multiply twoTo24 y n ∷ line multiply m n t₁ ∷ fusedLine m n f t₂ ∷ line multiply twoTo48 a g ∷ line subtract t₁ g t₃ ∷ line add t₂ t₃ z ∷ line subtract z t₃ w ∷ [])
+      (line multiply twoTo24 x m ∷ line multiply twoTo24 y n ∷ line multiply m n t₁ ∷ fusedLine m n f t₂ ∷ line multiply twoTo48 a g ∷ line subtract t₁ g t₃ ∷ line add t₂ t₃ z ∷ line subtract z t₃
+      w ∷ [])
   eight-lines = then-line (then-line (then-line (then-line (then-line (then-line (then-line (then-line (none-yet l₀ 1) c₁ refl) c₂ refl) c₃ refl) c₄ refl) c₅ refl) c₆ refl) c₇ refl) c₈ refl
 
   pub lowered-tiny : {l₉ l₁₀ : Rows} {u first second : ℕ} → tinyTie a z w t₂ ≡ true → u ≡ copySign smallest a → Written l₈ l₉ 9 (line subtract a u first)
@@ -36,7 +38,8 @@ module _ (x y a : ℕ) {l₀ l₁ l₂ l₃ l₄ l₅ l₆ l₇ l₈ : Rows} {m 
       rw (← c₁ .gives .0, ← c₂ .gives .0, ← c₃ .gives .0, ← e, ← c₄ .gives, ← c₅ .gives .0, ← c₆ .gives .0, ← c₇ .gives .0, ← c₈ .gives .0, tie, ← k, ← c₉ .gives .0, ← c₁₀ .gives .0)
       (then-sheet eight-lines (then-sheet (then-line (none-yet l₈ 9) c₉ refl) (then-sheet (then-line (none-yet l₉ 10) c₁₀ refl) (foot-follows l₁₀ 11 _ _) refl) refl) refl)
 
-  pub tiny : {l₉ : Rows} {second : ℕ} → tinyTie a z w t₂ ≡ false → Written l₈ l₉ 9 (line multiply plusZero a second) → Follows l₀ l₉ 1 (tinyProduct x y a) (record { first = a; second = second; next = 10 })
+  pub tiny : {l₉ : Rows} {second : ℕ} → tinyTie a z w t₂ ≡ false → Written l₈ l₉ 9 (line multiply plusZero a second)
+      → Follows l₀ l₉ 1 (tinyProduct x y a) (record { first = a; second = second; next = 10 })
   unfolding tinyProduct
   tiny {l₉} tie c₉ =
       rw (← c₁ .gives .0, ← c₂ .gives .0, ← c₃ .gives .0, ← e, ← c₄ .gives, ← c₅ .gives .0, ← c₆ .gives .0, ← c₇ .gives .0, ← c₈ .gives .0, tie, ← c₉ .gives .0)

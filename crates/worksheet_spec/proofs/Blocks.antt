@@ -119,7 +119,8 @@ unfolding recomposition
 recomposition-none a b h =
     let z = mulStep psi a in
     let d = subStep z a in
-    let di : value d ≡ nan = sub-decodes z a ∙ ap (λ (v : Value). subValue binary32 v (value a)) (mul-decodes psi a ∙ ap (λ (v : Value). mulValue binary32 v (value a)) psi-value) ∙ no-difference (value a) h in
+    let di : value d ≡ nan = sub-decodes z a ∙ ap (λ (v : Value). subValue binary32 v (value a)) (mul-decodes psi a ∙ ap (λ (v : Value). mulValue binary32 v (value a)) psi-value)
+    ∙ no-difference (value a) h in
     let c : equal (mulStep two b) d ≡ false = ap (same (value (mulStep two b))) di ∙ same-nan (value (mulStep two b)) in
     rw c (refl, refl)
 
@@ -152,10 +153,12 @@ module _ (a a' b' : ℕ) where
 
     pub edge-foot : (N : ℕ) → value a ≡ infinite s → Pattern a → EdgePair binary32 s N (value a') (value b') → Foots (finite s N) (edgeFinish a a' b')
     edge-foot N ai wa p =
-        foots s N (edgeFinish a a' b') (rw edge-first (width-cond (atEdge a' b') (mulStep kappa a') a (mul-width kappa a') wa)) (rw edge-second (width-cond (atEdge a' b') (mulStep minusTwo b') a (mul-width minusTwo b') wa)) (
+        foots s N (edgeFinish a a' b') (rw edge-first (width-cond (atEdge a' b') (mulStep kappa a') a (mul-width kappa a') wa))
+        (rw edge-second (width-cond (atEdge a' b') (mulStep minusTwo b') a (mul-width minusTwo b') wa)) (
           ap value edge-first ∙ value-cond (atEdge a' b') (mulStep kappa a') a ∙ cond-eq (atEdge a' b') (mul-decodes kappa a' ∙ ap (λ (v : Value). mulValue binary32 v (value a')) kappa-value) ai
               ∙ ap (λ (c : Bool). cond c (mulValue binary32 (factors.kappa binary32) (value a')) (infinite s)) test-is ∙ p .0,
-          ap value edge-second ∙ value-cond (atEdge a' b') (mulStep minusTwo b') a ∙ cond-eq (atEdge a' b') (mul-decodes minusTwo b' ∙ ap (λ (v : Value). mulValue binary32 v (value b')) minus-two-value) ai
+          ap value edge-second ∙ value-cond (atEdge a' b') (mulStep minusTwo b') a
+              ∙ cond-eq (atEdge a' b') (mul-decodes minusTwo b' ∙ ap (λ (v : Value). mulValue binary32 v (value b')) minus-two-value) ai
               ∙ ap (λ (c : Bool). cond c (mulValue binary32 (factors.minusTwo binary32) (value b')) (infinite s)) test-is ∙ p .1,
         )
 
@@ -170,7 +173,8 @@ module _ (a a' b' : ℕ) where
       none (finite s m) b k h = absurd (subst (λ (b : Bool). T b) h tt)
 
       by : (b : Bool) → same (value a') (value (cond b (minus twoTo127) twoTo127)) && equal b' (minus (copySign twoTo102 a')) ≡ false
-      by true = ap (λ (c : Bool). c && equal b' (minus (copySign twoTo102 a'))) (ap (same (value a')) (minus-value twoTo127 (omega arith) ∙ ap negate half-limit-value ∙ negate-finite false (halfLimit binary32)) ∙ none (value a') true (halfLimit binary32) h)
+      by true = ap (λ (c : Bool). c && equal b' (minus (copySign twoTo102 a')))
+          (ap (same (value a')) (minus-value twoTo127 (omega arith) ∙ ap negate half-limit-value ∙ negate-finite false (halfLimit binary32)) ∙ none (value a') true (halfLimit binary32) h)
       by false = ap (λ (c : Bool). c && equal b' (minus (copySign twoTo102 a'))) (ap (same (value a')) half-limit-value ∙ none (value a') false (halfLimit binary32) h)
 
   pub edge-none : isFinite (value a') ≡ false → (edgeFinish a a' b' .first ≡ a) × (edgeFinish a a' b' .second ≡ a)

@@ -8,10 +8,12 @@ use Rattle.binary32_spec.specs.Steps.{addStep, subStep, mulStep, fmaStep}
 use Rattle.augmented_spec.specs.Direct.{Operation, sum, difference, product}
 use Rattle.worksheet_spec.specs.Constants.{half, twoTo24, twoTo48, twoToMinus24, plusZero, smallest}
 use Rattle.worksheet_spec.specs.Lines.{multiply, line, Sheet, before, ends, value, minus, copySign}
-use Rattle.worksheet_spec.specs.Sheets.{Branch, whenInfinite, whenZero, whenTiny, whenMiddle, otherwise, recomposition, zeroFinish, recomposedFinished, halvedSum, overflows, sumInOrder, swaps, sumSheet, infiniteProduct, lowered, lowering, tinyProduct, restTie, scaledDown, middleProduct, otherProduct, branchOf, productBy, productSheet, sheetOf}
+use Rattle.worksheet_spec.specs.Sheets.{Branch, whenInfinite, whenZero, whenTiny, whenMiddle, otherwise, recomposition, zeroFinish, recomposedFinished, halvedSum, overflows, sumInOrder, swaps}
+use Rattle.worksheet_spec.specs.Sheets.{sumSheet, infiniteProduct, lowered, lowering, tinyProduct, restTie, scaledDown, middleProduct, otherProduct, branchOf, productBy, productSheet, sheetOf}
 use Rattle.worksheet_spec.specs.Theorems.{Among, Known, results, Derived}
 use Rattle.worksheet_spec.proofs.TinyResults as tiny
-use Rattle.worksheet_spec.proofs.Derivation.{here, flipped, there, left, right, after, grown, own, half-in, up-in, up-up-in, down-in, zero-in, Leads, adds, subtracts, lowers, multiplies, scales, fuses, stop, leads-cond, lines, recomposition-leads, finish-leads, recomposed-leads, edge-leads}
+use Rattle.worksheet_spec.proofs.Derivation.{here, flipped, there, left, right, after, grown, own, half-in, up-in, up-up-in, down-in, zero-in, Leads, adds, subtracts, lowers, multiplies}
+use Rattle.worksheet_spec.proofs.Derivation.{scales, fuses, stop, leads-cond, lines, recomposition-leads, finish-leads, recomposed-leads, edge-leads}
 
 module _ (B : List ℕ) where
   -- ---- sums
@@ -48,7 +50,8 @@ module _ (B : List ℕ) where
         (subtracts B a x v (a ∷ []) _ (here a _) (right x (a ∷ []) B hx)
         (subtracts B y v b (v ∷ a ∷ []) _ (right y (v ∷ a ∷ []) B hy) (here v _)
         (lines B rs (r .lines) (cond c (halvedSum x y a) (ends (r .first) (r .second))) (l .0)
-        (leads-cond B c (after rs (r .lines)) (halvedSum x y a) (ends (r .first) (r .second)) (halved-leads (after rs (r .lines)) a (grown a rs (r .lines) a-in)) (stop B (r .first) (r .second) (after rs (r .lines)) (l .1) (l .2))))))
+        (leads-cond B c (after rs (r .lines)) (halvedSum x y a) (ends (r .first) (r .second)) (halved-leads (after rs (r .lines)) a (grown a rs (r .lines) a-in))
+        (stop B (r .first) (r .second) (after rs (r .lines)) (l .1) (l .2))))))
 
     -- ---- products
     infinite-leads : (a : ℕ) → Leads B (a ∷ []) (infiniteProduct x y a)
@@ -142,7 +145,8 @@ module _ (B : List ℕ) where
     unfolding otherProduct
     other-leads a =
         let b = fmaStep x y (minus a) in
-        fuses B x y (minus a) b (a ∷ []) (recomposedFinished a b) (right x (a ∷ []) B hx) (right y (a ∷ []) B hy) (flipped a _) (recomposed-leads B (b ∷ a ∷ []) a b (there b a _ (here a [])) (here b _) (flipped b _))
+        fuses B x y (minus a) b (a ∷ []) (recomposedFinished a b) (right x (a ∷ []) B hx) (right y (a ∷ []) B hy) (flipped a _)
+        (recomposed-leads B (b ∷ a ∷ []) a b (there b a _ (here a [])) (here b _) (flipped b _))
 
     product-leads : Leads B [] (productSheet x y)
     unfolding productSheet productBy

@@ -7,7 +7,9 @@ use Rattle.binary32_spec.specs.Steps.{addStep, subStep, mulStep, fmaStep}
 use Rattle.augmented_spec.specs.Direct.{sum, difference, product}
 use Rattle.worksheet_spec.specs.Lines.{add, subtract, multiply, Line, line, fusedLine, Sheet, before, ends, value, minus, copySign, zero}
 use Rattle.worksheet_spec.specs.Constants.{psi, two, minusTwo, half, kappa, twoTo24, twoTo48, twoToMinus24, plusZero, smallest}
-use Rattle.worksheet_spec.specs.Sheets.{Branch, whenInfinite, whenZero, whenTiny, whenMiddle, otherwise, recomposition, zeroFinish, recomposedFinished, atEdge, edgeFinish, halvedSum, overflows, sumInOrder, swaps, sumSheet, infiniteProduct, lowered, lowering, tinyProduct, restTie, scaledDown, middleProduct, otherProduct, branchOf, productBy, productSheet, sheetOf}
+use Rattle.worksheet_spec.specs.Sheets.{Branch, whenInfinite, whenZero, whenTiny, whenMiddle, otherwise, recomposition, zeroFinish, recomposedFinished, atEdge, edgeFinish, halvedSum, overflows}
+use Rattle.worksheet_spec.specs.Sheets.{sumInOrder, swaps, sumSheet, infiniteProduct, lowered, lowering, tinyProduct, restTie, scaledDown, middleProduct, otherProduct, branchOf, productBy}
+use Rattle.worksheet_spec.specs.Sheets.{productSheet, sheetOf}
 use Rattle.worksheet_spec.proofs.TinyResults as tiny
 use Rattle.worksheet_spec.specs.Theorems.{Each, EachLine}
 
@@ -88,7 +90,8 @@ order-each x y =
     let r = recomposedFinished a b in
     let c = overflows (r .second) a in
     adds x y _ (subtracts a x _ (subtracts y v _
-    (each-append (r .lines) (cond c (halvedSum x y a) (ends (r .first) (r .second)) .lines) (recomposed-each a b) (each-cond c (halvedSum x y a) (ends (r .first) (r .second)) (halved-each x y a) none))))
+    (each-append (r .lines) (cond c (halvedSum x y a) (ends (r .first) (r .second)) .lines) (recomposed-each a b)
+    (each-cond c (halvedSum x y a) (ends (r .first) (r .second)) (halved-each x y a) none))))
 
 sum-each : (x y : ℕ) → Each (sumSheet x y .lines)
 unfolding sumSheet
@@ -105,8 +108,11 @@ infinite-each x y a =
 tiny-each : (x y a : ℕ) → Each (tinyProduct x y a .lines)
 unfolding tinyProduct
 tiny-each x y a =
-    multiplies twoTo24 x _ (multiplies twoTo24 y _ (multiplies (tiny.m x y a) (tiny.n x y a) _ (fuses (tiny.m x y a) (tiny.n x y a) (minus (tiny.t1 x y a)) _ (multiplies twoTo48 a _ (subtracts (tiny.t1 x y a) (tiny.g x y a) _ (adds (tiny.t2 x y a) (tiny.t3 x y a) _ (subtracts (tiny.z x y a) (tiny.t3 x y a) _
-    (each-append (cond (tiny.tie x y a) (lowering a ∷ []) []) (line multiply plusZero (tiny.first x y a) (mulStep plusZero (tiny.first x y a)) ∷ []) (correction-each (tiny.tie x y a) a) (multiplies plusZero (tiny.first x y a) _ none)))))))))
+    multiplies twoTo24 x _ (multiplies twoTo24 y _ (multiplies (tiny.m x y a) (tiny.n x y a) _
+    (fuses (tiny.m x y a) (tiny.n x y a) (minus (tiny.t1 x y a)) _
+    (multiplies twoTo48 a _ (subtracts (tiny.t1 x y a) (tiny.g x y a) _ (adds (tiny.t2 x y a) (tiny.t3 x y a) _ (subtracts (tiny.z x y a) (tiny.t3 x y a) _
+    (each-append (cond (tiny.tie x y a) (lowering a ∷ []) []) (line multiply plusZero (tiny.first x y a) (mulStep plusZero (tiny.first x y a)) ∷ []) (correction-each (tiny.tie x y a) a)
+    (multiplies plusZero (tiny.first x y a) _ none)))))))))
 
 scaled-each : (A B : ℕ) → Each (scaledDown A B .lines)
 unfolding scaledDown
@@ -126,7 +132,8 @@ middle-each x y =
     let a' = mulStep m y in
     let b' = fmaStep m y (minus a') in
     let r = recomposition a' b' in
-    multiplies twoTo24 x _ (multiplies m y _ (fuses m y (minus a') _ (each-append (r .lines) (scaledDown (r .first) (r .second) .lines) (recomposition-each a' b') (scaled-each (r .first) (r .second)))))
+    multiplies twoTo24 x _ (multiplies m y _ (fuses m y (minus a') _
+    (each-append (r .lines) (scaledDown (r .first) (r .second) .lines) (recomposition-each a' b') (scaled-each (r .first) (r .second)))))
 
 other-each : (x y a : ℕ) → Each (otherProduct x y a .lines)
 unfolding otherProduct

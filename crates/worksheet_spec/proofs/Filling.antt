@@ -95,7 +95,8 @@ module _ (ls : List Line) (rest : List ℕ) (most : length ls ≤ mostLines) whe
       all-words ∙ ap (λ (ws : List ℕ). ws ++ (replicate (sheetSize - lineSize * length ls) 0 ++ rest)) (ap linesWords e ∙ words-append earlier (l ∷ later))
       ∙ append-assoc (linesWords earlier) (linesWords (l ∷ later)) _ in
       let size : length (linesWords earlier) ≡ lineSize * k = words-length earlier ∙ omega (arith, n) in
-      ap (λ (ws : List ℕ). take lineSize (drop (lineSize * k) ws)) whole ∙ ap (take lineSize) (drop-at (linesWords earlier) (lineWords l ++ tail) (lineSize * k) size) ∙ take-at (lineWords l) tail lineSize refl
+      ap (λ (ws : List ℕ). take lineSize (drop (lineSize * k) ws)) whole ∙ ap (take lineSize) (drop-at (linesWords earlier) (lineWords l ++ tail) (lineSize * k) size)
+      ∙ take-at (lineWords l) tail lineSize refl
 
   unused-zero : take (sheetSize - lineSize * length ls) (drop (lineSize * length ls) (sheetWords ls ++ rest)) ≡ replicate (sheetSize - lineSize * length ls) 0
   unused-zero =
@@ -113,18 +114,27 @@ number-of difference = (refl, refl)
 number-of product = (refl, refl)
 
 module _ (o : Operation) (x y : ℕ) (words : List ℕ) (room : sheetSize ≤ length words) (most : length (sheetOf o x y .lines) ≤ mostLines) where
-  answered : filling (operationNumber o) x y words ≡ filled (length (sheetOf o x y .lines)) (directPair o binary32 x y)
+  abbrev ls : List Line
+  ls = sheetOf o x y .lines
+
+  abbrev words-after : List ℕ
+  words-after = afterFilling (operationNumber o) x y words
+
+  abbrev unused : ℕ
+  unused = sheetSize - lineSize * length ls
+
+  answered : filling (operationNumber o) x y words ≡ filled (length ls) (directPair o binary32 x y)
   answered = fills (operationNumber o) x y words (number-of o .0) room ∙ ap (λ (p : Operation). sheetAnswer p x y) (number-of o .1) ∙ answer-is o x y
 
-  after : afterFilling (operationNumber o) x y words ≡ sheetWords (sheetOf o x y .lines) ++ drop sheetSize words
+  after : words-after ≡ sheetWords ls ++ drop sheetSize words
   after = filled-words (operationNumber o) x y words _ _ answered ∙ ap (λ (p : Operation). sheetWords (sheetOf p x y .lines) ++ drop sheetSize words) (number-of o .1)
 
-  as-long : length (sheetWords (sheetOf o x y .lines) ++ drop sheetSize words) ≡ length words
-  as-long = length-append (sheetWords (sheetOf o x y .lines)) (drop sheetSize words) ∙ omega (arith, sheet-words-length (sheetOf o x y .lines) most, length-drop sheetSize words)
+  as-long : length (sheetWords ls ++ drop sheetSize words) ≡ length words
+  as-long = length-append (sheetWords ls) (drop sheetSize words) ∙ omega (arith, sheet-words-length ls most, length-drop sheetSize words)
 
-  pub sheet-filled : (filling (operationNumber o) x y words ≡ filled (length (sheetOf o x y .lines)) (directPair o binary32 x y))
-      × (length (afterFilling (operationNumber o) x y words) ≡ length words)
-      × ((k : ℕ) (earlier later : List Line) (l : Line) → sheetOf o x y .lines ≡ earlier ++ (l ∷ later) → k ≡ length earlier → take lineSize (drop (lineSize * k) (afterFilling (operationNumber o) x y words)) ≡ lineWords l)
-      × (take (sheetSize - lineSize * length (sheetOf o x y .lines)) (drop (lineSize * length (sheetOf o x y .lines)) (afterFilling (operationNumber o) x y words)) ≡ replicate (sheetSize - lineSize * length (sheetOf o x y .lines)) 0)
-      × (drop sheetSize (afterFilling (operationNumber o) x y words) ≡ drop sheetSize words)
-  sheet-filled = rw after (answered, as-long, line-at (sheetOf o x y .lines) (drop sheetSize words) most, unused-zero (sheetOf o x y .lines) (drop sheetSize words) most, behind (sheetOf o x y .lines) (drop sheetSize words) most)
+  pub sheet-filled : (filling (operationNumber o) x y words ≡ filled (length ls) (directPair o binary32 x y))
+      × (length words-after ≡ length words)
+      × ((k : ℕ) (earlier later : List Line) (l : Line) → ls ≡ earlier ++ (l ∷ later) → k ≡ length earlier → take lineSize (drop (lineSize * k) words-after) ≡ lineWords l)
+      × (take unused (drop (lineSize * length ls) words-after) ≡ replicate unused 0)
+      × (drop sheetSize words-after ≡ drop sheetSize words)
+  sheet-filled = rw after (answered, as-long, line-at ls (drop sheetSize words) most, unused-zero ls (drop sheetSize words) most, behind ls (drop sheetSize words) most)

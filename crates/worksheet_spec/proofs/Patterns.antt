@@ -57,7 +57,8 @@ unfolding negate
 minus-nan x w e = minus-value x w ∙ ap negate e
 
 pub minus-width : (x : ℕ) → Pattern x → Pattern (minus x)
-minus-width x h = elim (decLe (signBit binary32) x) [ yes g ↦ rw (le-leb (signBit binary32) x g) (omega arith) | no g ↦ let k : x < signBit binary32 = omega arith in rw (lt-leb (signBit binary32) x k) (omega arith) ]
+minus-width x h = elim (decLe (signBit binary32) x)
+    [ yes g ↦ rw (le-leb (signBit binary32) x g) (omega arith) | no g ↦ let k : x < signBit binary32 = omega arith in rw (lt-leb (signBit binary32) x k) (omega arith) ]
 
 -- ---- a pattern that is no NaN is read back from its value
 pub pattern-of : (x : ℕ) (v : Value) → Pattern x → value x ≡ v → v ≢ nan → x ≡ encode binary32 v

@@ -47,7 +47,8 @@ module _ (x y : ℕ) (s t : Bool) (a b : ℕ) (xi : value x ≡ finite s a) (yi 
   unfolding branchOf productBy
   fine-foot fine = by (eqb A 0) refl (ltb A (2 ^ 24)) refl (leb A (2 ^ 47)) refl
     where
-      by : (i : Bool) → eqb A 0 ≡ i → (j : Bool) → ltb A (2 ^ 24) ≡ j → (k : Bool) → leb A (2 ^ 47) ≡ k → Foots (finite r (a * b)) (productBy (cond i whenZero (cond j whenTiny (cond k whenMiddle otherwise))) x y p)
+      by : (i : Bool) → eqb A 0 ≡ i → (j : Bool) → ltb A (2 ^ 24) ≡ j → (k : Bool) → leb A (2 ^ 47) ≡ k
+          → Foots (finite r (a * b)) (productBy (cond i whenZero (cond j whenTiny (cond k whenMiddle otherwise))) x y p)
       by true e j f k g = zero-foot x y s t a b xi yi xr yr xb yb fine (eqb-true A 0 e)
       by false e true f k g = tiny-foot x y s t a b xi yi xr yr xb yb fine (elim (eq-zero-or-pos A) [ inl z ↦ absurd (eqb-false A 0 e z) | inr h ↦ h ]) (ltb-true A (2 ^ 24) f)
       by false e false f true g = middle-foot x y s t a b xi yi xr yr xb yb fine (ltb-false A (2 ^ 24) f) (leb-true A (2 ^ 47) g)
@@ -81,7 +82,8 @@ module _ (x y : ℕ) where
       let a' = mulStep h y in
       let none : isFinite (value a') ≡ false =
       ap isFinite (mul-decodes h y)
-      ∙ elim (one-of (isFinite (value x)) (isFinite (value y)) n) [ inl m ↦ mul-left binary32 (value h) (value y) (ap isFinite (mul-decodes half x) ∙ mul-right binary32 (value half) (value x) m) | inr m ↦ mul-right binary32 (value h) (value y) m ]
+      ∙ elim (one-of (isFinite (value x)) (isFinite (value y)) n)
+      [ inl m ↦ mul-left binary32 (value h) (value y) (ap isFinite (mul-decodes half x) ∙ mul-right binary32 (value half) (value x) m) | inr m ↦ mul-right binary32 (value h) (value y) m ]
       in
       let q = edge-none p a' (fmaStep h y (minus a')) none in
       let pe : p ≡ encode binary32 (infinite s) = mul-step x y ∙ ap (encode binary32) (mul-kept binary32 (value x) (value y) (infinite s) e refl) in

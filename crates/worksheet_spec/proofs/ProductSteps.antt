@@ -25,7 +25,8 @@ use Rattle.errorfree_spec.proofs.Steps.{toEven, is-sub}
 use Rattle.errorfree_spec.proofs.Theorems.{same-means}
 use Rattle.worksheet_spec.specs.Constants.{half, plusZero, smallest}
 use Rattle.worksheet_spec.specs.Lines.{Step, add, subtract, multiply, fused, Line, line, Sheet, before, value, minus, equal, copySign, zero}
-use Rattle.worksheet_spec.specs.Sheets.{Branch, whenInfinite, whenZero, whenTiny, whenMiddle, otherwise, recomposition, zeroFinish, infiniteProduct, lowered, lowering, tinyProduct, scaledDown, middleProduct, otherProduct, branchOf, productBy, productSheet}
+use Rattle.worksheet_spec.specs.Sheets.{Branch, whenInfinite, whenZero, whenTiny, whenMiddle, otherwise, recomposition, zeroFinish, infiniteProduct, lowered, lowering, tinyProduct, scaledDown}
+use Rattle.worksheet_spec.specs.Sheets.{middleProduct, otherProduct, branchOf, productBy, productSheet}
 use Rattle.worksheet_spec.specs.Theorems.{stepsOf, recompositionSteps, finishStep, edgeSteps, tinySteps, middleSteps, ProductSteps}
 use Rattle.worksheet_spec.proofs.Patterns.{mul-width, minus-nan, sign-value}
 use Rattle.worksheet_spec.proofs.Constants.{smallest-value}
@@ -120,7 +121,8 @@ module _ (x y : ℕ) where
     tiny-steps : 0 < m → m < 2 ^ 24 → stepsOf (tinyProduct x y p .lines) ≡ tinySteps ++ cond (equal (tinyProduct x y p .first) p) finishStep (subtract ∷ finishStep)
     unfolding tinyProduct
     tiny-steps pos lo =
-        ap {B = List Step} (λ (steps : List Step). tinySteps ++ steps) (corrected-steps (tiny.tie x y p) p (line multiply plusZero (tiny.first x y p) (mulStep plusZero (tiny.first x y p)) ∷ []) ∙ by (tiny.tie x y p))
+        ap {B = List Step} (λ (steps : List Step). tinySteps ++ steps)
+        (corrected-steps (tiny.tie x y p) p (line multiply plusZero (tiny.first x y p) (mulStep plusZero (tiny.first x y p)) ∷ []) ∙ by (tiny.tie x y p))
         ∙ ap {B = List Step} (λ (c : Bool). tinySteps ++ cond c finishStep (subtract ∷ finishStep)) (sym (told pos lo (tiny.tie x y p)))
       where
         by : (c : Bool) → _≡_ {A = List Step} (cond c (subtract ∷ []) [] ++ multiply ∷ []) (cond (not c) finishStep (subtract ∷ finishStep))
@@ -142,7 +144,8 @@ module _ (x y : ℕ) where
             let g = subst (Fits binary32) (w .2) (decode-fits binary32 (omega arith) y) in
             let q = subst (Fits binary32) e (decode-fits binary32 (omega arith) p) in
             let r = unlike (u .0) (w .0) in
-            let a-is : m ≡ toEven binary32 (u .1 * w .1) = round-finite ToEven binary32 r (u .1 * w .1) s m (sym (p-value x y (u .0) (w .0) (u .1) (w .1) (u .2) (w .2) (f .0) (g .0) (f .1) (g .1)) ∙ e) in (
+            let a-is : m ≡ toEven binary32 (u .1 * w .1) = round-finite ToEven binary32 r (u .1 * w .1) s m
+            (sym (p-value x y (u .0) (w .0) (u .1) (w .1) (u .2) (w .2) (f .0) (g .0) (f .1) (g .1)) ∙ e) in (
               corrected-nonzero x y (u .0) (w .0) (u .1) (w .1) (u .2) (w .2) (f .0) (g .0) (f .1) (g .1) (rw (← a-is) (q .1)) (rw (← a-is) lo) (rw (← a-is) hi),
               first-number x y (u .0) (w .0) (u .1) (w .1) (u .2) (w .2) (f .0) (g .0) (f .1) (g .1) (rw (← a-is) (q .1)) (rw (← a-is) lo) (rw (← a-is) hi),
             )
@@ -151,7 +154,8 @@ module _ (x y : ℕ) where
     unfolding middleProduct recomposition scaledDown
     middle-steps =
         ap {B = List Step} (λ (steps : List Step). middleSteps ++ steps)
-        (corrected-steps (tie x y) (β x y) (zeroFinish (first x y) (corrected x y) .lines) ∙ ap (λ (steps : List Step). cond (tie x y) (subtract ∷ []) [] ++ steps) (finish-steps (first x y) (corrected x y)))
+        (corrected-steps (tie x y) (β x y) (zeroFinish (first x y) (corrected x y) .lines)
+        ∙ ap (λ (steps : List Step). cond (tie x y) (subtract ∷ []) [] ++ steps) (finish-steps (first x y) (corrected x y)))
 
     middle-ordered : 2 ^ 24 ≤ m → m ≤ 2 ^ 47 → let steps = stepsOf (middleProduct x y .lines) in
         (zero (middleProduct x y .second) ≡ true → steps ≡ middleSteps ++ finishStep) × (zero (middleProduct x y .second) ≡ false → (steps ≡ middleSteps) ⊎ (steps ≡ middleSteps ++ (subtract ∷ [])))
@@ -172,7 +176,8 @@ module _ (x y : ℕ) where
     unfolding otherProduct
     other-steps =
         let c = fmaStep x y (minus p) in
-        ap {B = List Step} (λ (steps : List Step). fused ∷ steps) (recomposed-steps p c) ∙ ap {B = List Step} (λ (z : Bool). fused ∷ recompositionSteps ++ cond z finishStep []) (sym (recomposed-zero p c (ap isFinite e)))
+        ap {B = List Step} (λ (steps : List Step). fused ∷ steps) (recomposed-steps p c)
+        ∙ ap {B = List Step} (λ (z : Bool). fused ∷ recompositionSteps ++ cond z finishStep []) (sym (recomposed-zero p c (ap isFinite e)))
 
   -- ---- all branches
   finite-steps : (s : Bool) (m : ℕ) → value p ≡ finite s m → Ordered (finite s m) (productSheet x y)
@@ -185,9 +190,13 @@ module _ (x y : ℕ) where
   )
     where
       middle : {steps : List Step} {z : Bool} → (z ≡ true → steps ≡ middleSteps ++ finishStep) × (z ≡ false → (steps ≡ middleSteps) ⊎ (steps ≡ middleSteps ++ (subtract ∷ [])))
-          → (z ≡ true → multiply ∷ steps ≡ multiply ∷ middleSteps ++ finishStep) × (z ≡ false → (multiply ∷ steps ≡ multiply ∷ middleSteps) ⊎ (multiply ∷ steps ≡ multiply ∷ middleSteps ++ (subtract ∷ [])))
-      middle h =
-          (λ z. ap {B = List Step} (λ (steps : List Step). multiply ∷ steps) (h .0 z), λ z. elim (h .1 z) [ inl o ↦ inl (ap {B = List Step} (λ (steps : List Step). multiply ∷ steps) o) | inr o ↦ inr (ap {B = List Step} (λ (steps : List Step). multiply ∷ steps) o) ])
+          → (z ≡ true → multiply ∷ steps ≡ multiply ∷ middleSteps ++ finishStep)
+          × (z ≡ false → (multiply ∷ steps ≡ multiply ∷ middleSteps) ⊎ (multiply ∷ steps ≡ multiply ∷ middleSteps ++ (subtract ∷ [])))
+      middle h = (
+        λ z. ap {B = List Step} (λ (steps : List Step). multiply ∷ steps) (h .0 z),
+        λ z. elim (h .1 z)
+            [ inl o ↦ inl (ap {B = List Step} (λ (steps : List Step). multiply ∷ steps) o) | inr o ↦ inr (ap {B = List Step} (λ (steps : List Step). multiply ∷ steps) o) ],
+      )
 
   pub product-steps : Ordered (value p) (productSheet x y)
   unfolding productBy branchOf

@@ -99,7 +99,8 @@ module _ (x y : ℕ) (s t : Bool) (a b : ℕ) (xi : value x ≡ finite s a) (yi 
       let h = mulStep half x in
       let a' = mulStep h y in
       let b' = fmaStep h y (minus a') in
-      elim (product-edge binary32 (omega arith) (omega arith) a b xr yr xb yb over s t (value h) (value a') (value b') (scaled half (factors.half binary32) half-value x (finite s a) xi) (mul-decodes h y ∙ ap (mulValue binary32 (value h)) yi) (fused-value h y a' (value h) (finite t b) refl yi (mul-width h y))) [
+      elim (product-edge binary32 (omega arith) (omega arith) a b xr yr xb yb over s t (value h) (value a') (value b') (scaled half (factors.half binary32) half-value x (finite s a) xi)
+      (mul-decodes h y ∙ ap (mulValue binary32 (value h)) yi) (fused-value h y a' (value h) (finite t b) refl yi (mul-width h y))) [
         | inl e ↦
             let n = edge-none p a' b' (ap isFinite (e .0)) in
             foots r (a * b) (infiniteProduct x y p) (rw (n .0) (mul-width x y)) (rw (n .1) (mul-width x y)) (ap value (n .0) ∙ pi ∙ sym (e .1), ap value (n .1) ∙ pi ∙ sym (e .2))
@@ -123,8 +124,10 @@ module _ (x y : ℕ) (s t : Bool) (a b : ℕ) (xi : value x ≡ finite s a) (yi 
         let least = pow-above binary32 (a * b) 47 big in
         let n = whole binary32 a b xr yr least in
         let c = fmaStep x y (minus p) in
-        let ci : value c ≡ fmaValue binary32 (finite s a) (finite t b) (negate (finite r A)) = fused-value x y p (finite s a) (finite t b) xi yi (mul-width x y) ∙ ap (λ (v : Value). fmaValue binary32 (finite s a) (finite t b) (negate v)) pi in
-        subst (λ (N : ℕ). Foots (finite r N) (recomposedFinished p c)) (sym (n .1)) (recomposed-foot r (n .0) A p c pi (mul-width x y) (fma-width x y (minus p)) (rw ci (product-split binary32 a b xr yr least s t fine)))
+        let ci : value c ≡ fmaValue binary32 (finite s a) (finite t b) (negate (finite r A)) = fused-value x y p (finite s a) (finite t b) xi yi (mul-width x y)
+        ∙ ap (λ (v : Value). fmaValue binary32 (finite s a) (finite t b) (negate v)) pi in
+        subst (λ (N : ℕ). Foots (finite r N) (recomposedFinished p c)) (sym (n .1))
+        (recomposed-foot r (n .0) A p c pi (mul-width x y) (fma-width x y (minus p)) (rw ci (product-split binary32 a b xr yr least s t fine)))
 
     -- a less u with a's sign
     lower-value : value (lowered p) ≡ subValue binary32 (finite r A) (finite r 1)
@@ -138,13 +141,18 @@ module _ (x y : ℕ) (s t : Bool) (a b : ℕ) (xi : value x ≡ finite s a) (yi 
         ap (λ (v : Value). same (value (tiny.z x y p)) v && same (value (tiny.w x y p)) (value (tiny.t2 x y p)))
         (minus-value (copySign twoToMinus102 p) (sign-width p twoToMinus102 (omega arith)) ∙ ap negate (sign-value p r A pi twoToMinus102 (2 ^ 47) (omega arith) tie-value) ∙ negate-finite r (2 ^ 47))
         in
-        let leads : value (cond (tiny.tie x y p) (lowered p) p) ≡ cond (same (value (tiny.z x y p)) (finite (not r) (2 ^ 47)) && same (value (tiny.w x y p)) (value (tiny.t2 x y p))) (subValue binary32 (finite r A) (finite r 1)) (finite r A) =
-        value-cond (tiny.tie x y p) (lowered p) p ∙ ap₂ (λ (v u : Value). cond (tiny.tie x y p) v u) lower-value pi ∙ ap (λ (c : Bool). cond c (subValue binary32 (finite r A) (finite r 1)) (finite r A)) test
+        let leads : value (cond (tiny.tie x y p) (lowered p) p) ≡ cond (same (value (tiny.z x y p)) (finite (not r) (2 ^ 47)) && same (value (tiny.w x y p)) (value (tiny.t2 x y p)))
+        (subValue binary32 (finite r A) (finite r 1)) (finite r A) =
+        value-cond (tiny.tie x y p) (lowered p) p ∙ ap₂ (λ (v u : Value). cond (tiny.tie x y p) v u) lower-value pi
+        ∙ ap (λ (c : Bool). cond c (subValue binary32 (finite r A) (finite r 1)) (finite r A)) test
         in
         let pair =
-        tiny-pair binary32 (omega arith) a b xr yr pos lo s t (value (tiny.m x y p)) (value (tiny.n x y p)) (value (tiny.t1 x y p)) (value (tiny.t2 x y p)) (value (tiny.g x y p)) (value (tiny.t3 x y p)) (value (tiny.z x y p)) (value (tiny.w x y p))
+        tiny-pair binary32 (omega arith) a b xr yr pos lo s t (value (tiny.m x y p)) (value (tiny.n x y p)) (value (tiny.t1 x y p)) (value (tiny.t2 x y p)) (value (tiny.g x y p))
+        (value (tiny.t3 x y p)) (value (tiny.z x y p)) (value (tiny.w x y p))
         (scaled twoTo24 (factors.scale binary32) up-value x (finite s a) xi) (scaled twoTo24 (factors.scale binary32) up-value y (finite t b) yi) (mul-decodes (tiny.m x y p) (tiny.n x y p))
-        (fused-value (tiny.m x y p) (tiny.n x y p) (tiny.t1 x y p) (value (tiny.m x y p)) (value (tiny.n x y p)) refl refl (mul-width (tiny.m x y p) (tiny.n x y p))) (scaled twoTo48 (factors.scaleTwice binary32) up-up-value p (finite r A) pi) (sub-decodes (tiny.t1 x y p) (tiny.g x y p)) (add-decodes (tiny.t2 x y p) (tiny.t3 x y p)) (sub-decodes (tiny.z x y p) (tiny.t3 x y p))
+        (fused-value (tiny.m x y p) (tiny.n x y p) (tiny.t1 x y p) (value (tiny.m x y p)) (value (tiny.n x y p)) refl refl (mul-width (tiny.m x y p) (tiny.n x y p)))
+        (scaled twoTo48 (factors.scaleTwice binary32) up-up-value p (finite r A) pi) (sub-decodes (tiny.t1 x y p) (tiny.g x y p)) (add-decodes (tiny.t2 x y p) (tiny.t3 x y p))
+        (sub-decodes (tiny.z x y p) (tiny.t3 x y p))
         in
         foots r (a * b) (tinyProduct x y p) (width-cond (tiny.tie x y p) (lowered p) p (sub-width p (copySign smallest p)) (mul-width x y)) (mul-width plusZero (cond (tiny.tie x y p) (lowered p) p))
         (leads ∙ pair .0, mul-decodes plusZero (cond (tiny.tie x y p) (lowered p) p) ∙ ap₂ (mulValue binary32) zero-value leads ∙ pair .1)
@@ -152,7 +160,8 @@ module _ (x y : ℕ) (s t : Bool) (a b : ℕ) (xi : value x ≡ finite s a) (yi 
     -- one factor scaled up, the split recomposed, and scaled down again
     module _ (lo : 2 ^ 24 ≤ A) (hi : A ≤ 2 ^ 47) where
       split-is : Scaled binary32 a b r (value (a' x y)) (value (b' x y))
-      split-is = middle-split binary32 (omega arith) a b xr yr lo hi s t (value (m x y)) (value (a' x y)) (value (b' x y)) (scaled twoTo24 (factors.scale binary32) up-value x (finite s a) xi) (mul-decodes (m x y) y ∙ ap (mulValue binary32 (value (m x y))) yi) (fused-value (m x y) y (a' x y) (value (m x y)) (finite t b) refl yi (mul-width (m x y) y))
+      split-is = middle-split binary32 (omega arith) a b xr yr lo hi s t (value (m x y)) (value (a' x y)) (value (b' x y)) (scaled twoTo24 (factors.scale binary32) up-value x (finite s a) xi)
+          (mul-decodes (m x y) y ∙ ap (mulValue binary32 (value (m x y))) yi) (fused-value (m x y) y (a' x y) (value (m x y)) (finite t b) refl yi (mul-width (m x y) y))
 
       halves : Split0 binary32 r (split-is .n) (toZero binary32 (split-is .n * 2 ^ low binary32)) (value (C x y)) (value (B x y))
       halves = recomposition-split r (split-is .n) (split-is .A) (a' x y) (b' x y) (split-is .is) (fma-width (m x y) y (minus (a' x y))) (split-is .split)
@@ -162,8 +171,10 @@ module _ (x y : ℕ) (s t : Bool) (a b : ℕ) (xi : value x ≡ finite s a) (yi 
 
       second : Finished binary32 r (a * b) (value (C x y)) (value (β x y)) (value (d x y))
       second =
-          middle-second binary32 (omega arith) a b xr yr lo hi r (split-is .n) (toZero binary32 (split-is .n * 2 ^ low binary32)) (value (C x y)) (value (B x y)) (split-is .product) halves (value (β x y)) (value (mulStep twoTo24 (β x y))) (value (d x y))
-          (scaled twoToMinus24 (factors.unscale binary32) down-value (B x y) (value (B x y)) refl) (scaled twoTo24 (factors.scale binary32) up-value (β x y) (value (β x y)) refl) (sub-decodes (mulStep twoTo24 (β x y)) (B x y))
+          middle-second binary32 (omega arith) a b xr yr lo hi r (split-is .n) (toZero binary32 (split-is .n * 2 ^ low binary32)) (value (C x y)) (value (B x y)) (split-is .product) halves
+          (value (β x y)) (value (mulStep twoTo24 (β x y))) (value (d x y))
+          (scaled twoToMinus24 (factors.unscale binary32) down-value (B x y) (value (B x y)) refl) (scaled twoTo24 (factors.scale binary32) up-value (β x y) (value (β x y)) refl)
+          (sub-decodes (mulStep twoTo24 (β x y)) (B x y))
 
       test : tie x y ≡ not (isZero (value (β x y))) && same (value (d x y)) (finite (second .t) (2 ^ 23))
       unfolding restTie
@@ -172,14 +183,18 @@ module _ (x y : ℕ) (s t : Bool) (a b : ℕ) (xi : value x ≡ finite s a) (yi 
       corrected-is : value (corrected x y) ≡ stepped binary32 (second .t) (value (β x y)) (value (d x y))
       unfolding lowered
       corrected-is =
-          let lower-is : value (lower x y) ≡ subValue binary32 (value (β x y)) (finite (second .t) 1) = sub-decodes (β x y) (copySign smallest (β x y)) ∙ ap (subValue binary32 (value (β x y))) (sign-value (β x y) (second .t) (second .e) (second .is) smallest 1 (omega arith) smallest-value) in
-          value-cond (tie x y) (lower x y) (β x y) ∙ ap (λ (v : Value). cond (tie x y) v (value (β x y))) lower-is ∙ ap (λ (c : Bool). cond c (subValue binary32 (value (β x y)) (finite (second .t) 1)) (value (β x y))) test
+          let lower-is : value (lower x y) ≡ subValue binary32 (value (β x y)) (finite (second .t) 1) = sub-decodes (β x y) (copySign smallest (β x y))
+          ∙ ap (subValue binary32 (value (β x y))) (sign-value (β x y) (second .t) (second .e) (second .is) smallest 1 (omega arith) smallest-value) in
+          value-cond (tie x y) (lower x y) (β x y) ∙ ap (λ (v : Value). cond (tie x y) v (value (β x y))) lower-is
+          ∙ ap (λ (c : Bool). cond c (subValue binary32 (value (β x y)) (finite (second .t) 1)) (value (β x y))) test
 
       pub middle-foot : Foots (finite r (a * b)) (middleProduct x y)
       unfolding middleProduct scaledDown lowered
       middle-foot =
-          foots r (a * b) (middleProduct x y) (rw (finish-first (first x y) (corrected x y)) (mul-width twoToMinus24 (C x y))) (finish-width (first x y) (corrected x y) (width-cond (tie x y) (lower x y) (β x y) (sub-width (β x y) (copySign smallest (β x y))) (mul-width twoToMinus24 (B x y)))) (
-            ap value (finish-first (first x y) (corrected x y)) ∙ first-is ∙ middle-first binary32 (omega arith) a b xr yr lo hi r (split-is .n) (toZero binary32 (split-is .n * 2 ^ low binary32)) (value (C x y)) (value (B x y)) (split-is .product) halves,
+          foots r (a * b) (middleProduct x y) (rw (finish-first (first x y) (corrected x y)) (mul-width twoToMinus24 (C x y)))
+          (finish-width (first x y) (corrected x y) (width-cond (tie x y) (lower x y) (β x y) (sub-width (β x y) (copySign smallest (β x y))) (mul-width twoToMinus24 (B x y)))) (
+            ap value (finish-first (first x y) (corrected x y)) ∙ first-is
+                ∙ middle-first binary32 (omega arith) a b xr yr lo hi r (split-is .n) (toZero binary32 (split-is .n * 2 ^ low binary32)) (value (C x y)) (value (B x y)) (split-is .product) halves,
             finish-second (first x y) (corrected x y) ∙ ap₂ (λ (v u : Value). cond (isZero v) (mulValue binary32 factors.zero u) v) corrected-is first-is ∙ second .finished,
           )
 
@@ -190,4 +205,5 @@ module _ (x y : ℕ) (s t : Bool) (a b : ℕ) (xi : value x ≡ finite s a) (yi 
       pub first-number : isFinite (value (first x y)) ≡ true
       first-number =
           let below : toZero binary32 (a * b) < limit binary32 = lt-of-le-of-lt (rounded-zero-le 23 149 (a * b)) fine in
-          ap isFinite (first-is ∙ middle-first binary32 (omega arith) a b xr yr lo hi r (split-is .n) (toZero binary32 (split-is .n * 2 ^ low binary32)) (value (C x y)) (value (B x y)) (split-is .product) halves ∙ first-finite binary32 r (a * b) below)
+          ap isFinite (first-is ∙ middle-first binary32 (omega arith) a b xr yr lo hi r (split-is .n) (toZero binary32 (split-is .n * 2 ^ low binary32)) (value (C x y)) (value (B x y))
+          (split-is .product) halves ∙ first-finite binary32 r (a * b) below)

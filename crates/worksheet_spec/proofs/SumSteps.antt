@@ -158,24 +158,27 @@ module _ (x y : ℕ) where
       plain (ap isInfinite h) ∙ ap {B = List Step} (λ (steps : List Step). add ∷ subtract ∷ subtract ∷ steps ++ []) (recomposed-none-steps a b n (none-zero (value b) (b-none x y n)))
 
   -- a is infinite
-  halved-steps : stepsOf (halvedSum x y a .lines) ≡ halvedSteps ++ cond (atEdge (addStep (mulStep half x) (mulStep half y)) (subStep (mulStep half y) (subStep (addStep (mulStep half x) (mulStep half y)) (mulStep half x)))) edgeSteps []
+  abbrev half-sum : ℕ
+  half-sum = addStep (mulStep half x) (mulStep half y)
+
+  abbrev half-rest : ℕ
+  half-rest = subStep (mulStep half y) (subStep half-sum (mulStep half x))
+
+  halved-steps : stepsOf (halvedSum x y a .lines) ≡ halvedSteps ++ cond (atEdge half-sum half-rest) edgeSteps []
   unfolding halvedSum
-  halved-steps =
-      let a' = addStep (mulStep half x) (mulStep half y) in
-      ap {B = List Step} (λ (steps : List Step). halvedSteps ++ steps) (edge-steps a a' (subStep (mulStep half y) (subStep a' (mulStep half x))))
+  halved-steps = ap {B = List Step} (λ (steps : List Step). halvedSteps ++ steps) (edge-steps a half-sum half-rest)
 
   infinite-steps : (s : Bool) → value a ≡ infinite s → Ordered (infinite s)
   unfolding halvedSum
   infinite-steps s h =
       let n : isFinite (value a) ≡ false = ap isFinite h in
       let c = asks-edge x y s h in
-      let a' = addStep (mulStep half x) (mulStep half y) in
-      let b' = subStep (mulStep half y) (subStep a' (mulStep half x)) in
-      let told : atEdge a' b' ≡ isFinite (value (sumInOrder x y .first)) =
-      edge-told a a' b' n ∙ sym (ap (λ (p : ℕ). isFinite (value p)) (first-is x y ∙ ap (λ (i : Bool). cond i (halvedSum x y a .first) (recomposedFinished a b .first)) c))
+      let told : atEdge half-sum half-rest ≡ isFinite (value (sumInOrder x y .first)) =
+      edge-told a half-sum half-rest n ∙ sym (ap (λ (p : ℕ). isFinite (value p)) (first-is x y ∙ ap (λ (i : Bool). cond i (halvedSum x y a .first) (recomposedFinished a b .first)) c))
       in
       order-is
-      ∙ ap₂ {C = List Step} (λ (steps : List Step) (i : Bool). add ∷ subtract ∷ subtract ∷ steps ++ cond i (stepsOf (halvedSum x y a .lines)) []) (recomposed-none-steps a b n (none-zero (value b) (b-none x y n))) c
+      ∙ ap₂ {C = List Step} (λ (steps : List Step) (i : Bool). add ∷ subtract ∷ subtract ∷ steps ++ cond i (stepsOf (halvedSum x y a .lines)) [])
+      (recomposed-none-steps a b n (none-zero (value b) (b-none x y n))) c
       ∙ ap {B = List Step} (λ (steps : List Step). openingSteps ++ steps) halved-steps
       ∙ ap {B = List Step} (λ (i : Bool). openingSteps ++ halvedSteps ++ cond i edgeSteps []) told
 

@@ -66,8 +66,10 @@ module _ (x y : ℕ) where
   -- a is not infinite
   pub plain-foot : (v : Value) → isInfinite (value a) ≡ false → Foots v (recomposedFinished a b) → Foots v (sumInOrder x y)
   plain-foot v h f =
-      let c = no-edge h in
-      (first-is ∙ ap (λ (i : Bool). cond i (halvedSum x y a .first) (recomposedFinished a b .first)) c ∙ f .0, second-is ∙ ap (λ (i : Bool). cond i (halvedSum x y a .second) (recomposedFinished a b .second)) c ∙ f .1)
+      let c = no-edge h in (
+        first-is ∙ ap (λ (i : Bool). cond i (halvedSum x y a .first) (recomposedFinished a b .first)) c ∙ f .0,
+        second-is ∙ ap (λ (i : Bool). cond i (halvedSum x y a .second) (recomposedFinished a b .second)) c ∙ f .1,
+      )
 
   -- a is no number: v and b are none
   pub b-none : isFinite (value a) ≡ false → isFinite (value b) ≡ false
@@ -85,8 +87,10 @@ module _ (x y : ℕ) where
   -- a is infinite
   pub infinite-foot : (v : Value) (s : Bool) → value a ≡ infinite s → Foots v (halvedSum x y a) → Foots v (sumInOrder x y)
   infinite-foot v s h f =
-      let c = asks-edge s h in
-      (first-is ∙ ap (λ (i : Bool). cond i (halvedSum x y a .first) (recomposedFinished a b .first)) c ∙ f .0, second-is ∙ ap (λ (i : Bool). cond i (halvedSum x y a .second) (recomposedFinished a b .second)) c ∙ f .1)
+      let c = asks-edge s h in (
+        first-is ∙ ap (λ (i : Bool). cond i (halvedSum x y a .first) (recomposedFinished a b .first)) c ∙ f .0,
+        second-is ∙ ap (λ (i : Bool). cond i (halvedSum x y a .second) (recomposedFinished a b .second)) c ∙ f .1,
+      )
 
 -- ---- finite operands, the first of which is not the smaller
 module _ (x y : ℕ) (s t : Bool) (X Y : ℕ) (xi : value x ≡ finite s X) (yi : value y ≡ finite t Y) (xr : Rep 24 0 X) (yr : Rep 24 0 Y) (xb : X < limit binary32) (le : Y ≤ X) where

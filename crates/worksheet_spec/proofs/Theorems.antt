@@ -15,7 +15,9 @@ use Rattle.augmented_spec.specs.Direct.{sum, difference, product}
 use Rattle.worksheet_spec.specs.Constants.{psi, two, half, kappa, twoTo24, twoTo48, twoToMinus24, plusZero, smallest, twoTo127, twoTo102, twoToMinus102, twoToMinus126}
 use Rattle.worksheet_spec.specs.Lines.{mostLines, Step, add, subtract, multiply, fused, Line, line, value, minus, equal, zero}
 use Rattle.worksheet_spec.specs.Sheets.{sumInOrder, swaps, sumSheet, productSheet, sheetOf}
-use Rattle.worksheet_spec.specs.Theorems.{positivePattern, ConstantPatterns, StepNumbers, EachLine, Derived, FirstLine, stepsOf, recompositionSteps, finishStep, edgeSteps, openingSteps, halvedSteps, sumSteps, tinySteps, middleSteps, ProductSteps, InOrder, LineCount, FootIsPair, OperationNumbers, FillingRefused, SheetFilled, FilledPair, All}
+use Rattle.worksheet_spec.specs.Theorems.{positivePattern, ConstantPatterns, StepNumbers, EachLine, Derived, FirstLine, stepsOf, recompositionSteps, finishStep, edgeSteps, openingSteps}
+use Rattle.worksheet_spec.specs.Theorems.{halvedSteps, sumSteps, tinySteps, middleSteps, ProductSteps, InOrder, LineCount, FootIsPair, SheetSizes, FillingRefused, SheetFilled, FilledPair}
+use Rattle.worksheet_spec.specs.Theorems.{All}
 use Rattle.worksheet_spec.proofs.Patterns.{Pattern, pattern-of}
 use Rattle.worksheet_spec.proofs.EachLine as lines
 use Rattle.worksheet_spec.proofs.Derived as derivation
@@ -115,7 +117,8 @@ product-range a (finite s m) first second steps h =
     tiny true e = ranged steps _ e (omega arith)
     tiny false e = ranged steps _ e (omega arith)
 
-    middle : (c : Bool) → zero second ≡ c → (zero second ≡ true → steps ≡ multiply ∷ middleSteps ++ finishStep) × (zero second ≡ false → (steps ≡ multiply ∷ middleSteps) ⊎ (steps ≡ multiply ∷ middleSteps ++ (subtract ∷ []))) → Range (length steps)
+    middle : (c : Bool) → zero second ≡ c → (zero second ≡ true → steps ≡ multiply ∷ middleSteps ++ finishStep)
+        × (zero second ≡ false → (steps ≡ multiply ∷ middleSteps) ⊎ (steps ≡ multiply ∷ middleSteps ++ (subtract ∷ []))) → Range (length steps)
     middle true e k = ranged steps _ (k .0 e) (omega arith)
     middle false e k = elim (k .1 e) [ inl o ↦ ranged steps _ o (omega arith) | inr o ↦ ranged steps _ o (omega arith) ]
 
@@ -131,15 +134,16 @@ unfolding sheetOf
 line-count sum x y = sum-at-most x y
 line-count difference x y = sum-at-most x (minus y)
 line-count product x y =
-    rw (counted (productSheet x y .lines)) (product-range (mulStep x y) (value (mulStep x y)) (productSheet x y .first) (productSheet x y .second) (stepsOf (productSheet x y .lines)) (product-steps x y))
+    rw (counted (productSheet x y .lines)) (product-range (mulStep x y) (value (mulStep x y)) (productSheet x y .first) (productSheet x y .second) (stepsOf (productSheet x y .lines))
+    (product-steps x y))
 
 -- ---- the foot
 pub foot-is-pair : FootIsPair
 foot-is-pair = feet.foot-is-pair
 
 -- ---- filling
-pub operation-numbers : OperationNumbers
-operation-numbers = (refl, refl, refl, refl, refl, refl)
+pub sheet-sizes : SheetSizes
+sheet-sizes = (refl, refl, refl)
 
 pub filling-refused : FillingRefused
 filling-refused = answers.filling-refused
@@ -151,4 +155,4 @@ pub filled-pair : FilledPair
 filled-pair = answers.filled-pair
 
 pub all : All
-all = (constant-patterns, step-numbers, each-line, derived, first-line, in-order, line-count, foot-is-pair, operation-numbers, filling-refused, sheet-filled, filled-pair)
+all = (constant-patterns, step-numbers, each-line, derived, first-line, in-order, line-count, foot-is-pair, sheet-sizes, filling-refused, sheet-filled, filled-pair)

@@ -9,7 +9,7 @@ use Rattle.pattern_spec.specs.Answer.{refused}
 use Rattle.rounding_spec.specs.Format.{binary32}
 use Rattle.rounding_spec.specs.Value.{Value, nan, infinite, finite, isFinite, encode}
 use Rattle.binary32_spec.specs.Steps.{addStep, mulStep}
-use Rattle.augmented_spec.specs.Direct.{Operation, sum, difference, product, directPair, operationNumber, operationOf}
+use Rattle.augmented_spec.specs.Direct.{Operation, sum, difference, product, directPair, operationNumber}
 use Rattle.errorfree_spec.specs.Comparisons.{lessMagnitude}
 use Rattle.worksheet_spec.specs.Constants.{psi, two, minusTwo, half, kappa, twoTo24, twoTo48, twoToMinus24, plusZero, smallest}
 use Rattle.worksheet_spec.specs.Constants.{twoTo127, twoTo102, twoToMinus102, twoToMinus126}
@@ -31,6 +31,10 @@ ConstantPatterns =
     × (smallest ≡ positivePattern 1) × (minus smallest ≡ 0x8000_0001)
     × (twoTo127 ≡ positivePattern (2 ^ 127 * 2 ^ 149)) × (twoTo102 ≡ positivePattern (2 ^ 102 * 2 ^ 149))
     × (twoToMinus102 ≡ positivePattern (2 ^ 47)) × (twoToMinus126 ≡ positivePattern (2 ^ 23))
+
+-- ---- how many words a line has, how many lines and words a sheet (R5.21, R5.22, R8.5)
+abbrev pub SheetSizes : Type 0
+SheetSizes = (lineSize ≡ 5) × (mostLines ≡ 13) × (sheetSize ≡ 65)
 
 -- ---- the numbers of steps (R5.22)
 abbrev pub StepNumbers : Type 0
@@ -154,12 +158,6 @@ FootIsPair =
     (s .first ≡ p .first) × (s .second ≡ p .second)
 
 -- ---- filling
--- the numbers of operations (R8.5)
-abbrev pub OperationNumbers : Type 0
-OperationNumbers =
-    (operationOf 1 ≡ sum) × (operationOf 2 ≡ difference) × (operationOf 3 ≡ product)
-    × (operationNumber sum ≡ 1) × (operationNumber difference ≡ 2) × (operationNumber product ≡ 3)
-
 -- its refusals, in their order (R8.2, R8.5); they leave the words as they were (R8.1)
 abbrev pub FillingRefused : Type 0
 FillingRefused =
@@ -187,5 +185,5 @@ FilledPair = (o x y : ℕ) (words : List ℕ) → HasDirectPair o x y (filling o
 -- ---- all of them
 abbrev pub All : Type 0
 All =
-    ConstantPatterns × StepNumbers × EachLine × Derived × FirstLine × InOrder × LineCount × FootIsPair × OperationNumbers
+    ConstantPatterns × StepNumbers × EachLine × Derived × FirstLine × InOrder × LineCount × FootIsPair × SheetSizes
     × FillingRefused × SheetFilled × FilledPair

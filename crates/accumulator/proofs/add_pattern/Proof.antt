@@ -1,5 +1,7 @@
 use borrow.Author.Needs.{needs}
-use mathlib.Core.Path.{_∙_}
+use mathlib.Core.Path.{ap, _∙_}
+use Rattle.accumulator.specs.Inner.{numbered}
+use Rattle.accumulator.proofs.Told.{told}
 use Rattle.accumulator.proofs.add_pattern.Statement.{statement}
 use Rattle.accumulator.proofs.add_pattern.Tie as tie
 
@@ -13,7 +15,9 @@ same-length : tie.Need-same-length
 same-length c = search needs
 
 returns : tie.Need-returns
-returns c = let e = c .before .before .before .add-pattern .ensures in (c .named .ensures ∙ e .0, e .1)
+returns c =
+    let e = c .before .before .before .add-pattern .ensures in
+    (c .named .ensures ∙ ap numbered (e .0) ∙ told _ _, e .1)
 
 pub add-pattern-spec : {M : Type 1} → statement M
 add-pattern-spec = tie.close (tie.spec add-pattern-requires named-requires same-length returns)

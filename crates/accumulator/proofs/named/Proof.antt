@@ -1,6 +1,6 @@
 use mathlib.Core.Path.{sym, ap}
 use borrow.Author.Tests.{ne-eqb}
-use Rattle.accumulator_add.specs.Inner.{numbered}
+use Rattle.accumulator.specs.Inner.{numbered}
 use Rattle.accumulator.proofs.named.Statement.{statement}
 use Rattle.accumulator.proofs.named.Tie as tie
 

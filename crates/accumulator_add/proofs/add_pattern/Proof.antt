@@ -3,6 +3,7 @@ use mathlib.Core.Path.{refl, sym, ap, _∙_}
 use native.Mathlib.Omega.{arith}
 use Rattle.rounding_spec.specs.Format.{binary32}
 use Rattle.rounding_spec.specs.Value.{isFinite}
+use Rattle.pattern_spec.specs.Answer.{refused}
 use Rattle.pattern_spec.specs.declared.Class.{Class}
 use Rattle.pattern_spec.specs.Exact.{finer}
 use Rattle.pattern_spec.specs.Classes.{valueOf}
@@ -11,8 +12,8 @@ use Rattle.accumulator_spec.specs.Totals.{ofPattern}
 use Rattle.accumulator_spec.proofs.Adding.{fit-bounds}
 use Rattle.accumulator_spec.proofs.Terms.{tried, special}
 use Rattle.accumulator_words.proofs.Lent.{sound}
-use Rattle.accumulator_add.specs.Inner.{numbered, hasRoom}
-use Rattle.accumulator_add.proofs.Numbers.{lent-adds, room-numbered}
+use Rattle.accumulator_add.specs.Inner.{hasRoom}
+use Rattle.accumulator_add.proofs.Numbers.{by-refusal, lent-adds, room-number}
 use Rattle.accumulator_add.proofs.Scaled.{pattern-value, finer-digits}
 use Rattle.accumulator_add.proofs.add_pattern.Statement.{statement}
 use Rattle.accumulator_add.proofs.add_pattern.Tie as tie
@@ -28,7 +29,7 @@ returns c =
     let k = c .before in
     let a = k .before .before .before .args in
     let r = lent-adds (a .total .now) (λ e. c .if1 .taken (k .refusal .ensures ∙ e)) (ofPattern (a .x)) in
-    (ap numbered (k .refusal .ensures) ∙ r .0, r .1)
+    (k .refusal .ensures ∙ r .0, r .1)
 
 classify-requires : tie.Need-classify-requires
 classify-requires c κs = search needs
@@ -70,7 +71,8 @@ returns-2 c =
     let s = sound (a .total .now) (sym (f .before .refusal .ensures) ∙ f .if1 .left) in
     let v = pattern-value _ _ (e .before .before .classify .ensures) ∙ ap (λ (v : Class). finer binary32 (valueOf v)) (e .a .given .1) ∙ finer-digits _ _ _ in
     let room = hasRoom (a .total .now) in
-    tried (a .total .now) (ofPattern (a .x)) (s .0) (s .1) _ _ v room _ _ refl (ap numbered (k .add .ensures .0) ∙ room-numbered room) (k .add .ensures .1)
+    by-refusal _ (k .add .ensures .0 ∙ room-number room)
+    (tried (a .total .now) (ofPattern (a .x)) (s .0) (s .1) _ _ v room _ _ refl refl (k .add .ensures .1))
 
 same-length-3 : tie.Need-same-length-3
 same-length-3 c = search needs
@@ -82,7 +84,7 @@ returns-3 c =
     let a = f .before .before .before .before .args in
     let s = sound (a .total .now) (sym (f .before .refusal .ensures) ∙ f .if1 .left) in
     let v = pattern-value _ _ (c .before .before .classify .ensures) ∙ ap (λ (v : Class). finer binary32 (valueOf v)) (c .enum-told .given .1) in
-    special (a .total .now) (ofPattern (a .x)) (s .0) (s .1) (ap isFinite v)
+    by-refusal (refused 7) refl (special (a .total .now) (ofPattern (a .x)) (s .0) (s .1) (ap isFinite v))
 
 same-length-4 : tie.Need-same-length-4
 same-length-4 c = search needs
@@ -94,7 +96,7 @@ returns-4 c =
     let a = f .before .before .before .before .args in
     let s = sound (a .total .now) (sym (f .before .refusal .ensures) ∙ f .if1 .left) in
     let v = pattern-value _ _ (c .before .before .classify .ensures) ∙ ap (λ (v : Class). finer binary32 (valueOf v)) (c .enum-told2 .given .1) in
-    special (a .total .now) (ofPattern (a .x)) (s .0) (s .1) (ap isFinite v)
+    by-refusal (refused 7) refl (special (a .total .now) (ofPattern (a .x)) (s .0) (s .1) (ap isFinite v))
 
 pub add-pattern-spec : {M : Type 1} → statement M
 add-pattern-spec =

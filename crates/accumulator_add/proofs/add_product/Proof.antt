@@ -2,13 +2,14 @@ use borrow.Author.Needs.{needs}
 use mathlib.Core.Path.{refl, sym, ap, _∙_}
 use native.Mathlib.Omega.{arith}
 use Rattle.rounding_spec.specs.Value.{isFinite}
+use Rattle.pattern_spec.specs.Answer.{refused}
 use Rattle.pattern_spec.specs.Classes.{valueOf}
 use Rattle.accumulator_spec.specs.Totals.{ofProduct}
 use Rattle.accumulator_spec.proofs.Adding.{fit-bounds}
 use Rattle.accumulator_spec.proofs.Terms.{tried, special}
 use Rattle.accumulator_words.proofs.Lent.{sound}
-use Rattle.accumulator_add.specs.Inner.{numbered, hasRoom}
-use Rattle.accumulator_add.proofs.Numbers.{lent-adds, room-numbered}
+use Rattle.accumulator_add.specs.Inner.{hasRoom}
+use Rattle.accumulator_add.proofs.Numbers.{by-refusal, lent-adds, room-number}
 use Rattle.accumulator_add.proofs.add_product.Statement.{statement}
 use Rattle.accumulator_add.proofs.add_product.Tie as tie
 
@@ -23,7 +24,7 @@ returns c =
     let k = c .before in
     let a = k .before .before .before .args in
     let r = lent-adds (a .total .now) (λ e. c .if1 .taken (k .refusal .ensures ∙ e)) (ofProduct (a .x) (a .y)) in
-    (ap numbered (k .refusal .ensures) ∙ r .0, r .1)
+    (k .refusal .ensures ∙ r .0, r .1)
 
 product-requires : tie.Need-product-requires
 product-requires c κs = search needs
@@ -58,7 +59,8 @@ returns-2 c =
     let s = sound (a .total .now) (sym (f .before .refusal .ensures) ∙ f .if1 .left) in
     let v = rw (e .p .given .1) at (e .before .before .product .ensures) in
     let room = hasRoom (a .total .now) in
-    tried (a .total .now) (ofProduct (a .x) (a .y)) (s .0) (s .1) _ _ (v .is) room _ _ refl (ap numbered (k .add .ensures .0) ∙ room-numbered room) (k .add .ensures .1)
+    by-refusal _ (k .add .ensures .0 ∙ room-number room)
+    (tried (a .total .now) (ofProduct (a .x) (a .y)) (s .0) (s .1) _ _ (v .is) room _ _ refl refl (k .add .ensures .1))
 
 same-length-3 : tie.Need-same-length-3
 same-length-3 c = search needs
@@ -70,7 +72,7 @@ returns-3 c =
     let a = f .before .before .before .before .args in
     let s = sound (a .total .now) (sym (f .before .refusal .ensures) ∙ f .if1 .left) in
     let v = rw (c .enum-told .given .1) at (c .before .before .product .ensures) in
-    special (a .total .now) (ofProduct (a .x) (a .y)) (s .0) (s .1) (ap isFinite (v .is))
+    by-refusal (refused 7) refl (special (a .total .now) (ofProduct (a .x) (a .y)) (s .0) (s .1) (ap isFinite (v .is)))
 
 same-length-4 : tie.Need-same-length-4
 same-length-4 c = search needs
@@ -82,7 +84,7 @@ returns-4 c =
     let a = f .before .before .before .before .args in
     let s = sound (a .total .now) (sym (f .before .refusal .ensures) ∙ f .if1 .left) in
     let v = rw (c .enum-told2 .given .1) at (c .before .before .product .ensures) in
-    special (a .total .now) (ofProduct (a .x) (a .y)) (s .0) (s .1) (ap isFinite (v .is))
+    by-refusal (refused 7) refl (special (a .total .now) (ofProduct (a .x) (a .y)) (s .0) (s .1) (ap isFinite (v .is)))
 
 pub add-product-spec : {M : Type 1} → statement M
 add-product-spec =

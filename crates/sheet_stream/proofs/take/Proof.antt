@@ -64,8 +64,9 @@ same-length-4 c = search needs
 
 returns-2 : tie.Need-returns-2 Inv-loop μ-loop
 returns-2 c =
-    let bytes = c .before .before .before .before .before .before .before .before .before .before .before .before .before .before .before .before .before .before .before .before .before .args .bytes .now in
-    let l = c .before .before .before .before .before .before .before .before .before .before .before .before .before .before .before .before .before .loop in
+    let k = c .before .before .before .before .before .before .before .before .before .before .before .before .before .before .before .before .before in
+    let bytes = k .before .before .before .before .args .bytes .now in
+    let l = k .loop in
     let f = c .before .before .before .before .before .before .before .before .before .feed in
     let inside : l .at < length bytes = omega arith in
     λ room w. none-taken bytes _ (l .at) _ _ (f .result) _ _ (l .inv .3) (f .ensures) (le-trans room (le-of-eq (sym (l .inv .2)))) inside (c .if3 .taken)
@@ -78,8 +79,9 @@ loop-less c = search needs
 
 loop-again : tie.Need-loop-again Inv-loop μ-loop
 loop-again c =
-    let bytes = c .before .before .before .before .before .before .before .before .before .before .before .before .before .before .before .before .before .before .before .before .before .args .bytes .now in
-    let l = c .before .before .before .before .before .before .before .before .before .before .before .before .before .before .before .before .before .loop in
+    let k = c .before .before .before .before .before .before .before .before .before .before .before .before .before .before .before .before .before in
+    let bytes = k .before .before .before .before .args .bytes .now in
+    let l = k .loop in
     let f = c .before .before .before .before .before .before .before .before .before .feed in (
       step-within bytes _ (l .at) _ _ (f .result) _ _ (l .inv .3) (f .ensures) (l .inv .0),
       f .kept .1 .1 .1 .0 ∙ l .inv .1,

@@ -22,7 +22,8 @@ same-length c = search needs
 returns : tie.Need-returns
 returns c =
     let k = c .before in
-    rw (c .counted .ensures) (fills-words _ _ _ _ (omega arith) (omega arith) (omega arith) (k .before .before .before .before .before .sheet .ensures) (k .flags .ensures) (k .before .before .before .copy-out .ensures))
+    rw (c .counted .ensures) (fills-words _ _ _ _ (omega arith) (omega arith) (omega arith) (k .before .before .before .before .before .sheet .ensures) (k .flags .ensures)
+    (k .before .before .before .copy-out .ensures))
 
 pub written-spec : {M : Type 1} → statement M
 written-spec =

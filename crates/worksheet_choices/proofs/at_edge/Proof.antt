@@ -20,7 +20,8 @@ returns : tie.Need-returns
 returns c =
     let b = c .before .before .before .before in
     c .choose-sign .ensures
-    ∙ edge-is (b .args .a) (b .args .b) (b .fits .a .fits) (b .fits .b .fits) _ _ _ (c .before .before .before .copy-sign .ensures) (c .before .before .copy-sign2 .ensures) (c .before .flipped .ensures)
+    ∙ edge-is (b .args .a) (b .args .b) (b .fits .a .fits) (b .fits .b .fits) _ _ _ (c .before .before .before .copy-sign .ensures) (c .before .before .copy-sign2 .ensures)
+    (c .before .flipped .ensures)
 
 pub at-edge-spec : {M : Type 1} → statement M
 at-edge-spec =

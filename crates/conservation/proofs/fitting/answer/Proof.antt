@@ -47,7 +47,8 @@ returns-4 c =
     let a = same .before .before .before .before .before .before .before .before .before .args in
     let q : Asking = record { operations = a .operations .now; xs = a .xs .now; ys = a .ys .now; counts = a .counts .now } in
     let l : Lent = record { words = a .words .now; totals = record { first = a .first .now; other = a .other .now } } in
-    other-not-cleared q l (sym (same .before .all-equal .ensures) ∙ not-false _ (same .if1 .left)) (few .if2 .left) (sym (first .before .is-cleared .ensures) ∙ not-false _ (first .if3 .left)) (sym (c .before .is-cleared2 .ensures) ∙ not-true _ (c .if4 .taken))
+    other-not-cleared q l (sym (same .before .all-equal .ensures) ∙ not-false _ (same .if1 .left)) (few .if2 .left) (sym (first .before .is-cleared .ensures) ∙ not-false _ (first .if3 .left))
+    (sym (c .before .is-cleared2 .ensures) ∙ not-true _ (c .if4 .taken))
 
 all-within-requires : tie.Need-all-within-requires
 all-within-requires c κs = search needs
@@ -61,7 +62,8 @@ returns-5 c =
     let a = same .before .before .before .before .before .before .before .before .before .args in
     let q : Asking = record { operations = a .operations .now; xs = a .xs .now; ys = a .ys .now; counts = a .counts .now } in
     let l : Lent = record { words = a .words .now; totals = record { first = a .first .now; other = a .other .now } } in
-    past-words q l (sym (same .before .all-equal .ensures) ∙ not-false _ (same .if1 .left)) (few .if2 .left) (sym (first .before .is-cleared .ensures) ∙ not-false _ (first .if3 .left)) (sym (other .before .is-cleared2 .ensures) ∙ not-false _ (other .if4 .left)) (sym (c .before .all-within .ensures) ∙ not-true _ (c .if5 .taken))
+    past-words q l (sym (same .before .all-equal .ensures) ∙ not-false _ (same .if1 .left)) (few .if2 .left) (sym (first .before .is-cleared .ensures) ∙ not-false _ (first .if3 .left))
+    (sym (other .before .is-cleared2 .ensures) ∙ not-false _ (other .if4 .left)) (sym (c .before .all-within .ensures) ∙ not-true _ (c .if5 .taken))
 
 returns-6 : tie.Need-returns-6
 returns-6 c =
@@ -72,7 +74,8 @@ returns-6 c =
     let a = same .before .before .before .before .before .before .before .before .before .args in
     let q : Asking = record { operations = a .operations .now; xs = a .xs .now; ys = a .ys .now; counts = a .counts .now } in
     let l : Lent = record { words = a .words .now; totals = record { first = a .first .now; other = a .other .now } } in
-    nothing-wrong q l (sym (same .before .all-equal .ensures) ∙ not-false _ (same .if1 .left)) (few .if2 .left) (sym (first .before .is-cleared .ensures) ∙ not-false _ (first .if3 .left)) (sym (other .before .is-cleared2 .ensures) ∙ not-false _ (other .if4 .left)) (sym (c .before .all-within .ensures) ∙ not-false _ (c .if5 .left))
+    nothing-wrong q l (sym (same .before .all-equal .ensures) ∙ not-false _ (same .if1 .left)) (few .if2 .left) (sym (first .before .is-cleared .ensures) ∙ not-false _ (first .if3 .left))
+    (sym (other .before .is-cleared2 .ensures) ∙ not-false _ (other .if4 .left)) (sym (c .before .all-within .ensures) ∙ not-false _ (c .if5 .left))
 
 pub answer-spec : {M : Type 1} → statement M
 answer-spec =

@@ -1,7 +1,7 @@
 use borrow.Author.Needs.{needs}
 use mathlib.Core.Path.{sym, ap, _∙_}
 use Rattle.worksheet_spec.specs.Sheets.{productBy}
-use Rattle.worksheet_choices.specs.Branches.{branchCase}
+use Rattle.worksheet_choices.specs.Inner.{branchCase}
 use Rattle.worksheet_lines.proofs.Rows.{foot-follows}
 use Rattle.worksheet_rules.proofs.ProductLines.{by-branch}
 use Rattle.worksheet_rules.proofs.products.product.Statement.{statement}

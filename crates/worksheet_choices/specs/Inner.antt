@@ -1,4 +1,4 @@
--- The branches of a product for the cases of the code's enum (R5.12 to R5.19).
+-- What the choices promise the rules: the branches of a product for the cases of the code's enum (R5.12 to R5.19).
 use Rattle.worksheet_spec.specs.Sheets as sheet
 use Rattle.worksheet_choices.specs.declared.Branch.{Branch}
 use Rattle.worksheet_choices.specs.declared.Branch.the-variants.{Infinite, Zero, Tiny, Middle, Other}

@@ -60,8 +60,8 @@ pub fn product(x: u32, y: u32) -> Pair
 pub fn product_flags(x: u32, y: u32) -> Flags
     ensures { λ r. ⌜ r ≡ productPair binary32 x y .flags ⌝ }
 {
-    let total = exact::product(x, y);
-    match total {
+    let class = exact::product(x, y);
+    match class {
         Class::Finite {
             sign: s,
             sig: m,

@@ -30,14 +30,19 @@ pub fn of_number(sign: bool, sig: u64, exp: u16) -> Pair
     }
 }
 
-// The flags alone: where the rest is a number of the format itself, first tells them.
+// The flags alone. Where the exponent is below 149, the product is too small to overflow.
 pub fn flags_of_number(sign: bool, sig: u64, exp: u16) -> Flags
     requires { ⌜ sig < 2 ^ 48 ⌝ }
     ensures { λ r. ⌜ r ≡ productAnswer sign (sig * 2 ^ exp) .flags ⌝ }
 {
     if exp < 149 {
-        let both = twice_rounded(sign, sig, exp);
-        return both.flags;
+        let under = underflows(sign, sig, exp);
+        return Flags {
+            invalid: false,
+            overflow: false,
+            underflow: under,
+            inexact: under,
+        };
     }
     let over = is_infinite(round(Ties::ToZero, sign, sig, exp));
     Flags {
@@ -46,6 +51,16 @@ pub fn flags_of_number(sign: bool, sig: u64, exp: u16) -> Flags
         underflow: false,
         inexact: over,
     }
+}
+
+// Whether the rest, rounded again, leaves something over; on which side it is makes no difference.
+fn underflows(sign: bool, sig: u64, exp: u16) -> bool
+    requires { ⌜ (sig < 2 ^ 48) × (exp < 149) ⌝ }
+    ensures { λ r. ⌜ r ≡ productAnswer sign (sig * 2 ^ exp) .flags .underflow ⌝ }
+{
+    let first = round_with_rest(Ties::ToZero, sign, sig, exp);
+    let second = round_with_rest(Ties::ToZero, sign, first.rest, exp);
+    second.rest != 0
 }
 
 // The rest is a number of the format itself, and nothing is lost.

@@ -2,12 +2,12 @@
 use mathlib.Core.Path.{_≡_, refl, sym, ap, ap₂, _∙_}
 use mathlib.Core.Bool.{Bool, true, false, not, cond}
 use Prim.Native.Nat.{ℕ, suc, _+_, _-_, _*_, _%_, _^_, _≤_, _<_}
-use native.Mathlib.Nat.{le-trans, le-of-eq, lt-of-le-of-lt, lt-of-lt-of-le, lt-of-mul-lt-mul-right, eq-of-mul-eq-mul-right, mul-one}
+use native.Mathlib.Nat.{le-trans, le-of-eq, le-of-lt, lt-of-le-of-lt, lt-of-lt-of-le, lt-of-mul-lt-mul-right, eq-of-mul-eq-mul-right, mul-one}
 use native.Mathlib.Decide.{decLe}
 use native.Mathlib.Omega.{arith}
 use lib.Dec.{eqb}
 use lib.Ieee.{unlike}
-use lib.Pow.{pow-add, pow-pos, pow-mono, shl-lt}
+use lib.Pow.{pow-add, pow-pos, pow-lt, pow-mono, shl-lt}
 use borrow.Author.Tests.{eq-eqb, ne-eqb}
 use Rattle.rounding_spec.specs.declared.Ties.the-variants.{ToZero}
 use Rattle.rounding_spec.specs.Format.{binary32, limit}
@@ -16,6 +16,7 @@ use Rattle.rounding_spec.specs.Nearest.{dist}
 use Rattle.rounding_spec.specs.Value.{Value, infinite, finite, decode, encode, roundFinite, isFinite, isInfinite}
 use Rattle.rounding_spec.proofs.Multiple.{joined, mult-dist}
 use Rattle.rounding_spec.proofs.LastPlace.{place-le}
+use Rattle.rounding_spec.proofs.Bounds.{rounded-le}
 use Rattle.rounding_spec.proofs.NearLaws.{near-mult}
 use Rattle.rounding_spec.proofs.Rounded.{rounded-near, rounded-half, rounded-exact}
 use Rattle.rounding_spec.proofs.Scaled.{rounded-rep}
@@ -162,6 +163,13 @@ product-short m e h l =
     half-lt : {a b : ℕ} → 2 * a ≤ 2 ^ 24 * b → 0 < b → a < 2 ^ 24 * b
     half-lt g q = omega arith
 
+-- and one below it does not overflow
+pub product-small : (s : Bool) (m e : ℕ) → m < 2 ^ 48 → e < 149 → head binary32 s (m * 2 ^ e) < limit binary32
+unfolding limit
+product-small s m e h l =
+    let k : m * 2 ^ e ≤ 2 ^ (48 + 149) = le-of-lt (lt-of-lt-of-le (shl-lt 48 e h) (pow-mono (let z : 48 + e ≤ 48 + 149 = omega arith in z))) in
+    lt-of-le-of-lt (rounded-le ToZero 23 149 (m * 2 ^ e) 1 48 (omega arith) k) (pow-lt {i = 48} {j = 277} (omega arith))
+
 -- ---- what is left over is rounded again
 module _ (s : Bool) (N : ℕ) (c : ℕ) (is : c ≡ encode binary32 (roundFinite ToZero binary32 s N)) where
   differ : {a b : Bool} → a ≡ true → b ≡ false → a ≡ b → ⊥
@@ -197,7 +205,7 @@ module _ (s : Bool) (N : ℕ) (c : ℕ) (is : c ≡ encode binary32 (roundFinite
         ∙ ap (encode binary32) (round-below ToZero binary32 q (left binary32 s N) l))
         ∙ zero-pattern s q (tail binary32 s N) (rounded-rep ToZero 23 149 (left binary32 s N)) l
 
-    lost-is : (k : ℕ) → k * 2 ^ e ≡ leftOver ToZero 23 149 (rest * 2 ^ e) → not (eqb k 0) ≡ underflowed binary32 (finite s N) (pairOf binary32 (finite s N))
+    pub lost-is : (k : ℕ) → k * 2 ^ e ≡ leftOver ToZero 23 149 (rest * 2 ^ e) → not (eqb k 0) ≡ underflowed binary32 (finite s N) (pairOf binary32 (finite s N))
     lost-is k k-is =
         ap not (counted ∙ ap (λ (x : ℕ). eqb x 0) (k-is ∙ ap (leftOver ToZero 23 149) rest-is)) ∙ sym (underflowed-is binary32 s N h)
       where

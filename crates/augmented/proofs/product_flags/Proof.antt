@@ -14,14 +14,14 @@ flagsOfPair p = p .flags
 product-requires : tie.Need-product-requires
 product-requires c κs = search needs
 
-enum-known-total : tie.Need-enum-known-total
-enum-known-total c = search needs
+enum-known-class : tie.Need-enum-known-class
+enum-known-class c = search needs
 
 flags-of-number-requires : tie.Need-flags-of-number-requires
-flags-of-number-requires c κs = (rw (c .before .total .given .1) at (c .before .before .before .product .ensures)) .bounded .sig
+flags-of-number-requires c κs = (rw (c .before .class .given .1) at (c .before .before .before .product .ensures)) .bounded .sig
 
-enum-known-total-2 : tie.Need-enum-known-total-2
-enum-known-total-2 c = search needs
+enum-known-class-2 : tie.Need-enum-known-class-2
+enum-known-class-2 c = search needs
 
 infinity-requires : tie.Need-infinity-requires
 infinity-requires c κs = search needs
@@ -41,7 +41,7 @@ returns c =
     let t = c .before .before in
     let s = t .before .before in
     let b = s .before in
-    let e = rw (t .total .given .1) at (s .product .ensures) in
+    let e = rw (t .class .given .1) at (s .product .ensures) in
     c .flags-of-number .ensures ∙ sym (ap flagsOfPair (product-finite (b .args .x) (b .args .y) _ _ (e .is)))
 
 returns-2 : tie.Need-returns-2
@@ -51,7 +51,7 @@ returns-2 c =
     let t = i .before .before in
     let s = t .before .before in
     let b = s .before in
-    let e = rw (t .total2 .given .1) at (s .product .ensures) in
+    let e = rw (t .class2 .given .1) at (s .product .ensures) in
     c .of-special .ensures ∙ ap flagsOfPair (product-special (b .args .x) (b .args .y) _ (e .is) refl tt _ (i .infinity .ensures) _ refl)
 
 returns-3 : tie.Need-returns-3
@@ -68,9 +68,9 @@ product-flags-spec =
     tie.close
     (tie.spec
     product-requires
-    enum-known-total
+    enum-known-class
     flags-of-number-requires
-    enum-known-total-2
+    enum-known-class-2
     infinity-requires
     of-special-requires
     enum-told

@@ -9,9 +9,9 @@ use Rattle.rounding_spec.specs.Value.{finite, decode, encode, round, roundFinit
 use Rattle.rounding_spec.proofs.Codec.{decode-encode}
 use Rattle.rounding_spec.proofs.RoundValue.{round-fits}
 use Rattle.pattern_spec.proofs.Shown.{never}
-use Rattle.augmented_spec.specs.declared.Pair.{Pair}
 use Rattle.augmented_spec.specs.Pairs.{pairOf}
-use Rattle.augmented_spec.proofs.Rests.{product-short, short-loses-nothing}
+use Rattle.augmented_spec.proofs.Second.{first-finite}
+use Rattle.augmented_spec.proofs.Rests.{product-short, short-loses-nothing, product-small}
 use Rattle.augmented_product.proofs.flags_of_number.Statement.{statement}
 use Rattle.augmented_product.proofs.flags_of_number.Tie as tie
 
@@ -19,11 +19,15 @@ first-shows : (s : Bool) (N : ℕ) → isInfinite (decode binary32 (encode binar
 unfolding pairOf round
 first-shows s N = ap isInfinite (decode-encode binary32 (omega arith) (roundFinite ToZero binary32 s N) (round-fits ToZero binary32 (finite s N)))
 
-twice-rounded-requires : tie.Need-twice-rounded-requires
-twice-rounded-requires c κs = search needs
+underflows-requires : tie.Need-underflows-requires
+underflows-requires c κs = search needs
 
 returns : tie.Need-returns
-returns c = ap (λ (p : Pair). p .flags) (c .before .twice-rounded .ensures)
+returns c =
+    let g = c .before in
+    let b = g .before in
+    let below = product-small (b .args .sign) (b .args .sig) (b .args .exp) (b .pre) (let l = g .if1 .taken in omega arith) in
+    rw (ap isInfinite (first-finite binary32 (b .args .sign) _ below), ← c .underflows .ensures)
 
 round-requires : tie.Need-round-requires
 round-requires c κs = search needs
@@ -41,4 +45,6 @@ returns-2 c =
     rw (short-loses-nothing (b .args .sign) (b .args .sig) (b .args .exp) short, ← over, never (c .is-infinite .result))
 
 pub flags-of-number-spec : {M : Type 1} → statement M
-flags-of-number-spec = tie.close (tie.spec twice-rounded-requires returns round-requires is-infinite-requires returns-2)
+flags-of-number-spec =
+    tie.close
+    (tie.spec underflows-requires returns round-requires is-infinite-requires returns-2)

@@ -1,6 +1,6 @@
 -- What each case of the calls' enums stands for: the refusal's number, or what the call answers (R8.7 to R8.9).
 use Rattle.pattern_spec.specs.Answer.{Answer, refused, done}
-use Rattle.accumulator_spec.specs.Totals.{TwoPatterns, pair}
+use Rattle.accumulator_spec.specs.Totals.{TwoPatterns, pairRead}
 use Rattle.accumulator.specs.declared.Cleared.{Cleared}
 use Rattle.accumulator.specs.declared.Added.{Added}
 use Rattle.accumulator.specs.declared.Reading.{Reading}
@@ -23,6 +23,6 @@ answerAdded the-added.Full = refused 8
 
 -- R8.8
 abbrev pub answerRead : Reading → Answer TwoPatterns
-answerRead (the-reading.Pair first second) = pair first second
+answerRead (the-reading.Pair first second) = pairRead first second
 answerRead the-reading.Length = refused 5
 answerRead the-reading.Unfit = refused 6

@@ -12,7 +12,7 @@ abbrev pub hasRoom : List ℕ → Bool
 hasRoom t = not (eqb (count t) mostTerms)
 
 -- a fit total that a term with the number z goes into: the answer's number, and the words as they end
-abbrev pub AddsNumber : List ℕ → ℤ → ℕ → List ℕ → Type 0
-AddsNumber before z answer after =
+abbrev pub AddsWhole : List ℕ → ℤ → ℕ → List ℕ → Type 0
+AddsWhole before z answer after =
     (answer ≡ cond (hasRoom before) 0 8)
     × (after ≡ cond (hasRoom before) (totalOf (number before +ℤ z) (suc (count before))) before)

@@ -10,7 +10,7 @@ ghost use Prim.Native.Nat.{_*_, _^_, _≤_};
 ghost use lib.ListN.{length};
 ghost use Rattle.pattern_spec.specs.Exact.{int};
 ghost use Rattle.accumulator_spec.specs.Totals.{numberSize, totalSize, mostTerms, count, ofPattern, ofProduct, AddsNumbered};
-ghost use Rattle.accumulator_add.specs.Inner.{AddsNumber};
+ghost use Rattle.accumulator_add.specs.Inner.{AddsWhole};
 
 pub fn add_pattern(total: &mut [u32], x: u32) -> u32
     ensures { λ r. ⌜ AddsNumbered (now (total .entry)) (ofPattern x) r (now (total .exit)) ⌝ }
@@ -46,7 +46,7 @@ pub fn add_product(total: &mut [u32], x: u32, y: u32) -> u32
 // Adds ±sig * 2^exp to a fit total, if there is room for one term more.
 fn add(total: &mut [u32], minus: bool, sig: u64, exp: u16) -> u32
     requires { ⌜ (length (now total) ≡ totalSize) × (count (now total) ≤ mostTerms) × (exp ≤ 32 * numberSize) ⌝ }
-    ensures { λ r. ⌜ AddsNumber (now (total .entry)) (int minus (sig * 2 ^ exp)) r (now (total .exit)) ⌝ }
+    ensures { λ r. ⌜ AddsWhole (now (total .entry)) (int minus (sig * 2 ^ exp)) r (now (total .exit)) ⌝ }
 {
     let n = total[NUMBER_SIZE];
     if n == MOST_TERMS {

@@ -4,9 +4,9 @@ use mathlib.Core.List.{List}
 use Prim.Native.Nat.{ℕ}
 use Rattle.accumulator_spec.specs.Totals.{reading}
 use Rattle.accumulator_spec.proofs.Answers.{reading-length, reading-unfit}
-use Rattle.accumulator_words.specs.Inner.{lent}
+use Rattle.accumulator_words.specs.Inner.{fault}
 use Rattle.accumulator_words.proofs.Lent.{by-number}
 use Rattle.accumulator_read.specs.Inner.{replied}
 
-pub lent-replied : (t : List ℕ) → (lent t ≡ 0 → ⊥) → replied (lent t) 0 0 ≡ reading t
-lent-replied t z = by-number t (λ h n. rw n (sym (reading-length t h))) (λ h n. rw n (sym (reading-unfit t (h .0) (h .1)))) (λ h n. absurd (z n))
+pub fault-replied : (t : List ℕ) → (fault t ≡ 0 → ⊥) → replied (fault t) 0 0 ≡ reading t
+fault-replied t z = by-number t (λ h n. rw n (sym (reading-length t h))) (λ h n. rw n (sym (reading-unfit t (h .0) (h .1)))) (λ h n. absurd (z n))

@@ -12,7 +12,8 @@ use lib.IntN.{ℤ, pos, negsuc, natAbs, subℕ, _+ℤ_}
 use lib.ListN.{length}
 use Rattle.pattern_spec.specs.Answer.{Answer, refused, done}
 use Rattle.accumulator_spec.specs.Words.{Words}
-use Rattle.accumulator_spec.specs.Totals.{totalSize, mostTerms, number, count, totalOf, fit, FitTotal, Term, finiteOperands, exactTerm, whole, adding}
+use Rattle.pattern_spec.specs.Exact.{whole}
+use Rattle.accumulator_spec.specs.Totals.{totalSize, mostTerms, number, count, totalOf, fit, FitTotal, Term, finiteOperands, exactTerm, adding}
 use Rattle.accumulator_spec.specs.Theorems.{FitIs, LowestUnfit, AcceptedTerm, ExactAdding}
 use Rattle.accumulator_spec.proofs.Answers.{adding-done, after-done}
 use Rattle.accumulator_spec.proofs.Held.{total-number, total-count, total-full, total-words}

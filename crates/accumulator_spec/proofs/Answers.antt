@@ -10,7 +10,8 @@ use Rattle.pattern_spec.specs.Answer.{refused, done}
 use Rattle.rounding_spec.specs.Format.{binary32}
 use Rattle.augmented_spec.specs.Pairs.{pairOf}
 use Rattle.accumulator_spec.specs.Theorems.{RefusedTerm, AddingRefused, ReadingRefused, ClearingIs}
-use Rattle.accumulator_spec.specs.Totals.{totalSize, mostTerms, number, count, totalOf, fit, Term, finiteOperands, exactTerm, whole}
+use Rattle.pattern_spec.specs.Exact.{whole}
+use Rattle.accumulator_spec.specs.Totals.{totalSize, mostTerms, number, count, totalOf, fit, Term, finiteOperands, exactTerm}
 use Rattle.accumulator_spec.specs.Totals.{adding, afterAdding, clearing, afterClearing, exactNumber, pairAnswer, reading}
 
 -- ---- clearing

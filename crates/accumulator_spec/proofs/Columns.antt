@@ -12,8 +12,9 @@ use lib.IntN.{ℤ, pos, natAbs, _+ℤ_, +ℤ-idl, +ℤ-idr, +ℤ-assoc, +ℤ-com
 use lib.ListN.{length}
 use Rattle.pattern_spec.specs.Answer.{done}
 use Rattle.accumulator_spec.specs.Words.{wordsOfNatural, wordsOfInteger}
-use Rattle.accumulator_spec.specs.Totals.{mostTerms, FitTotal, number, count, totalOf, Term, finiteOperands, exactTerm, whole, adding, afterAdding}
-use Rattle.accumulator_spec.specs.Columns.{zeros, column, Accepted, AllFinite, columnSum}
+use Rattle.pattern_spec.specs.Exact.{whole}
+use Rattle.accumulator_spec.specs.Totals.{zeros, mostTerms, FitTotal, number, count, totalOf, Term, finiteOperands, exactTerm, adding, afterAdding}
+use Rattle.accumulator_spec.specs.Columns.{column, Accepted, AllFinite, columnSum}
 use Rattle.accumulator_spec.specs.Theorems.{ColumnNext, AcceptedEach, AllFiniteIs, ExactColumn, AnyOrder}
 use Rattle.accumulator_spec.proofs.Held.{total-number, total-count}
 use Rattle.accumulator_spec.proofs.Adding.{sum-room, one-more, total-fit, accepts}

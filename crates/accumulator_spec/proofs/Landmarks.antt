@@ -6,11 +6,10 @@ use Prim.Native.Nat.{_^_}
 use lib.IntN.{pos, negsuc}
 use Rattle.rounding_spec.specs.Format.{binary32}
 use Rattle.rounding_spec.specs.Value.{Value, fields, magnitude, unsigned, decode}
-use Rattle.pattern_spec.specs.Exact.{times, finer}
+use Rattle.pattern_spec.specs.Exact.{whole, times, finer}
 use Rattle.pattern_spec.proofs.Integers.{times-exact, int-scale}
 use Rattle.pattern_spec.proofs.Shown.{finite-is}
 use Rattle.accumulator_spec.specs.Words.{wordsOfNatural, wordsOfInteger}
-use Rattle.accumulator_spec.specs.Totals.{whole}
 use Rattle.accumulator_spec.specs.Theorems.{TotalLandmarks, TermLandmarks, FiniteOperandsAre, PatternTerm, ProductTerm, ExactBack}
 
 pub total-landmarks : TotalLandmarks

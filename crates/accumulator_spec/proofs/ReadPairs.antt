@@ -12,14 +12,14 @@ use Rattle.rounding_spec.specs.declared.Ties.the-variants.{ToZero}
 use Rattle.rounding_spec.specs.Format.{binary32, edge}
 use Rattle.rounding_spec.specs.Value.{Value, nan, infinite, finite, decode, isFinite, encode}
 use Rattle.rounding_spec.proofs.RoundValue.{over-edge}
-use Rattle.pattern_spec.specs.Exact.{int, plus, times, finer}
+use Rattle.pattern_spec.specs.Exact.{whole, int, plus, times, finer}
 use Rattle.binary32_spec.specs.Steps.{result}
 use Rattle.pattern_spec.proofs.Integers.{plus-exact}
 use Rattle.binary32_spec.proofs.Result.{result-encode}
 use Rattle.pattern_spec.proofs.Sums.{finer-sum}
 use Rattle.augmented_spec.specs.Pairs.{Halves, pairOf, answer, exactSum, exactProduct, sumPair, productPair}
 use Rattle.augmented_spec.proofs.Second.{first-infinite, second-infinite}
-use Rattle.accumulator_spec.specs.Totals.{ofPattern, ofProduct, whole, pair, exactNumber, pairAnswer}
+use Rattle.accumulator_spec.specs.Totals.{ofPattern, ofProduct, pairRead, exactNumber, pairAnswer}
 use Rattle.accumulator_spec.specs.Columns.{AllFinite, columnSum}
 use Rattle.accumulator_spec.specs.Theorems.{ReadOverflow, ReadSum, ReadProduct}
 use Rattle.accumulator_spec.proofs.Rest.{exact-int}
@@ -38,7 +38,7 @@ read-overflow t s N f e h =
     let o = over-edge binary32 (lit≤ tt, lit≤ tt) ToZero N h in
     let n : int s N ≢ pos 0 = λ (q : int s N ≡ pos 0). not-zero s N h q in
     read-fit t f ∙ ap (λ z. pairAnswer (pairOf binary32 (exactNumber z))) e ∙ ap (λ v. pairAnswer (pairOf binary32 v)) (exact-some s N n)
-    ∙ ap₂ (λ (v w : Value). pair (encode binary32 v) (encode binary32 w)) (first-infinite binary32 s N o) (second-infinite binary32 s N o)
+    ∙ ap₂ (λ (v w : Value). pairRead (encode binary32 v) (encode binary32 w)) (first-infinite binary32 s N o) (second-infinite binary32 s N o)
   where
     not-zero : (s : Bool) (N : ℕ) → edge binary32 < N → int s N ≡ pos 0 → ⊥
     not-zero false N h q = let z : N ≡ 0 = cc in omega arith
@@ -58,8 +58,8 @@ sum-value (finite s a) (finite t b) e f n =
     ap exactNumber z ∙ exact-some (p .0) (p .1) (λ q. n (z ∙ q)) ∙ sym (p .2) ∙ sym (finer-sum binary32 s a t b)
 
 -- the patterns of a pair, as the answer of two operands shows them
-shown : (x y : ℕ) (p : Halves) → pairAnswer p ≡ pair (result binary32 (x ∷ y ∷ []) (p .first)) (result binary32 (x ∷ y ∷ []) (p .second))
-shown x y p = ap₂ pair (sym (result-encode binary32 (x ∷ y ∷ []) (p .first))) (sym (result-encode binary32 (x ∷ y ∷ []) (p .second)))
+shown : (x y : ℕ) (p : Halves) → pairAnswer p ≡ pairRead (result binary32 (x ∷ y ∷ []) (p .first)) (result binary32 (x ∷ y ∷ []) (p .second))
+shown x y p = ap₂ pairRead (sym (result-encode binary32 (x ∷ y ∷ []) (p .first))) (sym (result-encode binary32 (x ∷ y ∷ []) (p .second)))
 
 pub read-sum : ReadSum
 unfolding columnSum AllFinite sumPair answer

@@ -17,8 +17,8 @@ use Rattle.rounding_spec.proofs.RoundValue.{round-fits}
 use Rattle.pattern_spec.specs.Exact.{int}
 use Rattle.augmented_spec.specs.Pairs.{zeroTakes, secondOf, pairOf}
 use Rattle.augmented_spec.proofs.Second.{head, tail, up, tail-le, first-finite, pair-second}
-use Rattle.accumulator_spec.specs.Totals.{number, pair, exactNumber, pairAnswer}
-use Rattle.accumulator_spec.specs.Columns.{zeros, column}
+use Rattle.accumulator_spec.specs.Totals.{zeros, number, pairRead, exactNumber, pairAnswer}
+use Rattle.accumulator_spec.specs.Columns.{column}
 use Rattle.accumulator_spec.specs.Theorems.{ReadFit, ReadColumn, ReadZero, ReadRoundedToZero, ReadFinite}
 use Rattle.accumulator_spec.proofs.Answers.{reading-pair}
 use Rattle.accumulator_spec.proofs.Columns.{exact-column}
@@ -35,12 +35,12 @@ read-column xs h f =
 
 -- a number whose head is zero reads a zero of its sign twice
 module _ (s : Bool) (N : ℕ) (none : head binary32 s N ≡ 0) where
-  vanished : pairAnswer (pairOf binary32 (finite s N)) ≡ pair (encode binary32 (finite s 0)) (encode binary32 (finite s 0))
+  vanished : pairAnswer (pairOf binary32 (finite s N)) ≡ pairRead (encode binary32 (finite s 0)) (encode binary32 (finite s 0))
   unfolding limit
   vanished =
       let below : head binary32 s N < limit binary32 = rw none (pow-pos 277) in
       let empty : tail binary32 s N ≡ 0 = omega (arith, tail-le binary32 s N) in
-      ap₂ (λ (v w : Value). pair (encode binary32 v) (encode binary32 w))
+      ap₂ (λ (v w : Value). pairRead (encode binary32 v) (encode binary32 w))
       (first-finite binary32 s N below ∙ ap (finite s) none)
       (pair-second binary32 s N below ∙ ap (λ (m : ℕ). finite (cond (eqb m 0) s (unlike s (up binary32 s N))) m) empty)
 
@@ -68,7 +68,7 @@ unfolding pairOf secondOf
 read-finite t s a f e =
     let v = exactNumber (number t +ℤ int (not s) (a * 2 ^ 149)) in
     read-fit t f
-    ∙ ap₂ pair (ap (encode binary32) e)
+    ∙ ap₂ pairRead (ap (encode binary32) e)
     (ap (λ (w : Value). encode binary32 (secondOf binary32 (exactNumber (number t)) w)) e
     ∙ ap (λ (w : Value). encode binary32 (zeroTakes s (round ToZero binary32 w))) (rest-whole (number t) s a)
     ∙ sym (zero-taken s (round ToZero binary32 v) (round-fits ToZero binary32 v)))

@@ -10,8 +10,8 @@ use lib.Pow.{shl-lt, pow-mono}
 use Rattle.rounding_spec.specs.Format.{binary32, limit}
 use Rattle.rounding_spec.specs.Value.{Value, nan, infinite, finite, Fits, decode, isFinite}
 use Rattle.rounding_spec.proofs.Codec.{decode-fits}
-use Rattle.pattern_spec.specs.Exact.{int, times, finer}
-use Rattle.accumulator_spec.specs.Totals.{Term, ofPattern, ofProduct, finiteOperands, exactTerm, whole}
+use Rattle.pattern_spec.specs.Exact.{whole, int, times, finer}
+use Rattle.accumulator_spec.specs.Totals.{Term, ofPattern, ofProduct, finiteOperands, exactTerm}
 
 int-magnitude : (s : Bool) (a : ℕ) → natAbs (int s a) ≡ a
 int-magnitude false a = refl

@@ -11,8 +11,8 @@ use lib.ListN.{length}
 use Rattle.pattern_spec.specs.Answer.{Answer, refused, done}
 use Rattle.rounding_spec.specs.Format.{binary32}
 use Rattle.rounding_spec.specs.Value.{Value, nan, infinite, finite, decode, isFinite}
-use Rattle.pattern_spec.specs.Exact.{int, times, finer}
-use Rattle.accumulator_spec.specs.Totals.{totalSize, mostTerms, number, count, totalOf, fit, Term, ofPattern, ofProduct, finiteOperands, exactTerm, whole, adding, afterAdding}
+use Rattle.pattern_spec.specs.Exact.{whole, int, times, finer}
+use Rattle.accumulator_spec.specs.Totals.{totalSize, mostTerms, number, count, totalOf, fit, Term, ofPattern, ofProduct, finiteOperands, exactTerm, adding, afterAdding}
 use Rattle.accumulator_spec.proofs.Answers.{adding-special, adding-full, adding-done, after-refused, after-done}
 
 -- ---- a product is finite where both operands are

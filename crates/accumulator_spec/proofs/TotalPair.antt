@@ -21,7 +21,7 @@ use Rattle.augmented_spec.specs.Pairs.{rest, zeroTakes, secondOf, pairOf}
 use Rattle.augmented_spec.proofs.Patterns.{zero-pattern}
 use Rattle.accumulator_spec.specs.Words.{integer, wordsOfInteger}
 use Rattle.accumulator_spec.proofs.TwosComplement.{integer-held}
-use Rattle.accumulator_spec.specs.Totals.{numberSize, pair, exactNumber, pairAnswer}
+use Rattle.accumulator_spec.specs.Totals.{numberSize, pairRead, exactNumber, pairAnswer}
 use Rattle.accumulator_spec.proofs.Rest.{rest-whole, rest-le}
 
 -- a zero's pattern with the sign s, at every value of the format
@@ -43,9 +43,9 @@ module _ (z : ℤ) (first : ℕ) (is : first ≡ encode binary32 (round ToZero b
       sym (class-value first c e ∙ ap (decode binary32) is ∙ decode-encode binary32 (omega arith) (round ToZero binary32 (exactNumber z)) (round-fits ToZero binary32 (exactNumber z)))
 
   -- infinite, or NaN, which it never is: twice
-  pub halves-other : (c : Class) → c ≡ classOf first → isFinite (valueOf c) ≡ false → pair first first ≡ pairAnswer (pairOf binary32 (exactNumber z))
+  pub halves-other : (c : Class) → c ≡ classOf first → isFinite (valueOf c) ≡ false → pairRead first first ≡ pairAnswer (pairOf binary32 (exactNumber z))
   unfolding pairOf secondOf
-  halves-other c e h = ap₂ pair is (is ∙ ap (encode binary32) (same (RN0 binary32 (exactNumber z)) (ap isFinite (class-first c e) ∙ h)))
+  halves-other c e h = ap₂ pairRead is (is ∙ ap (encode binary32) (same (RN0 binary32 (exactNumber z)) (ap isFinite (class-first c e) ∙ h)))
     where
       same : (v : Value) → isFinite v ≡ false → v ≡ secondOf binary32 (exactNumber z) v
       same nan h = refl
@@ -83,8 +83,8 @@ module _ (z : ℤ) (first : ℕ) (is : first ≡ encode binary32 (round ToZero b
     -- finite: the second is what is left, rounded, from the words that hold it
     pub halves-finite : natAbs z < 2 ^ 639 → (words : List ℕ) → words ≡ wordsOfInteger numberSize left
         → (second : ℕ) → second ≡ encode binary32 (round ToZero binary32 (exactNumber (integer words)))
-        → (last : ℕ) → last ≡ zeroPattern s second → pair first last ≡ pairAnswer (pairOf binary32 (exactNumber z))
+        → (last : ℕ) → last ≡ zeroPattern s second → pairRead first last ≡ pairAnswer (pairOf binary32 (exactNumber z))
     unfolding pairOf
     halves-finite h words w second e last l =
         let y : integer words ≡ left = ap integer w ∙ left-held h in
-        ap₂ pair is (l ∙ ap (zeroPattern s) (e ∙ ap (λ (x : ℤ). encode binary32 (round ToZero binary32 (exactNumber x))) y) ∙ second-is)
+        ap₂ pairRead is (l ∙ ap (zeroPattern s) (e ∙ ap (λ (x : ℤ). encode binary32 (round ToZero binary32 (exactNumber x))) y) ∙ second-is)

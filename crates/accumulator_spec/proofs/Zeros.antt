@@ -10,8 +10,7 @@ use lib.Dec.{eqb}
 use lib.ListN.{length, take, drop, set, getD, replicate, replicate-append-replicate, drop-of-length-le}
 use lib.Seq.{drop-cons, take-suc-set}
 use Rattle.accumulator_spec.specs.Words.{allZero, natural}
-use Rattle.accumulator_spec.specs.Totals.{totalSize, isCleared}
-use Rattle.accumulator_spec.specs.Columns.{zeros}
+use Rattle.accumulator_spec.specs.Totals.{zeros, totalSize, isCleared}
 use Rattle.accumulator_spec.specs.Theorems.{ClearedZeros}
 
 -- ---- word by word

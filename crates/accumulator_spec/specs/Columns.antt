@@ -1,4 +1,4 @@
--- Columns: terms added to a total one after the other (R6.2, R7.5).
+-- Columns: terms added to a total one after the other (R6.2, R7.5, R7.13).
 use Prim.Native.Nat.{ℕ}
 use mathlib.Core.Path.{_≡_}
 use mathlib.Core.Bool.{true}
@@ -6,18 +6,15 @@ use mathlib.Core.List.{List, [], _∷_}
 use lib.ListN.{replicate}
 use lib.IntN.{ℤ, pos, _+ℤ_}
 use Rattle.pattern_spec.specs.Answer.{done}
-use Rattle.accumulator_spec.specs.Totals.{totalSize, Term, finiteOperands, exactTerm, whole, adding, afterAdding}
+use Rattle.pattern_spec.specs.Exact.{whole}
+use Rattle.accumulator_spec.specs.Totals.{totalSize, Term, finiteOperands, exactTerm, adding, afterAdding}
 
--- R8.9: the words of a cleared total
-abbrev pub zeros : List ℕ
-zeros = replicate totalSize 0
-
--- R7.5: the words after all the terms, in this order; a refused one changes nothing
+-- R7.5, R7.13: the words after all the terms, in this order; a refused one changes nothing
 unfoldable pub column : List ℕ → List Term → List ℕ
 column t [] = t
 column t (x ∷ xs) = column (afterAdding t x) xs
 
--- R7.5: every term is accepted, by the words that the one before it left
+-- R7.5, R7.13: every term is accepted, by the words that the one before it left
 unfoldable pub Accepted : List ℕ → List Term → Type 0
 Accepted t [] = Unit {0}
 Accepted t (x ∷ xs) = (adding t x ≡ done tt) × Accepted (afterAdding t x) xs

@@ -1,5 +1,5 @@
 -- What holds of words and of totals: that the definitions mean what is asked (R6, R8.7 to R8.9). Each name is a statement, proved in
--- proofs/ under the same name in its other spelling.
+-- proofs/ (proofs/Theorems.antt has them together).
 use Prim.Native.Nat.{ℕ, suc, _-_, _*_, _/_, _%_, _^_, _≤_, _<_}
 use mathlib.Core.Path.{_≡_}
 use mathlib.Core.Logic.{_≢_, _↔_}
@@ -11,14 +11,14 @@ use lib.IntN.{ℤ, pos, negsuc, natAbs, negℤ, _+ℤ_, _*ℤ_}
 use Rattle.pattern_spec.specs.Answer.{refused, done}
 use Rattle.rounding_spec.specs.Format.{binary32, edge}
 use Rattle.rounding_spec.specs.Value.{infinite, finite, decode, encode, RN0}
-use Rattle.pattern_spec.specs.Exact.{int}
+use Rattle.pattern_spec.specs.Exact.{whole, int}
 use Rattle.pattern_spec.specs.Classes.{zeroPattern}
 use Rattle.augmented_spec.specs.Pairs.{pairOf, sumPair, productPair}
 use Rattle.accumulator_spec.specs.Words.{Words, natural, integer, wordsOfInteger}
-use Rattle.accumulator_spec.specs.Totals.{numberSize, totalSize, mostTerms, number, count, totalOf, fit, FitTotal, isCleared}
-use Rattle.accumulator_spec.specs.Totals.{Term, ofPattern, ofProduct, finiteOperands, exactTerm, whole, adding, afterAdding}
-use Rattle.accumulator_spec.specs.Totals.{clearing, afterClearing, pair, exactNumber, pairAnswer, reading}
-use Rattle.accumulator_spec.specs.Columns.{zeros, column, Accepted, AllFinite, columnSum}
+use Rattle.accumulator_spec.specs.Totals.{zeros, numberSize, totalSize, mostTerms, number, count, totalOf, fit, FitTotal, isCleared}
+use Rattle.accumulator_spec.specs.Totals.{Term, ofPattern, ofProduct, finiteOperands, exactTerm, adding, afterAdding}
+use Rattle.accumulator_spec.specs.Totals.{clearing, afterClearing, pairRead, exactNumber, pairAnswer, reading}
+use Rattle.accumulator_spec.specs.Columns.{column, Accepted, AllFinite, columnSum}
 
 -- ---- words, however many (R6.1)
 -- word i counts 2 ^ (32 i); the words of -(n + 1) are the complements of n's
@@ -148,12 +148,12 @@ ClearingIs =
     × (length t ≡ totalSize → (clearing t ≡ done tt) × (afterClearing t ≡ zeros))
 
 -- ---- columns
--- a column is one adding after the other, each on the words that the last one left
+-- a column is one adding after the other, each on the words as they then are
 abbrev pub ColumnNext : Type 0
 ColumnNext =
     (t : List ℕ) (xs : List Term) (x : Term) → (column t [] ≡ t) × (column t (xs ++ (x ∷ [])) ≡ afterAdding (column t xs) x)
 
--- its terms are accepted where each of them is
+-- where a column is accepted, so is each of its terms, by the words before it
 abbrev pub AcceptedEach : Type 0
 AcceptedEach = (t : List ℕ) (xs ys : List Term) (x : Term) → Accepted t (xs ++ (x ∷ ys)) → adding (column t xs) x ≡ done tt
 
@@ -201,37 +201,37 @@ abbrev pub ReadFinite : Type 0
 ReadFinite =
     (t : List ℕ) (s : Bool) (a : ℕ) → FitTotal t → RN0 binary32 (exactNumber (number t)) ≡ finite s a
     → reading t
-    ≡ pair (encode binary32 (finite s a))
+    ≡ pairRead (encode binary32 (finite s a))
     (zeroPattern s (encode binary32 (RN0 binary32 (exactNumber (number t +ℤ int (not s) (a * 2 ^ 149))))))
 
 -- R6.7: strictly above 2 ^ 128 - 2 ^ 103
 abbrev pub ReadOverflow : Type 0
 ReadOverflow =
     (t : List ℕ) (s : Bool) (N : ℕ) → FitTotal t → number t ≡ int s N → edge binary32 < N
-    → reading t ≡ pair (encode binary32 (infinite s)) (encode binary32 (infinite s))
+    → reading t ≡ pairRead (encode binary32 (infinite s)) (encode binary32 (infinite s))
 
 -- R6.8: the total zero
 abbrev pub ReadZero : Type 0
-ReadZero = (t : List ℕ) → FitTotal t → number t ≡ pos 0 → reading t ≡ pair 0 0
+ReadZero = (t : List ℕ) → FitTotal t → number t ≡ pos 0 → reading t ≡ pairRead 0 0
 
 -- R6.6: a total that is not zero, of a magnitude up to 2 ^ -150, which is half of u, reads a zero of its own sign twice
 abbrev pub ReadRoundedToZero : Type 0
 ReadRoundedToZero =
     (t : List ℕ) (s : Bool) (N : ℕ) → FitTotal t → number t ≡ int s (suc N) → suc N ≤ 2 ^ 148
-    → reading t ≡ pair (encode binary32 (finite s 0)) (encode binary32 (finite s 0))
+    → reading t ≡ pairRead (encode binary32 (finite s 0)) (encode binary32 (finite s 0))
 
 -- two patterns read their sum pair (R3.1) where the exact result is not zero (a zero total forgets signs),
 abbrev pub ReadSum : Type 0
 ReadSum =
     (x y : ℕ) → finiteOperands (ofPattern x) ≡ true → finiteOperands (ofPattern y) ≡ true
     → columnSum (ofPattern x ∷ ofPattern y ∷ []) ≢ pos 0
-    → reading (column zeros (ofPattern x ∷ ofPattern y ∷ [])) ≡ pair (sumPair binary32 x y .first) (sumPair binary32 x y .second)
+    → reading (column zeros (ofPattern x ∷ ofPattern y ∷ [])) ≡ pairRead (sumPair binary32 x y .first) (sumPair binary32 x y .second)
 
 -- and a product its product pair (R3.2)
 abbrev pub ReadProduct : Type 0
 ReadProduct =
     (x y : ℕ) → finiteOperands (ofProduct x y) ≡ true → columnSum (ofProduct x y ∷ []) ≢ pos 0
-    → reading (column zeros (ofProduct x y ∷ [])) ≡ pair (productPair binary32 x y .first) (productPair binary32 x y .second)
+    → reading (column zeros (ofProduct x y ∷ [])) ≡ pairRead (productPair binary32 x y .first) (productPair binary32 x y .second)
 
 -- all of them
 abbrev pub All : Type 0

@@ -10,8 +10,8 @@ use lib.IntN.{ℤ, pos, negsuc, natAbs, _+ℤ_}
 use Rattle.rounding_spec.specs.Format.{binary32}
 use Rattle.rounding_spec.specs.Value.{Value, finite, decode, encode, isFinite}
 use Rattle.pattern_spec.specs.Answer.{Answer, refused, done, isDone, refusalOf}
-use Rattle.pattern_spec.specs.Exact.{times, finer}
-pub use Rattle.pattern_spec.specs.Exact.{whole}
+use Rattle.pattern_spec.specs.Exact.{whole, times, finer}
+use Rattle.pattern_spec.specs.Classes.{bothFinite}
 use Rattle.augmented_spec.specs.Pairs.{Halves, pairOf}
 use Rattle.accumulator_spec.specs.Words.{Words, allZero, integer, wordsOfInteger}
 
@@ -50,7 +50,11 @@ pub record FitTotal (t : List ℕ) : Type 0 where
   pub words : Words t
   pub fits : fit t ≡ true
 
--- R8.9: the words of a total, all zero
+-- R8.9: the words of a cleared total
+abbrev pub zeros : List ℕ
+zeros = replicate totalSize 0
+
+-- R8.12: whether these are such words
 abbrev pub isCleared : List ℕ → Bool
 isCleared t = eqb (length t) totalSize && allZero t
 
@@ -62,7 +66,7 @@ pub data Term : Type 0 where
 -- R8.7: no operand is infinite or NaN
 abbrev pub finiteOperands : Term → Bool
 finiteOperands (ofPattern x) = isFinite (decode binary32 x)
-finiteOperands (ofProduct x y) = isFinite (decode binary32 x) && isFinite (decode binary32 y)
+finiteOperands (ofProduct x y) = bothFinite x y
 
 -- R6.2: the exact value, in units of 2 ^ -298
 abbrev pub exactTerm : Term → Value
@@ -98,7 +102,7 @@ clearing t = cond (not (eqb (length t) totalSize)) (refused 5) (done tt)
 
 -- the words as they end: all zero; unchanged where it is refused
 unfoldable pub afterClearing : List ℕ → List ℕ
-afterClearing t = cond (isDone (clearing t)) (replicate totalSize 0) t
+afterClearing t = cond (isDone (clearing t)) zeros t
 
 -- what a call that clears these words answers, and the words that it leaves
 abbrev pub Clears : List ℕ → Answer (Unit {0}) → List ℕ → Type 0
@@ -110,8 +114,8 @@ pub record TwoPatterns : Type 0 where
   pub first : ℕ
   pub second : ℕ
 
-abbrev pub pair : ℕ → ℕ → Answer TwoPatterns
-pair first second = done (record { first = first; second = second })
+abbrev pub pairRead : ℕ → ℕ → Answer TwoPatterns
+pairRead first second = done (record { first = first; second = second })
 
 -- R6.5 to R6.8: a total's number as an exact value, to be rounded; zero has the sign +
 abbrev pub exactNumber : ℤ → Value
@@ -120,7 +124,7 @@ exactNumber (negsuc n) = finite true (suc n)
 
 -- the patterns of two halves
 abbrev pub pairAnswer : Halves → Answer TwoPatterns
-pairAnswer p = pair (encode binary32 (p .first)) (encode binary32 (p .second))
+pairAnswer p = pairRead (encode binary32 (p .first)) (encode binary32 (p .second))
 
 -- the answer: 5, other than a total's words; 6, an unfit total; else the pair of its number. No word is changed: they are lent to be
 -- looked at only.

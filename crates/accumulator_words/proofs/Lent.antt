@@ -8,7 +8,7 @@ use borrow.Author.Tests.{eqb-true, eqb-false}
 use lib.Dec.{eqb}
 use lib.ListN.{length}
 use Rattle.accumulator_spec.specs.Totals.{totalSize, fit}
-use Rattle.accumulator_words.specs.Inner.{lent}
+use Rattle.accumulator_words.specs.Inner.{fault}
 
 module _ (t : List ℕ) where
   abbrev pub Length : Type 0
@@ -21,7 +21,7 @@ module _ (t : List ℕ) where
   Sound = (length t ≡ totalSize) × (fit t ≡ true)
 
   -- one of the three, with its number
-  pub by-number : {G : Type 0} → (Length → lent t ≡ 5 → G) → (Unfit → lent t ≡ 6 → G) → (Sound → lent t ≡ 0 → G) → G
+  pub by-number : {G : Type 0} → (Length → fault t ≡ 5 → G) → (Unfit → fault t ≡ 6 → G) → (Sound → fault t ≡ 0 → G) → G
   by-number {G} five six none = go (eqb (length t) totalSize) refl (fit t) refl
     where
       go : (b : Bool) → eqb (length t) totalSize ≡ b → (f : Bool) → fit t ≡ f → G
@@ -29,5 +29,5 @@ module _ (t : List ℕ) where
       go true p false q = six (eqb-true (length t) totalSize p, q) (rw (p, q))
       go true p true q = none (eqb-true (length t) totalSize p, q) (rw (p, q))
 
-  pub sound : lent t ≡ 0 → Sound
+  pub sound : fault t ≡ 0 → Sound
   sound e = by-number (λ h n. absurd (omega arith)) (λ h n. absurd (omega arith)) (λ h n. h)

@@ -14,8 +14,8 @@ abbrev pub carried : List ℕ → Bool → ℕ → ℕ → List ℕ
 carried ws minus sig shift = wordsOfInteger (length ws) (pos (natural ws) +ℤ int minus (sig * 2 ^ shift))
 
 -- the number of what is wrong with lent words, whatever the call: 0 for a fit total (R8.7, R8.8)
-abbrev pub lent : List ℕ → ℕ
-lent t = cond (not (eqb (length t) totalSize)) 5 (cond (not (fit t)) 6 0)
+abbrev pub fault : List ℕ → ℕ
+fault t = cond (not (eqb (length t) totalSize)) 5 (cond (not (fit t)) 6 0)
 
 -- whether words that show this sign, the top one as it is or its complement, are within a limit that counts the top one's weight
 abbrev pub belowLimit : List ℕ → Bool → ℕ → ℕ → Bool

@@ -9,11 +9,11 @@ ghost use mathlib.Core.Bool.{cond};
 ghost use lib.ListN.{length};
 ghost use Rattle.accumulator_spec.specs.Words.{complement};
 ghost use Rattle.accumulator_spec.specs.Totals.{totalSize, fit};
-ghost use Rattle.accumulator_words.specs.Inner.{lent, belowLimit};
+ghost use Rattle.accumulator_words.specs.Inner.{fault, belowLimit};
 
 // What is tried first of lent words, by its refusal: 5, 6, or 0 for a fit total (R8.7, R8.8).
 pub fn refusal(total: &[u32]) -> u32
-    ensures { λ r. ⌜ r ≡ lent (now (total .entry)) ⌝ }
+    ensures { λ r. ⌜ r ≡ fault (now (total .entry)) ⌝ }
 {
     if total.len() != TOTAL_SIZE {
         return 5;

@@ -1,4 +1,4 @@
--- The table of cases (R10), and the theorem over all its rows, `Table`: `proofs/Theorems.antt` has its proof, `table`.
+-- The table of cases (R10.1), and the theorem over all its rows, `Table`: `proofs/Theorems.antt` has its proof, `table`.
 use Prim.Native.Nat.{ℕ}
 use mathlib.Core.Path.{_≡_}
 use mathlib.Core.List.{List, [], _∷_}

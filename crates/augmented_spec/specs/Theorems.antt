@@ -131,7 +131,7 @@ ProductAddsUp =
     × (p .flags .inexact ≡ false → finerInt F q c +ℤ finerInt F r d ≡ E) × (p .flags .inexact ≡ true → finerInt F q c +ℤ finerInt F r d ≢ E)
 
 -- ---- flags of finite operands
--- R4.3 to R4.5: OX where first overflows; otherwise none, but UX of a product that is not met.
+-- R4.3 to R4.5: OX where first overflows; otherwise none, but UX of a product that the pair does not add up to.
 -- Which of the two a finite product pair has, `ProductAddsUp` says.
 abbrev pub FlagsOfFinite : Type 0
 FlagsOfFinite =
@@ -163,7 +163,7 @@ ZeroTimesInfinity =
     (F : Format) (x y : ℕ) (s t : Bool) → decode F x ≡ finite s 0 → decode F y ≡ infinite t
     → Twice (directPair product F x y) (nanOf F (x ∷ y ∷ [])) I × Twice (directPair product F y x) (nanOf F (y ∷ x ∷ [])) I
 
--- R2.3: every other infinite operand x, on either side. An infinite addend gives its sign, flipped on the right
+-- R3.6, R3.8, R4.3: every other infinite operand x, on either side. An infinite addend gives its sign, flipped on the right
 -- of a difference; an infinite factor, times an infinity or a number that is not zero, the product of signs.
 abbrev pub InfiniteOperand : Type 0
 InfiniteOperand =

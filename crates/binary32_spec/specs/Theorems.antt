@@ -61,7 +61,7 @@ InfiniteFactors x s y t =
     ⊎ (((b : ℕ) × (0 < b) × (decode binary32 x ≡ infinite s) × (decode binary32 y ≡ finite t b))
     ⊎ ((a : ℕ) × (0 < a) × (decode binary32 x ≡ finite s a) × (decode binary32 y ≡ infinite t)))
 
--- NaN from operands that are not NaN: opposite infinities, zero times infinity
+-- invalid operations (R2.3, R2.4): opposite infinities, zero times infinity
 abbrev pub StepInvalid : Type 0
 StepInvalid =
     ((x y : ℕ) (s : Bool) → decode binary32 x ≡ infinite s → decode binary32 y ≡ infinite (not s) → addStep x y ≡ 0x7fc0_0000)

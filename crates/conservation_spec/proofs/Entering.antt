@@ -96,7 +96,7 @@ set-count product x y = refl
 -- the foot of a filled sheet is the direct pair
 foot-is : (a : Answer FilledSheet) (p : Pair) → isDone a ≡ true → ((n : ℕ) (r : Pair) → a ≡ filled n r → r ≡ p) → footTerms a ≡ ofPattern (p .first) ∷ ofPattern (p .second) ∷ []
 foot-is (refused n) p e h = absurd (true≢false (sym e))
-foot-is (done s) p e h = ap (λ (z : Pair). footTerms (filled (s .lines) z)) (h (s .lines) (s .pair) refl)
+foot-is (done s) p e h = ap (λ (z : Pair). footTerms (filled (s .lineCount) z)) (h (s .lineCount) (s .pair) refl)
 
 pub entering : (q : Posed) → q .y < 2 ^ 32 → enters q ≡ true → Entering q
 unfolding enters

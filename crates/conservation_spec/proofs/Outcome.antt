@@ -10,14 +10,14 @@ use Rattle.accumulator_spec.specs.Words.{Words}
 use Rattle.conservation_spec.specs.Lists.{Totals, Event, afterEvents}
 use Rattle.conservation_spec.specs.Claim.{BothHold, Met, Conserves}
 use Rattle.conservation_spec.specs.Replay.{Asking, Lent, entriesOf, eventsOf, afterAsking, allWithin, replaying, afterReplaying, Replays}
-use Rattle.conservation_spec.specs.Theorems.{cleared, Replayed}
+use Rattle.conservation_spec.specs.Theorems.{cleared, ReplayConserves}
 use Rattle.conservation_spec.proofs.Claim.{conserved}
 use Rattle.conservation_spec.proofs.Events.{questions-of, allowed-of}
 use Rattle.conservation_spec.proofs.Misfits.{cleared-already, fits, is-done}
 
-pub replayed : Replayed
+pub replay-conserves : ReplayConserves
 unfolding afterReplaying
-replayed q l v w e =
+replay-conserves q l v w e =
     let f = fits q l e in
     let first = l .totals .first in
     let other = l .totals .other in
@@ -55,7 +55,7 @@ module _ (q : Asking) (l : Lent) where
     pub done-outcome : Words (q .xs) → Words (q .ys) → (after : Lent) → after ≡ afterAsking q l → Replays q l a after
     unfolding afterReplaying
     done-outcome v w after e =
-        let r = replayed q l v w answered in
+        let r = replay-conserves q l v w answered in
         let is-after : after ≡ afterReplaying q l = rw answered e in
         let h : BothHold (after .totals) es = subst (λ (k : Lent). BothHold (k .totals) es) (sym is-after) (r .0) in
         record {

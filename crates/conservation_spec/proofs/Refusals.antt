@@ -9,8 +9,7 @@ use borrow.Author.Tests.{eq-eqb, ne-eqb, le-leb}
 use lib.Dec.{eqb}
 use lib.ListN.{length, getD}
 use Rattle.pattern_spec.specs.Answer.{refused}
-use Rattle.accumulator_spec.specs.Totals.{isCleared}
-use Rattle.accumulator_spec.specs.Columns.{zeros}
+use Rattle.accumulator_spec.specs.Totals.{zeros, isCleared}
 use Rattle.accumulator_spec.proofs.Zeros.{cleared-zeros}
 use Rattle.conservation_spec.specs.Lists.{mostQuestions}
 use Rattle.conservation_spec.specs.Replay.{Asking, Lent, allEqual, allWithin, replaying, afterReplaying}

@@ -29,7 +29,7 @@ module _ (q : Posed) where
   refused-out n e = rw (← e)
 
   -- what a call of filling and the adding calls leave
-  module _ (t : Totals) {words : List ℕ} {answer : Answer FilledSheet} (f : Fills (q .operation) (q .x) (q .y) answer (q .words) words) where
+  module _ (t : Totals) {words : List ℕ} {answer : Answer FilledSheet} (f : Fills (q .operation) (q .x) (q .y) (q .words) answer words) where
     out : enters q ≡ false → Settles q t words t
     out e = (f .1, rw e)
 

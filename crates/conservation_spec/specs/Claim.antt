@@ -18,7 +18,7 @@ pub record BothHold (t : Totals) (es : List Event) : Type 0 where
   pub firstNumber : number (t .first) ≡ book es
   pub otherNumber : number (t .other) ≡ book es
   pub sameWords : take numberSize (t .first) ≡ take numberSize (t .other)
-  -- the counts are 2(s + p) and 2s + p
+  -- the counts (R7.13)
   pub firstCount : count (t .first) ≡ 2 * (enteringSums es + enteringProducts es)
   pub otherCount : count (t .other) ≡ 2 * enteringSums es + enteringProducts es
   -- all their words
@@ -28,8 +28,8 @@ pub record BothHold (t : Totals) (es : List Event) : Type 0 where
   pub firstRead : reading (t .first) ≡ pairAnswer (pairOf binary32 (exactNumber (book es)))
   pub otherRead : reading (t .other) ≡ pairAnswer (pairOf binary32 (exactNumber (book es)))
 
--- How a call was met. All terms of an entering question were accepted (R7.13). The others answer 7 or 8, and nothing is changed by them, by
--- a question that does not enter, or by a reading (R7.7, R7.11); what a reading answers is the claim about the part of the list before it.
+-- How a call was met. All terms of an entering question were accepted (R7.13). Other adding calls answer 7 or 8, and nothing is changed by
+-- them, by a question that does not enter, or by a reading (R7.7, R7.11); what a reading answers is the claim about the list before it.
 abbrev pub MetNow : Totals → Event → Type 0
 MetNow t (asks q) =
     (enters q ≡ true

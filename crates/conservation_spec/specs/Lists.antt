@@ -1,4 +1,4 @@
--- Lists of calls over two totals (R7): which question enters, what each call leaves, and the plain book beside them.
+-- Lists of calls over two totals (R7): which question enters, what each call leaves, and S.
 -- Questions and adding calls act by the definitions that the contracts of `fill`, `add_pattern` and `add_product` cite; `read` is lent its
 -- total to look at only, and answers by `reading`.
 use Prim.Native.Nat.{ℕ, suc, _+_, _*_}
@@ -53,7 +53,7 @@ abbrev pub footTerms : Answer FilledSheet → List Term
 footTerms (refused n) = []
 footTerms (done s) = ofPattern (s .pair .first) ∷ ofPattern (s .pair .second) ∷ []
 
--- for the other total (R7.10): x and y, with y flipped for a difference, or their product
+-- for the other total (R7.10): the question's two addends, or its product
 abbrev pub setTerms : Operation → ℕ → ℕ → List Term
 setTerms sum x y = ofPattern x ∷ ofPattern y ∷ []
 setTerms difference x y = ofPattern x ∷ ofPattern (flip binary32 y) ∷ []
@@ -72,7 +72,7 @@ abbrev pub totalOn : Side → Totals → List ℕ
 totalOn onFirst t = t .first
 totalOn onOther t = t .other
 
--- questions, and before, between and after them readings and adding calls on either total (R7.7)
+-- a question, a reading or an adding call on either total (R7.7)
 pub data Event : Type 0 where
   asks : Posed → Event
   reads : Side → Event
@@ -99,8 +99,8 @@ unfoldable pub afterEvents : Totals → List Event → Totals
 afterEvents t [] = t
 afterEvents t (e ∷ es) = afterEvents (afterEvent t e) es
 
--- ---- the plain book beside them: S, a whole number of 2^-298 (R7.12)
--- the exact x + y, x - y or xy, from the decoded operands alone
+-- ---- S, kept apart from the totals (R7.12), in units of 2^-298
+-- a question's exact result, from the decoded operands alone
 abbrev pub exactOfPatterns : Operation → ℕ → ℕ → ℤ
 exactOfPatterns o x y = exactResult o binary32 (whole (decode binary32 x)) (whole (decode binary32 y))
 

@@ -11,7 +11,7 @@ use Rattle.rounding_spec.specs.Format.{binary32}
 use Rattle.rounding_spec.specs.Value.{decode, isFinite}
 use Rattle.worksheet_spec.specs.Lines.{sheetSize}
 use Rattle.accumulator_spec.specs.Words.{Words}
-use Rattle.accumulator_spec.specs.Totals.{totalSize, mostTerms, count, finiteOperands, afterClearing}
+use Rattle.accumulator_spec.specs.Totals.{totalSize, mostTerms, zeros, count, finiteOperands, afterClearing}
 use Rattle.conservation_spec.specs.Lists.{mostQuestions, Posed, directFor, enters, Totals, totalOn}
 use Rattle.conservation_spec.specs.Lists.{Event, asks, reads, adds, afterEvent, afterEvents, questions}
 use Rattle.conservation_spec.specs.Claim.{BothHold, Met}
@@ -49,8 +49,8 @@ EntersExactly =
 
 -- ---- lists in one call
 -- Where `replay` is carried out, the claim holds of its questions, and these are as many as the arrays have. xs and ys hold 32-bit words.
-abbrev pub Replayed : Type 0
-Replayed =
+abbrev pub ReplayConserves : Type 0
+ReplayConserves =
     (q : Asking) (l : Lent) → Words (q .xs) → Words (q .ys) → replaying q l ≡ done tt
     → let es = eventsOf (entriesOf q) (l .words) in
     BothHold (afterReplaying q l .totals) es × Met (l .totals) es × (questions es ≡ length (q .operations))
@@ -59,7 +59,7 @@ Replayed =
 abbrev pub ReplayRefused : Type 0
 ReplayRefused =
     (q : Asking) (l : Lent)
-    → let n = length (q .operations) in let answer = replaying q l in let zeros : List ℕ = replicate totalSize 0 in
+    → let n = length (q .operations) in let answer = replaying q l in
     ((length (q .xs) ≢ n) ⊎ (length (q .ys) ≢ n) ⊎ (length (q .counts) ≢ n) → answer ≡ refused 101)
     × (length (q .xs) ≡ n → length (q .ys) ≡ n → length (q .counts) ≡ n
     → (mostQuestions < n → answer ≡ refused 102)
@@ -78,4 +78,4 @@ QuestionLimit = mostQuestions ≡ 32768
 
 -- ---- all of them
 abbrev pub All : Type 0
-All = QuestionLimit × Conserved × EntersExactly × Replayed × ReplayRefused × ReplayUnchanged
+All = QuestionLimit × Conserved × EntersExactly × ReplayConserves × ReplayRefused × ReplayUnchanged

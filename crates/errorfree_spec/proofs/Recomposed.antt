@@ -21,7 +21,7 @@ use Rattle.rounding_spec.proofs.TieDown.{error-le}
 use Rattle.pattern_spec.specs.Exact.{negate}
 use Rattle.binary32_spec.specs.Steps.{subValue, mulValue}
 use Rattle.errorfree_spec.specs.Comparisons.{same}
-use Rattle.errorfree_spec.specs.Constants.{Roomy, psi, two}
+use Rattle.errorfree_spec.specs.Constants.{Roomy, psiValue, twoValue}
 use Rattle.errorfree_spec.proofs.Signed.{Rel, Is, rel-own, rel-dist, is-negate, is-shift, same-eq, eq-same}
 use Rattle.errorfree_spec.proofs.Steps.{toEven, toZero, zero-at, round-whole, is-sub, mul-positive}
 use Rattle.errorfree_spec.proofs.Split.{Split, Split0}
@@ -46,7 +46,7 @@ rel-double false true m p n h = omega arith
 rel-double true false m p n h = omega arith
 rel-double true true m p n h = omega arith
 
-is-double : (F : Format) (r : Bool) (x : Value) (p n : ℕ) → Is r x p n → Rep (suc (F .fraction)) 0 (dist p n) → 2 * dist p n < limit F → Is r (mulValue F (two F) x) (2 * p) (2 * n)
+is-double : (F : Format) (r : Bool) (x : Value) (p n : ℕ) → Is r x p n → Rep (suc (F .fraction)) 0 (dist p n) → 2 * dist p n < limit F → Is r (mulValue F (twoValue F) x) (2 * p) (2 * n)
 is-double F r nan p n h a b = absurd h
 is-double F r (infinite s) p n h a b = absurd h
 is-double F r (finite s m) p n h a b =
@@ -63,7 +63,7 @@ module _ (F : Format) (room : Roomy F) (s : Bool) (n A : ℕ) (b : Value) (h : S
   unfolding Z
   zn = psi-near F room A
 
-  z-is : mulValue F (psi F) (finite s A) ≡ finite s Z
+  z-is : mulValue F (psiValue F) (finite s A) ≡ finite s Z
   unfolding Z
   z-is =
       let c = (2 ^ suc (F .fraction) - 1) * 2 ^ (low F - suc (F .fraction)) in
@@ -75,7 +75,7 @@ module _ (F : Format) (room : Roomy F) (s : Bool) (n A : ℕ) (b : Value) (h : S
       let q = is-sub F s (finite s Z) (finite s A) Z 0 A 0 (rel-own s Z) (rel-own s A) (rw e (z-diff Z (h .near) zn)) (rw e (omega (arith, z-le Z (h .near) zn, h .fine))) in
       is-shift s (subValue F (finite s Z) (finite s A)) (Z + 0) (0 + A) Z A q (omega arith)
 
-  e-is : Is s (mulValue F (two F) b) (2 * n) (2 * A)
+  e-is : Is s (mulValue F (twoValue F) b) (2 * n) (2 * A)
   e-is = is-double F s b n A (h .rest) (h .error) (lt-of-le-of-lt (error-le (h .near)) (h .fine))
 
   choice : (c : Bool) → (T c → 2 * n + A ≡ Z + 2 * A) → (2 * n + A ≡ Z + 2 * A → T c)
@@ -94,15 +94,15 @@ module _ (F : Format) (room : Roomy F) (s : Bool) (n A : ℕ) (b : Value) (h : S
       let f : A ≡ toZero F (n * 2 ^ low F) = near0-one (choose-a Z (h .near) zn (λ t. y (omega arith))) (zero-at F n) in
       rw (← f) (record { is = refl; near = rw f (zero-at F n); fine = h .fine; error = h .error; rest = h .rest })
 
-  pub recomposed : (z d e : Value) → z ≡ mulValue F (psi F) (finite s A) → d ≡ subValue F z (finite s A) → e ≡ mulValue F (two F) b
+  pub recomposed : (z d e : Value) → z ≡ mulValue F (psiValue F) (finite s A) → d ≡ subValue F z (finite s A) → e ≡ mulValue F (twoValue F) b
       → Split0 F s n (toZero F (n * 2 ^ low F)) (cond (same e d) z (finite s A)) (cond (same e d) (negate b) b)
   recomposed z d e zi di ei =
       let v = subValue F (finite s Z) (finite s A) in
-      let w = mulValue F (two F) b in
+      let w = mulValue F (twoValue F) b in
       rw (ei, di, zi, z-is) (choice (same w v) (same-eq s w v (2 * n) (2 * A) Z A e-is d-is) (eq-same s w v (2 * n) (2 * A) Z A e-is d-is))
 
 -- ---- the product of a finite value is finite
-pub psi-finite : (F : Format) → Roomy F → (s : Bool) (A : ℕ) → Fits F (finite s A) → isFinite (mulValue F (psi F) (finite s A)) ≡ true
+pub psi-finite : (F : Format) → Roomy F → (s : Bool) (A : ℕ) → Fits F (finite s A) → isFinite (mulValue F (psiValue F) (finite s A)) ≡ true
 unfolding Fits
 psi-finite F room s A f =
     let none : dist A A ≡ 0 = omega arith in

@@ -28,7 +28,7 @@ use Rattle.pattern_spec.proofs.Integers.{plus-exact}
 use Rattle.augmented_spec.specs.Pairs.{rest, addsUp}
 use Rattle.augmented_spec.proofs.Distance.{int-size}
 use Rattle.errorfree_spec.specs.Comparisons.{same, lessMagnitude}
-use Rattle.errorfree_spec.specs.Constants.{psi}
+use Rattle.errorfree_spec.specs.Constants.{psiValue}
 use Rattle.errorfree_spec.specs.Theorems.{SameMeans, LessMeans, SumError, ProductError, Fast2Sum, FusedRest, PsiPredecessor, Recomposition, Binary32Roomy, All}
 use Rattle.errorfree_spec.proofs.NoNumber.{not-both, none-zero, number-of, both-of, sum-none, finer-none, negate-none, add-none}
 use Rattle.errorfree_spec.proofs.Signed.{Is, rel-dist}
@@ -202,7 +202,7 @@ recomposition F room s n a b z d e ai f bf add zi di ei =
     let left : Is s b n A = up-adds F s n A b (addend-finite F (finite s N) a b add) (subst (λ (v : Value). addsUp F (finite s N) (record { first = v; second = b }) ≡ true) a-is add) in
     let size : q .1 ≡ dist n A = rel-dist s (q .0) (q .1) n A (subst (λ (v : Value). Is s v n A) (q .2) left) in
     let error : Rep (suc (F .fraction)) 0 (dist n A) = rw (← size) (subst (Fits F) (q .2) bf .0) in
-    let h = split.recomposed F room s n A b (record { near = even-at F n; fine = fine; error = error; rest = left }) z d e (zi ∙ ap (mulValue F (psi F)) a-is) (di ∙ ap (subValue F z) a-is) ei in
+    let h = split.recomposed F room s n A b (record { near = even-at F n; fine = fine; error = error; rest = left }) z d e (zi ∙ ap (mulValue F (psiValue F)) a-is) (di ∙ ap (subValue F z) a-is) ei in
     rw a-is (h .is ∙ sym (round-below ToZero F s N (h .fine)), rw (h .is) (adds-up F s n (toZero F N) (cond (same e d) (negate b) b) (h .rest)))
 
 pub binary32-roomy : Binary32Roomy

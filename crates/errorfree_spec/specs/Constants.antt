@@ -11,8 +11,8 @@ abbrev pub Roomy : Format → Type 0
 Roomy F = 3 * suc (F .fraction) ≤ F .emax
 
 -- ψ, 1 - 2 ^ -precision: 1 - 2 ^ -24 in binary32
-abbrev pub psi : Format → Value
-psi F = finite false ((2 ^ suc (F .fraction) - 1) * 2 ^ (low F - suc (F .fraction)))
+abbrev pub psiValue : Format → Value
+psiValue F = finite false ((2 ^ suc (F .fraction) - 1) * 2 ^ (low F - suc (F .fraction)))
 
-abbrev pub two : Format → Value
-two F = finite false (2 ^ suc (low F))
+abbrev pub twoValue : Format → Value
+twoValue F = finite false (2 ^ suc (low F))

@@ -1,4 +1,4 @@
--- What is proved of error-free transformations, for a course to cite. `All`, at the end, lists the statements, and `proofs/Theorems.antt`
+-- What is proved of error-free transformations. `All`, at the end, lists the statements, and `proofs/Theorems.antt`
 -- has their proofs. They speak of any format, two of them of any `Roomy` one (Constants), as binary32 is.
 use mathlib.Core.Path.{_≡_}
 use mathlib.Core.Bool.{Bool, true, false, Bool·beq, cond}
@@ -13,7 +13,7 @@ use Rattle.pattern_spec.specs.Exact.{negate, plus, times, finer, int}
 use Rattle.binary32_spec.specs.Steps.{addValue, subValue, mulValue, fmaValue}
 use Rattle.augmented_spec.specs.Pairs.{addsUp}
 use Rattle.errorfree_spec.specs.Comparisons.{same, lessMagnitude}
-use Rattle.errorfree_spec.specs.Constants.{Roomy, psi, two}
+use Rattle.errorfree_spec.specs.Constants.{Roomy, psiValue, twoValue}
 
 -- ---- what comparisons mean
 -- finite values are the same where their numbers are, whatever the sign of zero; NaN is the same as nothing, and an infinity as itself
@@ -61,7 +61,7 @@ FusedRest =
     → a ≡ mulValue F (finite s c) (finite t d) → b ≡ fmaValue F (finite s c) (finite t d) (negate a) → isFinite a ≡ true
     → addsUp F (times (finite s c) (finite t d)) (record { first = a; second = b }) ≡ true
 
--- ---- the product by psi is the predecessor: of every number above 2 ^ (1 - emax), the smallest normal one
+-- ---- the product by psiValue is the predecessor: of every number above 2 ^ (1 - emax), the smallest normal one
 pub record Predecessor (F : Format) (a p : ℕ) : Type 0 where
   pub rep : Rep (suc (F .fraction)) 0 p
   pub below : p < a
@@ -70,7 +70,7 @@ pub record Predecessor (F : Format) (a p : ℕ) : Type 0 where
 abbrev pub PsiPredecessor : Type 0
 PsiPredecessor =
     (F : Format) → Roomy F → (s : Bool) (a : ℕ) → Fits F (finite s a) → 2 ^ F .fraction < a
-    → (p : ℕ) × (mulValue F (psi F) (finite s a) ≡ finite s p) × Predecessor F a p
+    → (p : ℕ) × (mulValue F (psiValue F) (finite s a) ≡ finite s p) × Predecessor F a p
 
 -- ---- recomposition turns RNe into RN0
 -- of a whole number n of u with the sign s, which a and b add up to
@@ -79,7 +79,7 @@ Recomposition =
     (F : Format) → Roomy F → (s : Bool) (n : ℕ) (a b z d e : Value)
     → a ≡ RNe F (finite s (n * 2 ^ low F)) → isFinite a ≡ true → Fits F b
     → addsUp F (finite s (n * 2 ^ low F)) (record { first = a; second = b }) ≡ true
-    → z ≡ mulValue F (psi F) a → d ≡ subValue F z a → e ≡ mulValue F (two F) b
+    → z ≡ mulValue F (psiValue F) a → d ≡ subValue F z a → e ≡ mulValue F (twoValue F) b
     → let first = cond (same e d) z a in
     let second = cond (same e d) (negate b) b in
     (first ≡ RN0 F (finite s (n * 2 ^ low F))) × (addsUp F (finite s (n * 2 ^ low F)) (record { first = first; second = second }) ≡ true)

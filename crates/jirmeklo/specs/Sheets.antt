@@ -12,7 +12,7 @@ use Rattle.conservation_spec.specs.Replay.{Asking, Lent, entriesOf, eventsOf, r
 use Rattle.jirmeklo.specs.declared.sheets.FlatFilled.{FlatFilled}
 
 -- ---- filling a sheet
--- zeros and no flag where there is none
+-- zeros and no flag where no sheet is filled
 abbrev pub noSheet : ℕ → FlatFilled
 noSheet n = record { refusal = n; lines = 0; first = 0; second = 0; flags = none }
 
@@ -20,7 +20,7 @@ noSheet n = record { refusal = n; lines = 0; first = 0; second = 0; flags = none
 abbrev pub filledNumbers : Answer FilledSheet → FlatFilled
 filledNumbers (refused n) = noSheet n
 filledNumbers (done s) =
-    record { refusal = 0; lines = s .lines; first = s .pair .first; second = s .pair .second; flags = s .pair .flags }
+    record { refusal = 0; lines = s .lineCount; first = s .pair .first; second = s .pair .second; flags = s .pair .flags }
 
 -- the answer that the numbers stand for
 abbrev pub filledAnswer : FlatFilled → Answer FilledSheet
@@ -30,8 +30,8 @@ filledAnswer r =
 
 -- r is answered, and the lent words are `after` where they were `before`; a sheet that is filled has the direct pair
 -- and its flags (R7.4)
-abbrev pub FillsNumbers : ℕ → ℕ → ℕ → FlatFilled → List ℕ → List ℕ → Type 0
-FillsNumbers operation x y r before after =
+abbrev pub FillsNumbered : ℕ → ℕ → ℕ → FlatFilled → List ℕ → List ℕ → Type 0
+FillsNumbered operation x y r before after =
     (r ≡ filledNumbers (filling operation x y before))
     × (after ≡ afterFilling operation x y before)
     × HasDirectPair operation x y (filledAnswer r)
@@ -42,7 +42,7 @@ abbrev pub replayAnswer : ℕ → Answer (Unit {0})
 replayAnswer r = cond (eqb r 0) (done tt) (refused r)
 
 -- r is answered, and what is lent is `after` where it was `before`
-pub record ReplaysNumber (q : Asking) (before : Lent) (r : ℕ) (after : Lent) : Type 0 where
+pub record ReplaysNumbered (q : Asking) (before : Lent) (r : ℕ) (after : Lent) : Type 0 where
   pub answered : r ≡ refusalOf (replaying q before)
   pub left : after ≡ afterReplaying q before
   -- where it is carried out, the claim about lists holds of the questions and of both totals (R7.13)

@@ -5,7 +5,7 @@ use worksheet::Filled;
 ghost use mathlib.Core.Path.{_≡_};
 ghost use Rattle.pattern_spec.specs.Answer.{refusalOf};
 ghost use Rattle.conservation.specs.Answers.{answerReplayed};
-ghost use Rattle.jirmeklo.specs.Sheets.{noSheet, FillsNumbers, ReplaysNumber};
+ghost use Rattle.jirmeklo.specs.Sheets.{noSheet, FillsNumbered, ReplaysNumbered};
 
 // The refusal's number and zeros; or 0, the line count, and the pair at the foot with its flags.
 #[repr(C)]
@@ -19,7 +19,7 @@ pub struct FlatFilled {
 
 #[no_mangle]
 pub extern "C" fn jirmeklo_fill(operation: u32, x: u32, y: u32, words: &mut [u32]) -> FlatFilled
-    ensures { λ r. ⌜ FillsNumbers operation x y r (now (words .entry)) (now (words .exit)) ⌝ }
+    ensures { λ r. ⌜ FillsNumbered operation x y r (now (words .entry)) (now (words .exit)) ⌝ }
 {
     let filled = worksheet::fill(operation, x, y, words);
     match filled {
@@ -65,7 +65,7 @@ pub extern "C" fn jirmeklo_replay(
     first: &mut [u32],
     other: &mut [u32],
 ) -> u32
-    ensures { λ r. ⌜ ReplaysNumber
+    ensures { λ r. ⌜ ReplaysNumbered
         (record { operations = now (operations .entry); xs = now (xs .entry); ys = now (ys .entry); counts = now (counts .entry) })
         (record { words = now (words .entry); totals = record { first = now (first .entry); other = now (other .entry) } })
         r

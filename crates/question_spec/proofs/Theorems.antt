@@ -11,7 +11,7 @@ use lib.ListN.{length, getD}
 use Rattle.pattern_spec.specs.Answer.{refused}
 use Rattle.question_spec.specs.Ascii.{tab}
 use Rattle.question_spec.specs.Questions.{questionSize, lettersOperation, readQuestion}
-use Rattle.question_spec.specs.Theorems.{RefusedInOrder, LettersKnown, ReadBack, OnlyText, All}
+use Rattle.question_spec.specs.Theorems.{QuestionBytes, AsciiBytes, RefusedInOrder, LettersKnown, ReadBack, OnlyText, All}
 use Rattle.question_spec.proofs.Refusals.{length-refused, letters-refused, first-tab-refused, second-tab-refused, digits-refused}
 use Rattle.question_spec.proofs.ThreeLetters.{of-letters, unknown}
 use Rattle.question_spec.proofs.Whole.{is-text, text-read}
@@ -43,5 +43,11 @@ read-back o x y known low low2 = text-read x y low low2 o known
 pub only-text : OnlyText
 only-text line o x y = is-text line o x y
 
+pub question-bytes : QuestionBytes
+question-bytes = refl
+
+pub ascii-bytes : AsciiBytes
+ascii-bytes = (refl, refl, refl)
+
 pub all : All
-all = (refused-in-order, letters-known, read-back, only-text)
+all = (question-bytes, ascii-bytes, refused-in-order, letters-known, read-back, only-text)

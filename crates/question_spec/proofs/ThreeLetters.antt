@@ -10,7 +10,7 @@ use lib.Dec.{eqb, lit<}
 use lib.ListN.{length, getD, take, drop-of-length-le}
 use lib.Seq.{drop-cons, getD-take, length-take-le}
 use Rattle.augmented_spec.specs.Direct.{Operation, sum, difference, product, isOperation, operationNumber}
-use Rattle.question_spec.specs.Questions.{operationLetters, letters, starts, lettersOperation}
+use Rattle.question_spec.specs.Questions.{operationLetters, operationLettersByNumber, starts, lettersOperation}
 use Rattle.question_spec.proofs.OneDigit.{and-true}
 
 as-three : (l : List ℕ) → length l ≡ 3 → getD l 0 0 ∷ getD l 1 0 ∷ getD l 2 0 ∷ [] ≡ l
@@ -66,8 +66,8 @@ none false false false p q r = refl
 which : (s d m : Bool) (l : List ℕ) (o : ℕ)
     → (s ≡ true → l ≡ operationLetters sum) → (d ≡ true → l ≡ operationLetters difference) → (m ≡ true → l ≡ operationLetters product)
     → cond s (operationNumber sum) (cond d (operationNumber difference) (cond m (operationNumber product) 0)) ≡ o → o ≢ 0
-    → (l ≡ letters o) × (isOperation o ≡ true)
-unfolding letters
+    → (l ≡ operationLettersByNumber o) × (isOperation o ≡ true)
+unfolding operationLettersByNumber
 which true d m l o p q r is n = rw (sym is) (p refl, refl)
 which false true m l o p q r is n = rw (sym is) (q refl, refl)
 which false false true l o p q r is n = rw (sym is) (r refl, refl)
@@ -85,7 +85,7 @@ module _ (line : List ℕ) (long : 3 ≤ length line) where
       none (starts line (operationLetters sum)) (starts line (operationLetters difference)) (starts line (operationLetters product))
       (λ e. p (begun sum e)) (λ e. q (begun difference e)) (λ e. r (begun product e))
 
-  pub known : (o : ℕ) → lettersOperation line ≡ o → o ≢ 0 → (take 3 line ≡ letters o) × (isOperation o ≡ true)
+  pub known : (o : ℕ) → lettersOperation line ≡ o → o ≢ 0 → (take 3 line ≡ operationLettersByNumber o) × (isOperation o ≡ true)
   unfolding lettersOperation
   known o =
       which (starts line (operationLetters sum)) (starts line (operationLetters difference)) (starts line (operationLetters product)) (take 3 line) o

@@ -16,7 +16,7 @@ use Rattle.question_spec.specs.Ascii.{tab}
 use Rattle.question_spec.specs.Questions.{
   Asked,
   questionSize,
-  letters,
+  operationLettersByNumber,
   lettersOperation,
   allDigits,
   patternFrom,
@@ -80,7 +80,8 @@ module _ (line : List ℕ) (o x y : ℕ) where
       let word = known line (omega arith) o (p .4) (λ z. eqb-false (lettersOperation line) 0 (p .1) (p .4 ∙ z)) in
       let first = text-back (firstPattern line) x (eight 4 full (omega arith)) (digits .0) (p .5) in
       let second = text-back (secondPattern line) y (eight 13 full (omega arith)) (digits .1) (p .6) in (
-        assembled line (letters o) (patternText x) (patternText y) full (eqb-true (getD line 3 0) tab (tabs .0)) (eqb-true (getD line 12 0) tab (tabs .1)) (word .0) (first .1) (second .1),
+        assembled line (operationLettersByNumber o) (patternText x) (patternText y) full (eqb-true (getD line 3 0) tab (tabs .0))
+        (eqb-true (getD line 12 0) tab (tabs .1)) (word .0) (first .1) (second .1),
         word .1,
         first .0,
         second .0,
@@ -99,15 +100,15 @@ one-of o known =
 
 module _ (x y : ℕ) (low : x < 2 ^ 32) (low2 : y < 2 ^ 32) where
   sum-read : readQuestion (questionText (operationNumber sum) x y) ≡ asked (operationNumber sum) x y
-  unfolding readQuestion questionText letters lettersOperation
+  unfolding readQuestion questionText operationLettersByNumber lettersOperation
   sum-read = rw (text-digits x, text-digits y, text-value x low, text-value y low2)
 
   difference-read : readQuestion (questionText (operationNumber difference) x y) ≡ asked (operationNumber difference) x y
-  unfolding readQuestion questionText letters lettersOperation
+  unfolding readQuestion questionText operationLettersByNumber lettersOperation
   difference-read = rw (text-digits x, text-digits y, text-value x low, text-value y low2)
 
   product-read : readQuestion (questionText (operationNumber product) x y) ≡ asked (operationNumber product) x y
-  unfolding readQuestion questionText letters lettersOperation
+  unfolding readQuestion questionText operationLettersByNumber lettersOperation
   product-read = rw (text-digits x, text-digits y, text-value x low, text-value y low2)
 
   pub text-read : (o : ℕ) → isOperation o ≡ true → readQuestion (questionText o x y) ≡ asked o x y

@@ -1,4 +1,4 @@
--- Texts as one sees them: the bytes of a string literal.
+-- The bytes of a string literal.
 use Prim.Native.Nat.{ℕ}
 use Prim.Native.Char.{code}
 use Prim.Native.String.{String, [] as empty, _∷_ as _followed_}

@@ -1,5 +1,5 @@
 -- Question lines: how one is read, and the text of a question. A line is its bytes, without the newline (R8.3, R8.4).
-use Prim.Native.Nat.{ℕ, _+_, _*_, _-_, _/_, _%_}
+use Prim.Native.Nat.{ℕ, _+_, _*_, _-_, _/_, _%_, _^_}
 use Prim.Native.Char.{code}
 use mathlib.Core.Bool.{Bool, true, cond, not, _&&_, _||_}
 use mathlib.Core.List.{List, [], _∷_, _++_}
@@ -20,8 +20,8 @@ operationLetters difference = ascii "dif"
 operationLetters product = ascii "mul"
 
 -- by the operation's number; a number that no question has is written as `mul`
-unfoldable pub letters : ℕ → List ℕ
-letters operation = operationLetters (operationOf operation)
+unfoldable pub operationLettersByNumber : ℕ → List ℕ
+operationLettersByNumber operation = operationLetters (operationOf operation)
 
 -- whether the line's first three bytes are these
 abbrev pub starts : List ℕ → List ℕ → Bool
@@ -82,8 +82,8 @@ digit d = cond (ltb d 10) (code "0" + d) (code "A" - 10 + d)
 -- the eight digits of a pattern
 abbrev pub patternText : ℕ → List ℕ
 patternText x =
-    digit (x / 268435456 % 16) ∷ digit (x / 16777216 % 16) ∷ digit (x / 1048576 % 16) ∷ digit (x / 65536 % 16)
-    ∷ digit (x / 4096 % 16) ∷ digit (x / 256 % 16) ∷ digit (x / 16 % 16) ∷ digit (x % 16) ∷ []
+    digit (x / 16 ^ 7 % 16) ∷ digit (x / 16 ^ 6 % 16) ∷ digit (x / 16 ^ 5 % 16) ∷ digit (x / 16 ^ 4 % 16)
+    ∷ digit (x / 16 ^ 3 % 16) ∷ digit (x / 16 ^ 2 % 16) ∷ digit (x / 16 % 16) ∷ digit (x % 16) ∷ []
 
 unfoldable pub questionText : ℕ → ℕ → ℕ → List ℕ
-questionText operation x y = letters operation ++ (tab ∷ patternText x ++ (tab ∷ patternText y))
+questionText operation x y = operationLettersByNumber operation ++ (tab ∷ patternText x ++ (tab ∷ patternText y))

@@ -3,7 +3,7 @@ use Prim.Native.Nat.{ℕ, _^_, _<_}
 use mathlib.Core.Path.{_≡_}
 use mathlib.Core.Logic.{_≢_, _⊎_}
 use mathlib.Core.Bool.{true, false, _&&_}
-use mathlib.Core.List.{List}
+use mathlib.Core.List.{List, [], _∷_}
 use lib.ListN.{length, getD, take}
 use Rattle.pattern_spec.specs.Answer.{refused}
 use Rattle.augmented_spec.specs.Direct.{Operation, operationNumber, isOperation}
@@ -32,7 +32,17 @@ RefusedInOrder =
     × (length line ≡ questionSize → lettersOperation line ≢ 0 → getD line 3 0 ≡ tab → getD line 12 0 ≡ tab
     → (allDigits (firstPattern line) && allDigits (secondPattern line)) ≡ false → readQuestion line ≡ refused 4)
 
--- each operation's letters are known by its number
+-- a question line has 21 bytes (R8.3)
+abbrev pub QuestionBytes : Type 0
+QuestionBytes = questionSize ≡ 21
+
+-- what characters stand for: tab, newline, minus, digits and letters of each kind
+abbrev pub AsciiBytes : Type 0
+AsciiBytes =
+    (ascii "\t\n-" ≡ 9 ∷ 10 ∷ 45 ∷ []) × (ascii "09AFX" ≡ 48 ∷ 57 ∷ 65 ∷ 70 ∷ 88 ∷ [])
+    × (ascii "adfmsu" ≡ 97 ∷ 100 ∷ 102 ∷ 109 ∷ 115 ∷ 117 ∷ [])
+
+-- each operation's letters give its number
 abbrev pub LettersKnown : Type 0
 LettersKnown = (line : List ℕ) (o : Operation) → take 3 line ≡ operationLetters o → lettersOperation line ≡ operationNumber o
 
@@ -47,4 +57,4 @@ OnlyText =
     → (line ≡ questionText o x y) × (isOperation o ≡ true) × (x < 2 ^ 32) × (y < 2 ^ 32)
 
 abbrev pub All : Type 0
-All = RefusedInOrder × LettersKnown × ReadBack × OnlyText
+All = QuestionBytes × AsciiBytes × RefusedInOrder × LettersKnown × ReadBack × OnlyText

@@ -26,7 +26,7 @@ Fits F (finite s a) = Rep (suc (F .fraction)) 0 a × (a < limit F)
 
 -- ---- from a pattern to its value
 
--- what exponent field and fraction stand for, in units of u: field 0 is zero or subnormal
+-- what exponent field and fraction stand for, in units of u: without a leading one in field 0
 unfoldable pub fields : ℕ → ℕ → ℕ → ℕ
 fields f zero m = m
 fields f (suc E) m = (2 ^ f + m) * 2 ^ E

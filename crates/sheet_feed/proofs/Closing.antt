@@ -14,7 +14,7 @@ use lib.Dec.{eqb}
 use lib.ListN.{length, take, drop, length-drop}
 use Rattle.pattern_spec.specs.Answer.{Answer, refused}
 use Rattle.question_spec.specs.Questions.{readQuestion}
-use Rattle.accumulator_spec.specs.Totals.{TwoPatterns, pair, reading}
+use Rattle.accumulator_spec.specs.Totals.{TwoPatterns, pairRead, reading}
 use Rattle.accumulator.specs.Answers.{answerRead}
 use Rattle.accumulator.specs.declared.Reading.{Reading}
 use Rattle.accumulator.specs.declared.Reading.the-variants as the-reading
@@ -42,7 +42,7 @@ not-read (the-reading.Pair first second) h = absurd (miss (1 ∷ 2 ∷ []) 0 tt 
 not-read the-reading.Length h = (5, refl)
 not-read the-reading.Unfit h = (6, refl)
 
-pub total-written : (first second : ℕ) (a : Answer TwoPatterns) (out : List ℕ) (n : ℕ) (out' : List ℕ) → pair first second ≡ a
+pub total-written : (first second : ℕ) (a : Answer TwoPatterns) (out : List ℕ) (n : ℕ) (out' : List ℕ) → pairRead first second ≡ a
     → Writes out (totalText first second) n out' → Writes out (readText a) n out'
 total-written first second a out n out' e w = subst (λ (b : Answer TwoPatterns). Writes out (readText b) n out') e w
 

@@ -21,7 +21,7 @@ use Rattle.sheet_spec.specs.declared.Progressed.{Progressed}
 use Rattle.sheet_spec.proofs.Lengths.{byte-most}
 use Rattle.sheet_spec.proofs.Bytes.{states-join, texts-join}
 use Rattle.sheet_spec.proofs.Positions.{halted}
-use Rattle.sheet_feed.specs.Inner.{Steps}
+use Rattle.sheet_feed.specs.Inner.{TakesByte}
 
 -- ---- the loop: what has been taken, and what has been printed
 pub record Taken (bytes : List ℕ) (s : State) (out : List ℕ) (at used : ℕ) (here : State) (out' : List ℕ) : Type 0 where
@@ -61,7 +61,7 @@ module _ (bytes : List ℕ) (s : State) (out : List ℕ) (at used : ℕ) (here :
   pub room-for-line : lineRoom ≤ length rest
   room-for-line = omega (arith, rest-long)
 
-  module _ (r : Progressed) (after : State) (part : List ℕ) (t : Steps here (getD bytes at 0) rest r after part) where
+  module _ (r : Progressed) (after : State) (part : List ℕ) (t : TakesByte here (getD bytes at 0) rest r after part) where
     pub used-within : used + r .written ≤ length out'
     used-within = omega (arith, t .text .ends, byte-most here (getD bytes at 0))
 

@@ -20,7 +20,7 @@ use Rattle.sheet_spec.specs.declared.Position.{Position}
 use Rattle.sheet_spec.specs.declared.Progressed.{Progressed}
 use Rattle.sheet_spec.proofs.Positions.{counts, goes-on, has-stopped, here, going-on, at-stop, at-end, at-other}
 use Rattle.sheet_line.specs.Inner.{LineEnds}
-use Rattle.sheet_feed.specs.Inner.{Steps, stoppedAt, Extends}
+use Rattle.sheet_feed.specs.Inner.{TakesByte, stoppedAt, Extends}
 
 -- ---- another byte of the line
 pub extended : (p : Position) → goesOn p ≡ true → p .lines < mostInputLines → (line line' : List ℕ) (b n : ℕ) → (n ≤ keptBytes) × (take n line' ≡ longer (take (p .length) line) b)
@@ -55,7 +55,7 @@ module _ (p : Position) (line total : List ℕ) (r : goesOn p ≡ true) (out : L
         ap {B = State} (λ (c : Bool). record { progress = progressOf p total; begun = []; stopped = not c }) (has-stopped (stoppedAt p) refl)
 
     pub step-stops : (out' : List ℕ) → p .lines ≡ mostInputLines → (s .position ≡ stoppedAt p) × (s .taken ≡ 1) × Put out 0 stopText (s .written) out'
-        → Steps (stateOf p line total) b out s (stateOf (s .position) line total) out'
+        → TakesByte (stateOf p line total) b out s (stateOf (s .position) line total) out'
     step-stops out' e h =
         let k = at-stop p line total r b e in
         record {
@@ -66,7 +66,7 @@ module _ (p : Position) (line total : List ℕ) (r : goesOn p ≡ true) (out : L
 
     module _ (room : p .lines < mostInputLines) where
       pub step-ends : (total' out' : List ℕ) → b ≡ newline → LineEnds p line total out s total' out'
-          → Steps (stateOf p line total) b out (record { position = s .position; taken = 1; written = s .written }) (stateOf (s .position) line total') out'
+          → TakesByte (stateOf p line total) b out (record { position = s .position; taken = 1; written = s .written }) (stateOf (s .position) line total') out'
       step-ends total' out' e h =
           let k = at-end p line total r b room e in
           let c = ends-soundly total' out' h in
@@ -81,7 +81,7 @@ module _ (p : Position) (line total : List ℕ) (r : goesOn p ≡ true) (out : L
             text = subst (λ (t : List ℕ). Put out 0 t (s .written) out') (sym (k .1)) (h .text);
           }
 
-      pub step-extends : (line' : List ℕ) → (b ≡ newline → ⊥) → Extends p line b s line' → Steps (stateOf p line total) b out s (stateOf (s .position) line' total) out
+      pub step-extends : (line' : List ℕ) → (b ≡ newline → ⊥) → Extends p line b s line' → TakesByte (stateOf p line total) b out s (stateOf (s .position) line' total) out
       step-extends line' n h =
           let k = at-other p line total r b room n in
           record {

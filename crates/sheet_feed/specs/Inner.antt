@@ -11,7 +11,7 @@ use Rattle.sheet_spec.specs.declared.Position.{Position}
 use Rattle.sheet_spec.specs.declared.Progressed.{Progressed}
 
 -- a byte is taken
-pub record Steps (s : State) (b : ℕ) (out : List ℕ) (r : Progressed) (after : State) (out' : List ℕ) : Type 0 where
+pub record TakesByte (s : State) (b : ℕ) (out : List ℕ) (r : Progressed) (after : State) (out' : List ℕ) : Type 0 where
   pub state : after ≡ takeByte s b
   pub taken : r .taken ≡ 1
   pub text : Put out 0 (byteText s b) (r .written) out'

@@ -3,6 +3,7 @@ mod last;
 mod step;
 
 use sheet_line::position;
+pub use sheet_line::position::begin;
 use sheet_spec::KEPT_BYTES;
 use sheet_spec::LAST_ROOM;
 use sheet_spec::Position;

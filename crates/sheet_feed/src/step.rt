@@ -12,7 +12,7 @@ ghost use Rattle.transcript_spec.specs.Texts.{stopText, lineRoom};
 ghost use Rattle.transcript_spec.specs.Buffers.{Put};
 ghost use Rattle.sheet_spec.specs.Printed.{mostInputLines};
 ghost use Rattle.sheet_spec.specs.Positions.{goesOn, stateOf};
-ghost use Rattle.sheet_feed.specs.Inner.{Steps, stoppedAt, Extends};
+ghost use Rattle.sheet_feed.specs.Inner.{TakesByte, stoppedAt, Extends};
 
 pub fn byte(
     b: u8,
@@ -22,7 +22,7 @@ pub fn byte(
     out: &mut [u8],
 ) -> Progressed
     requires { ⌜ (goesOn position ≡ true) × (lineRoom ≤ length (now out)) ⌝ }
-    ensures { λ r. ⌜ Steps (stateOf position (now (line .entry)) (now (total .entry))) b (now (out .entry)) r
+    ensures { λ r. ⌜ TakesByte (stateOf position (now (line .entry)) (now (total .entry))) b (now (out .entry)) r
         (stateOf (r .position) (now (line .exit)) (now (total .exit))) (now (out .exit)) ⌝ }
 {
     if position.lines == MOST_INPUT_LINES {

@@ -25,7 +25,7 @@ bad-most number k = omega (arith, counts-length number k, decimal-most number, d
 
 filled-most : (number o x y : ℕ) (a : Answer FilledSheet) (words : List ℕ) → length (filledText number o x y a words) ≤ lineRoom
 unfolding filledText
-filled-most number o x y (done s) words = at-most number o x y words (s .lines) (s .pair)
+filled-most number o x y (done s) words = at-most number o x y words (s .lineCount) (s .pair)
 filled-most number o x y (refused k) words = omega arith
 
 pub line-most : (number : ℕ) (a : Answer Asked) → length (lineText number a) ≤ lineRoom

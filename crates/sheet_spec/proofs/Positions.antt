@@ -8,7 +8,7 @@ use native.Mathlib.Omega.{arith}
 use borrow.Author.Tests.{le-leb, lt-leb, lt-ltb, le-ltb, leb-true, ltb-true, eq-eqb, ne-eqb, eqb-true, not-true, not-false}
 use lib.Dec.{eqb, leb, ltb}
 use lib.ListN.{take}
-use Rattle.accumulator_spec.specs.Columns.{zeros}
+use Rattle.accumulator_spec.specs.Totals.{zeros}
 use Rattle.question_spec.specs.Ascii.{newline}
 use Rattle.question_spec.specs.Questions.{readQuestion}
 use Rattle.transcript_spec.specs.Texts.{stopText}

@@ -1,16 +1,16 @@
 -- Proofs of the statements about what is printed (specs/Theorems.antt).
-use mathlib.Core.Path.{_≡_, ap}
+use mathlib.Core.Path.{refl, _≡_, ap}
 use mathlib.Core.List.{[], _++_}
 use native.Mathlib.Omega.{arith}
 use Rattle.pattern_spec.specs.Answer.{Answer}
-use Rattle.accumulator_spec.specs.Totals.{TwoPatterns, pair, reading}
-use Rattle.accumulator_spec.specs.Columns.{zeros, column, AllFinite, columnSum}
+use Rattle.accumulator_spec.specs.Totals.{zeros, TwoPatterns, pairRead, reading}
+use Rattle.accumulator_spec.specs.Columns.{column, AllFinite, columnSum}
 use Rattle.accumulator_spec.proofs.Columns.{exact-column}
 use Rattle.accumulator_spec.proofs.ReadTotal.{read-zero}
 use Rattle.question_spec.specs.Questions as questions
 use Rattle.transcript_spec.specs.Texts.{decimalUpTo, badText, endText}
 use Rattle.sheet_spec.specs.Printed.{linesFrom, lineText, afterLine, afterLines, linesText, readText, closingText, output}
-use Rattle.sheet_spec.specs.Theorems.{ByteByByte, AnyReads, NothingAfterStop, NeverRefused, LineTerms, TotalTakesAll, EmptyInput, TwoBadLines, All}
+use Rattle.sheet_spec.specs.Theorems.{SheetLimits, ByteByByte, AnyReads, NothingAfterStop, NeverRefused, LineTerms, TotalTakesAll, EmptyInput, TwoBadLines, All}
 use Rattle.sheet_spec.proofs.Bytes as bytes
 use Rattle.sheet_spec.proofs.Totals as totals
 
@@ -30,7 +30,7 @@ pub total-takes-all : TotalTakesAll
 total-takes-all = totals.total-takes-all
 
 -- a cleared total reads two zeros
-cleared : reading zeros ≡ pair 0 0
+cleared : reading zeros ≡ pairRead 0 0
 unfolding AllFinite column columnSum
 cleared = let c = exact-column [] (omega arith) tt in read-zero zeros (c .4) (c .2)
 
@@ -45,5 +45,8 @@ two-bad-lines = ap (λ (a : Answer TwoPatterns). badText 1 1 ++ (badText 2 1 ++ 
 pub line-terms : LineTerms
 line-terms = totals.line-terms
 
+pub sheet-limits : SheetLimits
+sheet-limits = (refl, refl, refl, refl)
+
 pub all : All
-all = (byte-by-byte, any-reads, nothing-after-stop, never-refused, line-terms, total-takes-all, empty-input, two-bad-lines)
+all = (byte-by-byte, any-reads, nothing-after-stop, never-refused, line-terms, total-takes-all, sheet-limits, empty-input, two-bad-lines)

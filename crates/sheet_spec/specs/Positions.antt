@@ -5,7 +5,7 @@ use mathlib.Core.Bool.{Bool, not, _&&_, _||_}
 use mathlib.Core.List.{List}
 use lib.Dec.{eqb, leb, ltb}
 use lib.ListN.{take}
-use Rattle.accumulator_spec.specs.Columns.{zeros}
+use Rattle.accumulator_spec.specs.Totals.{zeros}
 use Rattle.sheet_spec.specs.Printed.{Progress, mostInputLines}
 use Rattle.sheet_spec.specs.States.{State, keptBytes, begin}
 use Rattle.sheet_spec.specs.declared.Position.{Position}

@@ -8,8 +8,8 @@ use Rattle.pattern_spec.specs.Answer.{Answer, refused, done, isDone}
 use Rattle.pattern_spec.specs.Classes.{bothFinite}
 use Rattle.worksheet_spec.specs.Lines.{sheetSize}
 use Rattle.worksheet_spec.specs.Filling.{FilledSheet, filling, afterFilling}
-use Rattle.accumulator_spec.specs.Totals.{TwoPatterns, Term, ofPattern, reading}
-use Rattle.accumulator_spec.specs.Columns.{zeros, column}
+use Rattle.accumulator_spec.specs.Totals.{zeros, TwoPatterns, Term, ofPattern, reading}
+use Rattle.accumulator_spec.specs.Columns.{column}
 use Rattle.question_spec.specs.Ascii.{newline}
 use Rattle.question_spec.specs.Questions.{Asked, readQuestion}
 use Rattle.transcript_spec.specs.Texts.{answeredText, badText, totalText, endText, stopText}
@@ -29,7 +29,7 @@ blank = replicate sheetSize 0
 
 -- the text of a question whose sheet is filled (R9.3); no question that is read is refused (`NeverRefused` of Theorems)
 unfoldable pub filledText : ℕ → ℕ → ℕ → ℕ → Answer FilledSheet → List ℕ → List ℕ
-filledText number operation x y (done s) words = answeredText number operation x y words (s .lines) (s .pair)
+filledText number operation x y (done s) words = answeredText number operation x y words (s .lineCount) (s .pair)
 filledText number operation x y (refused n) words = []
 
 -- of a question, its sheet; of a line that is refused, the refusal (R9.7)
@@ -83,7 +83,7 @@ readText (refused n) = []
 unfoldable pub closingText : Progress → List ℕ
 closingText p = readText (reading (p .total)) ++ endText (p .good) (p .lines - p .good)
 
--- ---- all of it; one line more than the most stops the program, in place of its last two lines (R8.11)
+-- ---- all of it; one line more than the most stops the program, instead of `total` and `end` (R8.11)
 abbrev pub mostInputLines : ℕ
 mostInputLines = 32768
 

@@ -11,11 +11,12 @@ use Rattle.augmented_spec.specs.Direct.{directPair, operationOf}
 use Rattle.worksheet_spec.specs.Filling.{filling}
 use Rattle.question_spec.specs.Ascii.{ascii}
 use Rattle.question_spec.specs.Questions.{asked, readQuestion}
-use Rattle.transcript_spec.specs.Texts.{badText, totalText, endText}
-use Rattle.accumulator_spec.specs.Totals.{number, Term, ofPattern, FitTotal}
-use Rattle.accumulator_spec.specs.Columns.{zeros, column, Accepted, columnSum}
+use Rattle.transcript_spec.specs.Texts.{lineRoom, badText, totalText, endText}
+use Rattle.accumulator_spec.specs.Totals.{zeros, number, Term, ofPattern, FitTotal}
+use Rattle.accumulator_spec.specs.Columns.{column, Accepted, columnSum}
 use Rattle.sheet_spec.specs.Printed.{blank, lineTerms, start, afterLines, mostInputLines, output}
-use Rattle.sheet_spec.specs.States.{State, begin, takeBytes, bytesText, closeText}
+use Rattle.sheet_spec.specs.Calls.{lastRoom}
+use Rattle.sheet_spec.specs.States.{keptBytes, State, begin, takeBytes, bytesText, closeText}
 
 -- carried from byte to byte, the program prints the definition's text
 abbrev pub ByteByByte : Type 0
@@ -62,6 +63,10 @@ TotalTakesAll =
     (lines : List (List ℕ)) → length lines ≤ mostInputLines → let total = afterLines start lines .total in
     Accepted zeros (termsOf lines) × (total ≡ column zeros (termsOf lines)) × (number total ≡ columnSum (termsOf lines)) × FitTotal total
 
+-- ---- how many lines are taken (R8.11), bytes of a line are kept, and bytes are room for a line's text and the last two lines
+abbrev pub SheetLimits : Type 0
+SheetLimits = (mostInputLines ≡ 32768) × (keptBytes ≡ 22) × (lineRoom ≡ 680) × (lastRoom ≡ 740)
+
 -- ---- empty input (R9.10)
 abbrev pub EmptyInput : Type 0
 EmptyInput = output [] ≡ totalText 0 0 ++ endText 0 0
@@ -71,4 +76,4 @@ abbrev pub TwoBadLines : Type 0
 TwoBadLines = output (ascii "x\nx") ≡ badText 1 1 ++ (badText 2 1 ++ (totalText 0 0 ++ endText 0 2))
 
 abbrev pub All : Type 0
-All = ByteByByte × AnyReads × NothingAfterStop × NeverRefused × LineTerms × TotalTakesAll × EmptyInput × TwoBadLines
+All = ByteByByte × AnyReads × NothingAfterStop × NeverRefused × LineTerms × TotalTakesAll × SheetLimits × EmptyInput × TwoBadLines

@@ -8,8 +8,10 @@ pub const MOST_INPUT_LINES: u32 = 32768;
 // A line's first bytes that are kept: one more than a question has, so that a longer line is known for one.
 pub const KEPT_BYTES: usize = QUESTION_SIZE + 1;
 
-// Bytes that are room for the text of a line and the last two lines.
-pub const LAST_ROOM: usize = LINE_ROOM + 60;
+// Bytes that are room for the last two lines, and for the text of a line before them.
+pub const CLOSING_ROOM: usize = 60;
+
+pub const LAST_ROOM: usize = LINE_ROOM + CLOSING_ROOM;
 
 // Where a run stands in its input: lines that have ended, good ones among them, bytes of the open line, and whether `stop` was printed.
 pub struct Position {

@@ -10,12 +10,12 @@ ghost use mathlib.Core.List.{_∷_};
 ghost use Prim.Native.Nat.{_+_, _≤_};
 ghost use lib.ListN.{length};
 ghost use Rattle.question_spec.specs.Ascii.{tab};
-ghost use Rattle.question_spec.specs.Questions.{letters};
-ghost use Rattle.transcript_spec.specs.Texts.{stepLetters};
+ghost use Rattle.question_spec.specs.Questions.{operationLettersByNumber};
+ghost use Rattle.transcript_spec.specs.Texts.{stepLettersByNumber};
 ghost use Rattle.transcript_spec.specs.Buffers.{Put};
 
 fn question(operation: u32) -> [u8; 3]
-    ensures { λ r. ⌜ r ≡ letters operation ⌝ }
+    ensures { λ r. ⌜ r ≡ operationLettersByNumber operation ⌝ }
 {
     if operation == SUM {
         return *b"sum";
@@ -28,7 +28,7 @@ fn question(operation: u32) -> [u8; 3]
 
 pub fn put_letters(out: &mut [u8], at: usize, operation: u32) -> usize
     requires { ⌜ at + 4 ≤ length (now out) ⌝ }
-    ensures { λ r. ⌜ Put (now (out .entry)) at (tab ∷ letters operation) r (now (out .exit)) ⌝ }
+    ensures { λ r. ⌜ Put (now (out .entry)) at (tab ∷ operationLettersByNumber operation) r (now (out .exit)) ⌝ }
 {
     let text = question(operation);
     put_four(out, at, b'\t', text[0], text[1], text[2])
@@ -36,7 +36,7 @@ pub fn put_letters(out: &mut [u8], at: usize, operation: u32) -> usize
 
 pub fn put_step_letters(out: &mut [u8], at: usize, operation: u32) -> usize
     requires { ⌜ at + 4 ≤ length (now out) ⌝ }
-    ensures { λ r. ⌜ Put (now (out .entry)) at (tab ∷ stepLetters operation) r (now (out .exit)) ⌝ }
+    ensures { λ r. ⌜ Put (now (out .entry)) at (tab ∷ stepLettersByNumber operation) r (now (out .exit)) ⌝ }
 {
     if operation == ADD {
         return put_four(out, at, b'\t', b'a', b'd', b'd');

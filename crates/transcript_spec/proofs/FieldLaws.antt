@@ -14,23 +14,23 @@ use Rattle.augmented_spec.specs.declared.Flags.{Flags}
 use Rattle.augmented_spec.specs.Direct.{operationOf}
 use Rattle.worksheet_spec.specs.Lines.{Step, add, subtract, multiply, fused, stepNumber}
 use Rattle.question_spec.specs.Ascii.{ascii}
-use Rattle.question_spec.specs.Questions.{letters, patternText}
+use Rattle.question_spec.specs.Questions.{operationLettersByNumber, patternText}
 use Rattle.question_spec.proofs.ThreeLetters.{three-letters}
 use Rattle.transcript_spec.specs.Inner.{halfText}
-use Rattle.transcript_spec.specs.Texts.{stepOf, lettersOf, stepLetters, takesTwo, thirdText, mark, marks, flagsText}
+use Rattle.transcript_spec.specs.Texts.{stepOf, stepLetters, stepLettersByNumber, takesTwo, thirdText, mark, marks, flagsText}
 
-pub letters-length : (o : ℕ) → length (letters o) ≡ 3
-unfolding letters
+pub letters-length : (o : ℕ) → length (operationLettersByNumber o) ≡ 3
+unfolding operationLettersByNumber
 letters-length o = three-letters (operationOf o)
 
-step-letters : (s : Step) → length (lettersOf s) ≡ 3
+step-letters : (s : Step) → length (stepLetters s) ≡ 3
 step-letters add = refl
 step-letters subtract = refl
 step-letters multiply = refl
 step-letters fused = refl
 
-pub step-letters-length : (o : ℕ) → length (stepLetters o) ≡ 3
-unfolding stepLetters
+pub step-letters-length : (o : ℕ) → length (stepLettersByNumber o) ≡ 3
+unfolding stepLettersByNumber
 step-letters-length o = step-letters (stepOf o)
 
 -- three letters, one by one

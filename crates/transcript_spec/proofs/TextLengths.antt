@@ -8,11 +8,11 @@ use lib.ListN.{length, getD, length-append}
 use Rattle.augmented_spec.specs.declared.Pair.{Pair}
 use Rattle.worksheet_spec.specs.Lines.{mostLines}
 use Rattle.question_spec.specs.Ascii.{ascii, tab, newline}
-use Rattle.question_spec.specs.Questions.{letters, patternText, questionText}
+use Rattle.question_spec.specs.Questions.{operationLettersByNumber, patternText, questionText}
 use Rattle.transcript_spec.specs.Texts.{
   decimal,
   stepOf,
-  stepLetters,
+  stepLettersByNumber,
   takesTwo,
   thirdText,
   flagsText,
@@ -29,10 +29,10 @@ use Rattle.transcript_spec.proofs.FieldLaws.{letters-length, step-lette
 abbrev pub after-letters : ℕ → ℕ → List ℕ
 after-letters x y = (tab ∷ patternText x) ++ ((tab ∷ patternText y) ++ (newline ∷ []))
 
-pub ask-fields : (n o x y : ℕ) → askText n o x y ≡ ascii "ask\t" ++ (decimal n ++ ((tab ∷ []) ++ (letters o ++ after-letters x y)))
+pub ask-fields : (n o x y : ℕ) → askText n o x y ≡ ascii "ask\t" ++ (decimal n ++ ((tab ∷ []) ++ (operationLettersByNumber o ++ after-letters x y)))
 unfolding askText questionText
 ask-fields n o x y =
-    ap (λ (t : List ℕ). ascii "ask\t" ++ (decimal n ++ (tab ∷ t))) (append-assoc (letters o) (tab ∷ patternText x ++ (tab ∷ patternText y)) (newline ∷ []))
+    ap (λ (t : List ℕ). ascii "ask\t" ++ (decimal n ++ (tab ∷ t))) (append-assoc (operationLettersByNumber o) (tab ∷ patternText x ++ (tab ∷ patternText y)) (newline ∷ []))
 
 between : (a b c d : List ℕ) → length (a ++ (b ++ (c ++ d))) ≡ length a + (length b + (length c + length d))
 between a b c d = rw (length-append a (b ++ (c ++ d)), length-append b (c ++ d), length-append c d)
@@ -40,8 +40,8 @@ between a b c d = rw (length-append a (b ++ (c ++ d)), length-append b (c ++ d),
 pub ask-length : (n o x y : ℕ) → length (askText n o x y) ≡ 27 + length (decimal n)
 ask-length n o x y =
     ap length (ask-fields n o x y)
-    ∙ (between (ascii "ask\t") (decimal n) (tab ∷ []) (letters o ++ after-letters x y)
-    ∙ omega (arith, length-append (letters o) (after-letters x y), letters-length o))
+    ∙ (between (ascii "ask\t") (decimal n) (tab ∷ []) (operationLettersByNumber o ++ after-letters x y)
+    ∙ omega (arith, length-append (operationLettersByNumber o) (after-letters x y), letters-length o))
 
 pub step-length : (n : ℕ) (words : List ℕ) → length (stepText n words) ≡ 38 + length (decimal n) + length (thirdText (getD words 0 0) (getD words 3 0))
 unfolding stepText
@@ -50,7 +50,7 @@ step-length n words =
     let third : List ℕ = thirdText o (getD words 3 0) in
     let rest : List ℕ = tab ∷ lineOf (patternText (getD words 4 0) ∷ []) in
     let after : List ℕ = tab ∷ patternText (getD words 1 0) ++ (tab ∷ patternText (getD words 2 0) ++ (tab ∷ third ++ rest)) in
-    omega (arith, length-append (decimal n) (tab ∷ stepLetters o ++ after), length-append (stepLetters o) after, step-letters-length o, length-append third rest)
+    omega (arith, length-append (decimal n) (tab ∷ stepLettersByNumber o ++ after), length-append (stepLettersByNumber o) after, step-letters-length o, length-append third rest)
 
 module _ (n : ℕ) (words : List ℕ) (two : Bool) (is : two ≡ takesTwo (stepOf (getD words 0 0))) where
   pub step-length-two : two ≡ true → length (stepText n words) ≡ 39 + length (decimal n)

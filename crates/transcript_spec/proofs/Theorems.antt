@@ -3,10 +3,10 @@ use Prim.Native.Nat.{ℕ, suc, min, _≤_, _<_}
 use mathlib.Core.Path.{refl, sym}
 use native.Mathlib.Omega.{arith}
 use Rattle.worksheet_spec.specs.Lines.{mostLines}
-use Rattle.question_spec.specs.Questions.{letters, questionText}
+use Rattle.question_spec.specs.Questions.{operationLettersByNumber, questionText}
 use Rattle.transcript_spec.specs.Texts.{
   decimalUpTo,
-  stepLetters,
+  stepLettersByNumber,
   thirdText,
   flagsText,
   askText,
@@ -44,7 +44,7 @@ at-most number operation x y words lines pair =
     omega (arith, answered-length number operation x y words lines pair, decimal-most number, steps, flags-most (pair .flags))
 
 pub example : Example
-unfolding askText questionText letters decimalUpTo stepText stepLetters thirdText pairText flagsText totalText endText badText
+unfolding askText questionText operationLettersByNumber decimalUpTo stepText stepLettersByNumber thirdText pairText flagsText totalText endText badText
 example = (refl, refl, refl, refl, refl, refl, refl, refl, refl, refl, refl, refl)
 
 pub none-empty : NoneEmpty

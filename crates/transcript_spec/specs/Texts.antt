@@ -30,14 +30,14 @@ stepOf n =
     fused))
 
 -- a step's letters (R9.5), and by its number
-abbrev pub lettersOf : Step → List ℕ
-lettersOf add = ascii "add"
-lettersOf subtract = ascii "sub"
-lettersOf multiply = ascii "mul"
-lettersOf fused = ascii "fma"
+abbrev pub stepLetters : Step → List ℕ
+stepLetters add = ascii "add"
+stepLetters subtract = ascii "sub"
+stepLetters multiply = ascii "mul"
+stepLetters fused = ascii "fma"
 
-unfoldable pub stepLetters : ℕ → List ℕ
-stepLetters operation = lettersOf (stepOf operation)
+unfoldable pub stepLettersByNumber : ℕ → List ℕ
+stepLettersByNumber operation = stepLetters (stepOf operation)
 
 -- whether a step leaves the third operand unused: the operation tells, not the word (R9.5)
 abbrev pub takesTwo : Step → Bool
@@ -77,7 +77,7 @@ stepText number words =
     lineOf (
     ascii "step"
     ∷ decimal number
-    ∷ stepLetters (getD words 0 0)
+    ∷ stepLettersByNumber (getD words 0 0)
     ∷ patternText (getD words 1 0)
     ∷ patternText (getD words 2 0)
     ∷ thirdText (getD words 0 0) (getD words 3 0)

@@ -64,10 +64,10 @@ lines-counted o x y f = omega (arith, f .next, line-count o x y .1)
 
 -- ---- answers
 module _ (o x y : ℕ) (words : List ℕ) where
-  pub not-an-operation : (o ≡ 0) ⊎ (3 < o) → Fills o x y (refused 10) words words
+  pub not-an-operation : (o ≡ 0) ⊎ (3 < o) → Fills o x y words (refused 10) words
   not-an-operation h = let r = filling-refused o x y words .0 h in (sym (r .0), sym (r .1), tt)
 
-  pub too-few-words : 1 ≤ o → o ≤ 3 → length words < sheetSize → Fills o x y (refused 9) words words
+  pub too-few-words : 1 ≤ o → o ≤ 3 → length words < sheetSize → Fills o x y words (refused 9) words
   too-few-words h k w = let r = filling-refused o x y words .1 h k w in (sym (r .0), sym (r .1), tt)
 
   module _ (low : 1 ≤ o) (high : o ≤ 3) (room : sheetSize ≤ length words) {rows : Rows} {foot : Foot} (f : Follows (blank mostLines) rows 0 (sheetOf (operationOf o) x y) foot) where
@@ -80,7 +80,7 @@ module _ (o x y : ℕ) (words : List ℕ) where
         rw (fills o x y words known room, f .first, f .second, count, e)
 
     pub fills-words : {after : List ℕ} {flags : Flags} → flags ≡ directPair (operationOf o) binary32 x y .flags → after ≡ flat rows ++ drop sheetSize words
-        → Fills o x y (filled (foot .next) (record { first = foot .first; second = foot .second; flags = flags })) words after
+        → Fills o x y words (filled (foot .next) (record { first = foot .first; second = foot .second; flags = flags })) after
     fills-words e w =
         let r = answers e in (
           r,

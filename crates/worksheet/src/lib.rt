@@ -31,7 +31,7 @@ pub enum Filled {
 
 // The pair is the one that the lines reach. The flags are the direct pair's.
 pub fn fill(operation: u32, x: u32, y: u32, words: &mut [u32]) -> Filled
-    ensures { λ r. ⌜ Fills operation x y (answerFilled r) (now (words .entry)) (now (words .exit)) ⌝ }
+    ensures { λ r. ⌜ Fills operation x y (now (words .entry)) (answerFilled r) (now (words .exit)) ⌝ }
 {
     if operation < SUM {
         return Filled::Operation;
@@ -48,7 +48,7 @@ pub fn fill(operation: u32, x: u32, y: u32, words: &mut [u32]) -> Filled
 // The lines are made in rows of their own, and copied when they are all there.
 fn written(operation: u32, x: u32, y: u32, words: &mut [u32]) -> Filled
     requires { ⌜ (1 ≤ operation) × (operation ≤ 3) × (sheetSize ≤ length (now words)) ⌝ }
-    ensures { λ r. ⌜ Fills operation x y (answerFilled r) (now (words .entry)) (now (words .exit)) ⌝ }
+    ensures { λ r. ⌜ Fills operation x y (now (words .entry)) (answerFilled r) (now (words .exit)) ⌝ }
 {
     let mut lines = [[0u32; LINE_SIZE]; MOST_LINES];
     let foot = sheet(&mut lines, operation, x, y);

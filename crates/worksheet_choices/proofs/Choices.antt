@@ -9,7 +9,8 @@ use borrow.Author.Tests.{le-leb, lt-leb}
 use Rattle.rounding_spec.specs.Value.{isInfinite}
 use Rattle.pattern_spec.proofs.Shown.{chosen-and}
 use Rattle.worksheet_spec.specs.Constants.{twoTo127, twoTo102, twoToMinus102, twoToMinus126}
-use Rattle.worksheet_spec.specs.Lines.{value, minus, equal, copySign, zero}
+use Rattle.pattern_spec.specs.Classes.{copySign}
+use Rattle.worksheet_spec.specs.Lines.{value, minus, equal, zero}
 use Rattle.worksheet_spec.specs.Sheets.{atEdge, overflows, tinyTie, restTie}
 use Rattle.worksheet_spec.proofs.Patterns.{minus-width, sign-width}
 use Rattle.worksheet_choices.proofs.Equality.{equal-one}

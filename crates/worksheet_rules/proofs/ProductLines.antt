@@ -5,7 +5,8 @@ use mathlib.Core.List.{[], _∷_}
 use Prim.Native.Nat.{ℕ}
 use native.Mathlib.Omega.{arith}
 use Rattle.worksheet_spec.specs.Constants.{half, twoTo24, twoTo48, twoToMinus24, plusZero, smallest}
-use Rattle.worksheet_spec.specs.Lines.{add, subtract, multiply, line, fusedLine, value, minus, copySign}
+use Rattle.pattern_spec.specs.Classes.{copySign}
+use Rattle.worksheet_spec.specs.Lines.{add, subtract, multiply, line, fusedLine, value, minus}
 use Rattle.worksheet_spec.specs.Sheets.{recomposition, zeroFinish, recomposedFinished, edgeFinish, infiniteProduct, lowered, lowering, tinyTie, tinyProduct, restTie, scaledDown, middleProduct}
 use Rattle.worksheet_spec.specs.Sheets.{otherProduct, Branch, branchOf, productBy, productSheet}
 use Rattle.worksheet_lines.specs.Inner.{Written, Follows}

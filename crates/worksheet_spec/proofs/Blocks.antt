@@ -18,7 +18,8 @@ use Rattle.errorfree_spec.proofs.Recomposed as split
 use Rattle.errorfree_spec.proofs.Edge.{halfLimit, edgeRest}
 use Rattle.errorfree_spec.proofs.Halved.{EdgePair}
 use Rattle.worksheet_spec.specs.Constants.{psi, two, minusTwo, kappa, plusZero, twoTo127, twoTo102}
-use Rattle.worksheet_spec.specs.Lines.{Sheet, value, minus, equal, copySign, zero}
+use Rattle.pattern_spec.specs.Classes.{copySign}
+use Rattle.worksheet_spec.specs.Lines.{Sheet, value, minus, equal, zero}
 use Rattle.worksheet_spec.specs.Sheets.{recomposition, zeroFinish, recomposedFinished, atEdge, edgeFinish}
 use Rattle.worksheet_spec.proofs.Patterns.{Pattern, mul-width, minus-width, minus-value, negate-finite, sign-value, sign-width}
 use Rattle.worksheet_spec.proofs.Constants.{psi-value, two-value, minus-two-value, kappa-value, zero-value, half-limit-value, edge-rest-value}
@@ -44,9 +45,9 @@ module _ (s : Bool) (n A a b : ℕ) (ai : value a ≡ finite s A) (wb : Pattern 
       let z = mulStep psi a in
       let d = subStep z a in
       let e = mulStep two b in
-      let zi : value z ≡ mulValue binary32 (factor.psi binary32) (finite s A) = mul-decodes psi a ∙ ap₂ (mulValue binary32) psi-value ai in
+      let zi : value z ≡ mulValue binary32 (factor.psiValue binary32) (finite s A) = mul-decodes psi a ∙ ap₂ (mulValue binary32) psi-value ai in
       let di : value d ≡ subValue binary32 (value z) (finite s A) = sub-decodes z a ∙ ap (subValue binary32 (value z)) ai in
-      let ei : value e ≡ mulValue binary32 (factor.two binary32) (value b) = mul-decodes two b ∙ ap (λ (v : Value). mulValue binary32 v (value b)) two-value in
+      let ei : value e ≡ mulValue binary32 (factor.twoValue binary32) (value b) = mul-decodes two b ∙ ap (λ (v : Value). mulValue binary32 v (value b)) two-value in
       let first : value (cond (equal e d) z a) ≡ cond (equal e d) (value z) (finite s A) = value-cond (equal e d) z a ∙ cond-eq (equal e d) refl ai in
       let second : value (cond (equal e d) (minus b) b) ≡ cond (equal e d) (negate (value b)) (value b) = value-cond (equal e d) (minus b) b ∙ cond-eq (equal e d) (minus-value b wb) refl in
       rw (first, second) (split.recomposed binary32 (omega arith) s n A (value b) h (value z) (value d) (value e) zi di ei)
@@ -107,7 +108,7 @@ same-nan (infinite s) = refl
 same-nan (finite s a) = refl
 
 -- the product by ψ less a is NaN
-no-difference : (v : Value) → isFinite v ≡ false → subValue binary32 (mulValue binary32 (factor.psi binary32) v) v ≡ nan
+no-difference : (v : Value) → isFinite v ≡ false → subValue binary32 (mulValue binary32 (factor.psiValue binary32) v) v ≡ nan
 unfolding subValue addValue mulValue times plus negate finer round
 no-difference nan h = refl
 no-difference (infinite false) h = refl

@@ -11,11 +11,11 @@ use Rattle.worksheet_spec.specs.Constants.{psi, two, minusTwo, half, kap
 use Rattle.worksheet_spec.specs.Lines.{value}
 
 -- ---- the factors
-pub psi-value : value psi ≡ factor.psi binary32
+pub psi-value : value psi ≡ factor.psiValue binary32
 unfolding decode
 psi-value = refl
 
-pub two-value : value two ≡ factor.two binary32
+pub two-value : value two ≡ factor.twoValue binary32
 unfolding decode
 two-value = refl
 

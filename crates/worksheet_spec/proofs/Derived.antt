@@ -7,7 +7,8 @@ use Rattle.rounding_spec.specs.Format.{binary32, signBit}
 use Rattle.binary32_spec.specs.Steps.{addStep, subStep, mulStep, fmaStep}
 use Rattle.augmented_spec.specs.Direct.{Operation, sum, difference, product}
 use Rattle.worksheet_spec.specs.Constants.{half, twoTo24, twoTo48, twoToMinus24, plusZero, smallest}
-use Rattle.worksheet_spec.specs.Lines.{multiply, line, Sheet, before, ends, value, minus, copySign}
+use Rattle.pattern_spec.specs.Classes.{copySign}
+use Rattle.worksheet_spec.specs.Lines.{multiply, line, Sheet, before, ends, value, minus}
 use Rattle.worksheet_spec.specs.Sheets.{Branch, whenInfinite, whenZero, whenTiny, whenMiddle, otherwise, recomposition, zeroFinish, recomposedFinished, halvedSum, overflows, sumInOrder, swaps}
 use Rattle.worksheet_spec.specs.Sheets.{sumSheet, infiniteProduct, lowered, lowering, tinyProduct, restTie, scaledDown, middleProduct, otherProduct, branchOf, productBy, productSheet, sheetOf}
 use Rattle.worksheet_spec.specs.Theorems.{Among, Known, results, Derived}

@@ -19,7 +19,8 @@ use Rattle.binary32_spec.specs.Steps.{addValue, subValue, mulValue, fmaValue, a
 use Rattle.pattern_spec.proofs.Classified.{decode-flip}
 use Rattle.binary32_spec.proofs.Result.{add-step, sub-step, mul-step, fma-step}
 use Rattle.augmented_spec.proofs.Width.{encode-width}
-use Rattle.worksheet_spec.specs.Lines.{value, minus, copySign}
+use Rattle.pattern_spec.specs.Classes.{copySign}
+use Rattle.worksheet_spec.specs.Lines.{value, minus}
 
 -- ---- a pattern of 32 bits
 abbrev pub Pattern : ℕ → Type 0

@@ -24,7 +24,8 @@ use Rattle.errorfree_spec.proofs.Signed.{Is, rel-own, same-eq}
 use Rattle.errorfree_spec.proofs.Steps.{toEven, is-sub}
 use Rattle.errorfree_spec.proofs.Theorems.{same-means}
 use Rattle.worksheet_spec.specs.Constants.{half, plusZero, smallest}
-use Rattle.worksheet_spec.specs.Lines.{Step, add, subtract, multiply, fused, Line, line, Sheet, before, value, minus, equal, copySign, zero}
+use Rattle.pattern_spec.specs.Classes.{copySign}
+use Rattle.worksheet_spec.specs.Lines.{Step, add, subtract, multiply, fused, Line, line, Sheet, before, value, minus, equal, zero}
 use Rattle.worksheet_spec.specs.Sheets.{Branch, whenInfinite, whenZero, whenTiny, whenMiddle, otherwise, recomposition, zeroFinish, infiniteProduct, lowered, lowering, tinyProduct, scaledDown}
 use Rattle.worksheet_spec.specs.Sheets.{middleProduct, otherProduct, branchOf, productBy, productSheet}
 use Rattle.worksheet_spec.specs.Theorems.{stepsOf, recompositionSteps, finishStep, edgeSteps, tinySteps, middleSteps, ProductSteps}

@@ -19,7 +19,8 @@ use Rattle.errorfree_spec.proofs.Steps.{zero-times}
 use Rattle.errorfree_spec.proofs.Recomposed.{psi-finite}
 use Rattle.errorfree_spec.proofs.Edge.{halfLimit, kappa-is}
 use Rattle.worksheet_spec.specs.Constants.{psi, two, half, kappa, plusZero, twoTo127, twoTo102}
-use Rattle.worksheet_spec.specs.Lines.{Step, add, subtract, multiply, Line, Sheet, ends, value, minus, equal, copySign, zero}
+use Rattle.pattern_spec.specs.Classes.{copySign}
+use Rattle.worksheet_spec.specs.Lines.{Step, add, subtract, multiply, Line, Sheet, ends, value, minus, equal, zero}
 use Rattle.worksheet_spec.specs.Sheets.{recomposition, zeroFinish, recomposedFinished, atEdge, edgeFinish, halvedSum, overflows, sumInOrder, swaps, sumSheet}
 use Rattle.worksheet_spec.specs.Theorems.{stepsOf, recompositionSteps, finishStep, edgeSteps, openingSteps, halvedSteps, sumSteps}
 use Rattle.worksheet_spec.proofs.Patterns.{minus-value, negate-finite}

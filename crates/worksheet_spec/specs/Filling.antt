@@ -1,4 +1,4 @@
--- Filling a sheet: what a call answers, and the lent words as they end (R7.2 to R7.4, R8.5, R8.6).
+-- Filling a sheet: what a call answers, and what becomes of the lent words (R7.2 to R7.4, R8.5, R8.6).
 use Prim.Native.Nat.{ℕ, _*_, _-_}
 use mathlib.Core.Path.{_≡_}
 use mathlib.Core.Bool.{not, cond}
@@ -26,11 +26,11 @@ sheetWords ls = linesWords ls ++ replicate (sheetSize - lineSize * length ls) 0
 
 -- ---- what filling answers where it is not refused (R8.6): the line count and the pair at the sheet's foot, with its flags
 pub record FilledSheet : Type 0 where
-  pub lines : ℕ
+  pub lineCount : ℕ
   pub pair : Pair
 
 abbrev pub filled : ℕ → Pair → Answer FilledSheet
-filled lines pair = done (record { lines = lines; pair = pair })
+filled lineCount pair = done (record { lineCount = lineCount; pair = pair })
 
 -- the sheet's own count and foot, and the direct pair's flags (R7.4)
 unfoldable pub sheetAnswer : Operation → ℕ → ℕ → Answer FilledSheet
@@ -56,6 +56,6 @@ HasDirectPair operation x y (refused n) = Unit {0}
 HasDirectPair operation x y (done s) = s .pair ≡ directPair (operationOf operation) binary32 x y
 
 -- ---- a call of filling: its answer, and the lent words before and after it
-abbrev pub Fills : ℕ → ℕ → ℕ → Answer FilledSheet → List ℕ → List ℕ → Type 0
-Fills operation x y answer words after =
+abbrev pub Fills : ℕ → ℕ → ℕ → List ℕ → Answer FilledSheet → List ℕ → Type 0
+Fills operation x y words answer after =
     (answer ≡ filling operation x y words) × (after ≡ afterFilling operation x y words) × HasDirectPair operation x y answer

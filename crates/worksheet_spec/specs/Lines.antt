@@ -6,7 +6,6 @@ use mathlib.Core.List.{List, [], _++_}
 use Rattle.rounding_spec.specs.Format.{binary32}
 use Rattle.rounding_spec.specs.Value.{Value, decode, isZero}
 use Rattle.pattern_spec.specs.Classes.{flip}
-pub use Rattle.pattern_spec.specs.Classes.{copySign}
 use Rattle.binary32_spec.specs.Steps.{addStep, subStep, mulStep, fmaStep}
 use Rattle.errorfree_spec.specs.Comparisons.{same}
 

@@ -12,9 +12,10 @@ use Rattle.errorfree_spec.specs.Comparisons.{lessMagnitude}
 use Rattle.worksheet_spec.specs.Constants.{psi, two, minusTwo, half, kappa, twoTo24, twoTo48, twoToMinus24, plusZero, smallest}
 use Rattle.worksheet_spec.specs.Constants.{twoTo127, twoTo102, twoToMinus102, twoToMinus126}
 use Rattle.worksheet_spec.specs.Lines.{add, subtract, multiply, Line, line, fusedLine, Sheet, before, ends}
-use Rattle.worksheet_spec.specs.Lines.{value, minus, equal, copySign, zero}
+use Rattle.pattern_spec.specs.Classes.{copySign}
+use Rattle.worksheet_spec.specs.Lines.{value, minus, equal, zero}
 
--- recomposition of (a, b) (R5.5): three lines, z = ψ·a, d = z - a and e = 2·b; it gives (z, -b) where e = d, else (a, b)
+-- recomposition (R5.5): three lines
 unfoldable pub recomposition : ℕ → ℕ → Sheet
 recomposition a b =
     let z = mulStep psi a in
@@ -37,7 +38,7 @@ recomposedFinished a b = let r = recomposition a b in before (r .lines) (zeroFin
 unfoldable pub atEdge : ℕ → ℕ → Bool
 atEdge a' b' = equal a' (copySign twoTo127 a') && equal b' (minus (copySign twoTo102 a'))
 
--- there two lines, first = κ·a' and second = (-2)·b'; elsewhere both halves are a (R5.7)
+-- there two lines, elsewhere none (R5.7)
 unfoldable pub edgeFinish : ℕ → ℕ → ℕ → Sheet
 edgeFinish a a' b' =
     let first = mulStep kappa a' in
@@ -47,7 +48,7 @@ edgeFinish a a' b' =
     (ends a a)
 
 -- ---- sums
--- with half the operands (R5.11): x' = ½·x, y' = ½·y, a' = x' + y', v' = a' - x', b' = y' - v', and the edge
+-- with half the operands (R5.11), and the edge
 unfoldable pub halvedSum : ℕ → ℕ → ℕ → Sheet
 halvedSum x y a =
     let x' = mulStep half x in
@@ -62,7 +63,7 @@ halvedSum x y a =
 unfoldable pub overflows : ℕ → ℕ → Bool
 overflows second a = not (zero second) && isInfinite (value a)
 
--- the lines a = x + y, v = a - x and b = y - v, recomposition and zero finish (R5.10), and what may follow (R5.11)
+-- a sum and its error, recomposition and zero finish (R5.10), and what may follow (R5.11)
 unfoldable pub sumInOrder : ℕ → ℕ → Sheet
 sumInOrder x y =
     let a = addStep x y in
@@ -79,8 +80,8 @@ swaps x y = lessMagnitude (value x) (value y)
 unfoldable pub sumSheet : ℕ → ℕ → Sheet
 sumSheet x y = cond (swaps x y) (sumInOrder y x) (sumInOrder x y)
 
--- ---- products: the line a = x·y, and by its value one of five branches (R5.12)
--- a is infinite (R5.13): h = ½·x, a' = h·y, b' = fused(h, y, -a'), and the edge
+-- ---- products: one line, and by its value one of five branches (R5.12)
+-- a is infinite (R5.13): with half of x, and the edge
 unfoldable pub infiniteProduct : ℕ → ℕ → ℕ → Sheet
 infiniteProduct x y a =
     let h = mulStep half x in
@@ -97,11 +98,11 @@ unfoldable pub lowering : ℕ → Line
 unfolding lowered
 lowering a = line subtract a (copySign smallest a) (lowered a)
 
--- where a tiny product's first is lowered (R5.16): z is 2^-102 with the sign opposite to a's, and w = t2
+-- where a tiny product's first is lowered (R5.16)
 unfoldable pub tinyTie : ℕ → ℕ → ℕ → ℕ → Bool
 tinyTie a z w t2 = equal z (minus (copySign twoToMinus102 a)) && equal w t2
 
--- 0 < |a| < 2^-125: eight lines (R5.15), first is a or a lowered, and second = (+0)·first (R5.16)
+-- a tiny product: eight lines (R5.15), and its end (R5.16)
 unfoldable pub tinyProduct : ℕ → ℕ → ℕ → Sheet
 tinyProduct x y a =
     let m = mulStep twoTo24 x in
@@ -120,11 +121,11 @@ tinyProduct x y a =
     ∷ line multiply twoTo48 a g ∷ line subtract t1 g t3 ∷ line add t2 t3 z ∷ line subtract z t3 w ∷ [])
     (before (cond tie (lowering a ∷ []) []) (before (line multiply plusZero first second ∷ []) (ends first second)))
 
--- where the rest of a middle product is lowered (R5.18): β is not zero, and r is 2^-126 with β's sign
+-- where a middle product's second is lowered (R5.18)
 unfoldable pub restTie : ℕ → ℕ → Bool
 restTie β r = not (zero β) && equal r (copySign twoToMinus126 β)
 
--- its last lines: first = 2^-24·A, β = 2^-24·B, g = 2^24·β and r = g - B (R5.17); second is β or β lowered, and zero finish (R5.18)
+-- its last lines (R5.17) and its end (R5.18)
 unfoldable pub scaledDown : ℕ → ℕ → Sheet
 scaledDown A B =
     let first = mulStep twoToMinus24 A in
@@ -135,7 +136,7 @@ scaledDown A B =
     before (line multiply twoToMinus24 A first ∷ line multiply twoToMinus24 B β ∷ line multiply twoTo24 β g ∷ line subtract g B r ∷ [])
     (before (cond tie (lowering β ∷ []) []) (zeroFinish first (cond tie (lowered β) β)))
 
--- 2^-125 ≤ |a| ≤ 2^-102: m = 2^24·x, a' = m·y, b' = fused(m, y, -a'), recomposition into (A, B), and its last lines (R5.17, R5.18)
+-- a middle product (R5.17): the pair of 2^24 times as much, scaled down
 unfoldable pub middleProduct : ℕ → ℕ → Sheet
 middleProduct x y =
     let m = mulStep twoTo24 x in
@@ -145,7 +146,7 @@ middleProduct x y =
     before (line multiply twoTo24 x m ∷ line multiply m y a' ∷ fusedLine m y (minus a') b' ∷ r .lines)
     (scaledDown (r .first) (r .second))
 
--- any other a: b = fused(x, y, -a), recomposition and zero finish (R5.19); of a NaN a the sign bit is flipped too
+-- any other a, NaN among them (R5.19); of a NaN a the sign bit is flipped too
 unfoldable pub otherProduct : ℕ → ℕ → ℕ → Sheet
 otherProduct x y a =
     let b = fmaStep x y (minus a) in

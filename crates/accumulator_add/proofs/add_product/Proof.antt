@@ -9,7 +9,7 @@ use Rattle.accumulator_spec.proofs.Adding.{fit-bounds}
 use Rattle.accumulator_spec.proofs.Terms.{tried, special}
 use Rattle.accumulator_words.proofs.Lent.{sound}
 use Rattle.accumulator_add.specs.Inner.{hasRoom}
-use Rattle.accumulator_add.proofs.Numbers.{by-refusal, lent-adds, room-number}
+use Rattle.accumulator_add.proofs.Numbers.{by-refusal, fault-adds, room-number}
 use Rattle.accumulator_add.proofs.add_product.Statement.{statement}
 use Rattle.accumulator_add.proofs.add_product.Tie as tie
 
@@ -23,7 +23,7 @@ returns : tie.Need-returns
 returns c =
     let k = c .before in
     let a = k .before .before .before .args in
-    let r = lent-adds (a .total .now) (λ e. c .if1 .taken (k .refusal .ensures ∙ e)) (ofProduct (a .x) (a .y)) in
+    let r = fault-adds (a .total .now) (λ e. c .if1 .taken (k .refusal .ensures ∙ e)) (ofProduct (a .x) (a .y)) in
     (k .refusal .ensures ∙ r .0, r .1)
 
 product-requires : tie.Need-product-requires

@@ -11,7 +11,7 @@ use Rattle.accumulator_spec.proofs.Adding.{fit-bounds, sum-room}
 use Rattle.accumulator_spec.proofs.Answers.{reading-pair}
 use Rattle.accumulator_words.proofs.Lent.{sound}
 use Rattle.accumulator_read.specs.Inner.{replied}
-use Rattle.accumulator_read.proofs.Replies.{lent-replied}
+use Rattle.accumulator_read.proofs.Replies.{fault-replied}
 use Rattle.accumulator_read.proofs.read.Statement.{statement}
 use Rattle.accumulator_read.proofs.read.Tie as tie
 
@@ -21,7 +21,7 @@ refusal-requires c κs = search needs
 returns : tie.Need-returns
 returns c =
     let k = c .before in
-    ap (λ (n : ℕ). replied n 0 0) (k .refusal .ensures) ∙ lent-replied (k .before .before .args .total .now) (λ e. c .if1 .taken (k .refusal .ensures ∙ e))
+    ap (λ (n : ℕ). replied n 0 0) (k .refusal .ensures) ∙ fault-replied (k .before .before .args .total .now) (λ e. c .if1 .taken (k .refusal .ensures ∙ e))
 
 copied-requires : tie.Need-copied-requires
 copied-requires c κs = sound (c .before .before .before .args .total .now) (sym (c .before .refusal .ensures) ∙ c .if1 .left) .0

@@ -9,7 +9,7 @@ use Rattle.conservation_spec.specs.Replay.{Asking, Lent, entriesOf, eventsOf, R
 use Rattle.conservation.specs.Answers.{answerReplayed}
 use Rattle.conservation.specs.declared.Replayed.{Replayed}
 use Rattle.conservation.specs.declared.Replayed.the-variants as the-replayed
-use Rattle.jirmeklo.specs.Sheets.{replayAnswer, ReplaysNumber}
+use Rattle.jirmeklo.specs.Sheets.{replayAnswer, ReplaysNumbered}
 use Rattle.jirmeklo.proofs.sheets.jirmeklo_replay.Statement.{statement}
 use Rattle.jirmeklo.proofs.sheets.jirmeklo_replay.Tie as tie
 
@@ -21,7 +21,7 @@ by-number the-replayed.TooMany es start end h = tt
 by-number the-replayed.NotCleared es start end h = tt
 by-number the-replayed.PastWords es start end h = tt
 
-numbered : (a : Replayed) (r : ℕ) → r ≡ refusalOf (answerReplayed a) → (q : Asking) (before after : Lent) → Replays q before (answerReplayed a) after → ReplaysNumber q before r after
+numbered : (a : Replayed) (r : ℕ) → r ≡ refusalOf (answerReplayed a) → (q : Asking) (before after : Lent) → Replays q before (answerReplayed a) after → ReplaysNumbered q before r after
 numbered a r n q before after e =
     let es : List Event = eventsOf (entriesOf q) (before .words) in
     record {

@@ -1,6 +1,6 @@
 use Rattle.transcript_spec.proofs.Written.{letters-put}
 use Rattle.transcript_spec.proofs.FieldLaws.{letters-length}
-use Rattle.question_spec.specs.Questions.{letters}
+use Rattle.question_spec.specs.Questions.{operationLettersByNumber}
 use borrow.Author.Needs.{needs}
 use Rattle.transcript_fields.proofs.letters.put_letters.Statement.{statement}
 use Rattle.transcript_fields.proofs.letters.put_letters.Tie as tie
@@ -28,7 +28,7 @@ returns c =
     let a = c .before .before .before .before .before .before .args in
     let question = c .before .before .before .before .question in
     let put-four = c .before .before .put-four in
-    letters-put (question .result) (letters (a .operation)) (question .ensures) (letters-length (a .operation)) (put-four .ensures)
+    letters-put (question .result) (operationLettersByNumber (a .operation)) (question .ensures) (letters-length (a .operation)) (put-four .ensures)
 
 pub put-letters-spec : {M : Type 1} → statement M
 put-letters-spec =

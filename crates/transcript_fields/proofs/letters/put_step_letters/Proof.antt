@@ -1,5 +1,5 @@
 use Rattle.worksheet_spec.specs.Lines.{add, subtract, multiply, stepNumber}
-use Rattle.transcript_spec.specs.Texts.{stepLetters}
+use Rattle.transcript_spec.specs.Texts.{stepLettersByNumber}
 use borrow.Author.Tests.{eq-eqb, ne-eqb}
 use borrow.Author.Needs.{needs}
 use Rattle.transcript_fields.proofs.letters.put_step_letters.Statement.{statement}
@@ -12,7 +12,7 @@ same-length : tie.Need-same-length
 same-length c = search needs
 
 returns : tie.Need-returns
-unfolding stepLetters
+unfolding stepLettersByNumber
 returns c = rw (eq-eqb (c .before .before .before .before .before .before .args .operation) (stepNumber add) (c .before .before .before .before .if1 .taken)) (c .before .before .put-four .ensures)
 
 put-four-requires-2 : tie.Need-put-four-requires-2
@@ -22,7 +22,7 @@ same-length-2 : tie.Need-same-length-2
 same-length-2 c = search needs
 
 returns-2 : tie.Need-returns-2
-unfolding stepLetters
+unfolding stepLettersByNumber
 returns-2 c =
     let a = c .before .before .before .before .before .before .before .args in
     let if1 = c .before .before .before .before .before .if1 in
@@ -37,7 +37,7 @@ same-length-3 : tie.Need-same-length-3
 same-length-3 c = search needs
 
 returns-3 : tie.Need-returns-3
-unfolding stepLetters
+unfolding stepLettersByNumber
 returns-3 c =
     let a = c .before .before .before .before .before .before .before .before .args in
     let if1 = c .before .before .before .before .before .before .if1 in
@@ -55,7 +55,7 @@ same-length-4 : tie.Need-same-length-4
 same-length-4 c = search needs
 
 returns-4 : tie.Need-returns-4
-unfolding stepLetters
+unfolding stepLettersByNumber
 returns-4 c =
     let a = c .before .before .before .before .before .before .before .before .args in
     let if1 = c .before .before .before .before .before .before .if1 in

@@ -37,7 +37,7 @@ same-length c =
     let put-decimal = c .before .before .before .before .before .before .before .before .before .before .put-decimal in
     let put-letters = c .before .before .before .before .before .before .put-letters in
     let put-patterns = c .before .before .put-patterns in
-    length-set (put-patterns .last .0) (put-patterns .result) newline ∙ (put-patterns .kept .0 ∙ (put-letters .kept .0 ∙ (put-decimal .kept .0 ∙ (put-four .kept .0))))
+    length-set (put-patterns .last .0) (put-patterns .result) _ ∙ (put-patterns .kept .0 ∙ (put-letters .kept .0 ∙ (put-decimal .kept .0 ∙ (put-four .kept .0))))
 
 returns : tie.Need-returns
 returns c =

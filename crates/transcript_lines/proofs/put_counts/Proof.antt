@@ -33,7 +33,7 @@ same-length c =
     let put-decimal = c .before .before .before .before .before .before .before .before .before .before .put-decimal in
     let put-byte = c .before .before .before .before .before .before .put-byte in
     let put-decimal2 = c .before .before .put-decimal2 in
-    length-set (put-decimal2 .last .0) (put-decimal2 .result) newline ∙ (put-decimal2 .kept .0 ∙ (put-byte .kept .0 ∙ (put-decimal .kept .0 ∙ (put-four .kept .0))))
+    length-set (put-decimal2 .last .0) (put-decimal2 .result) _ ∙ (put-decimal2 .kept .0 ∙ (put-byte .kept .0 ∙ (put-decimal .kept .0 ∙ (put-four .kept .0))))
 
 returns : tie.Need-returns
 returns c =

@@ -34,7 +34,7 @@ same-length c =
     let put-patterns = c .before .before .before .before .before .before .before .before .before .before .before .put-patterns in
     let put-byte = c .before .before .before .before .before .before .before .put-byte in
     let put-flags = c .before .before .put-flags in
-    length-set (put-flags .last .0) (put-flags .result) newline ∙ (put-flags .kept .0 ∙ (put-byte .kept .0 ∙ (put-patterns .kept .0 ∙ (put-four .kept .0))))
+    length-set (put-flags .last .0) (put-flags .result) _ ∙ (put-flags .kept .0 ∙ (put-byte .kept .0 ∙ (put-patterns .kept .0 ∙ (put-four .kept .0))))
 
 returns : tie.Need-returns
 unfolding pairText

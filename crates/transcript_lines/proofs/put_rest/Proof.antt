@@ -25,7 +25,7 @@ same-length : tie.Need-same-length
 same-length c =
     let put-third = c .before .before .before .before .before .before .put-third in
     let put-pattern = c .before .before .put-pattern in
-    length-set (put-pattern .last .0) (put-pattern .result) newline ∙ (put-pattern .kept .0 ∙ (put-third .kept .0))
+    length-set (put-pattern .last .0) (put-pattern .result) _ ∙ (put-pattern .kept .0 ∙ (put-third .kept .0))
 
 returns : tie.Need-returns
 returns c =

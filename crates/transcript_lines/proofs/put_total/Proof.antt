@@ -30,7 +30,7 @@ same-length c =
     let put-four = c .before .before .before .before .before .before .before .before .before .before .put-four in
     let put-byte = c .before .before .before .before .before .before .put-byte in
     let put-patterns = c .before .before .put-patterns in
-    length-set (put-patterns .last .0) (put-patterns .result) newline ∙ (put-patterns .kept .0 ∙ (put-byte .kept .0 ∙ (put-four .kept .0)))
+    length-set (put-patterns .last .0) (put-patterns .result) _ ∙ (put-patterns .kept .0 ∙ (put-byte .kept .0 ∙ (put-four .kept .0)))
 
 returns : tie.Need-returns
 unfolding totalText

@@ -53,7 +53,7 @@ put-decimal-same-length : (t : ℕ) → put-decimal-lts.Need-same-length (
   put-decimal-below t,
   put-decimal.Post,
 ) (put-decimal-at t) put-decimal.Post
-put-decimal-same-length t c = length-set (c .before .before .args .out .now) (c .before .before .args .at) (code "0" + c .before .before .args .n)
+put-decimal-same-length t c = length-set (c .before .before .args .out .now) (c .before .before .args .at) _
 
 put-decimal-returns : (t : ℕ) → put-decimal-lts.Need-returns (
   put-decimal-below t,
@@ -100,7 +100,7 @@ put-decimal-same-length-2 : (t : ℕ) → put-decimal-lts.Need-same-length-2 (
 put-decimal-same-length-2 t c =
     let a = c .before .before .before .before .before .before .args in
     let put-decimal = c .before .before .put-decimal in
-    length-set (put-decimal .last .0) (put-decimal .result) (code "0" + a .n % 10) ∙ put-decimal .kept .0
+    length-set (put-decimal .last .0) (put-decimal .result) _ ∙ put-decimal .kept .0
 
 put-decimal-returns-2 : (t : ℕ) → put-decimal-lts.Need-returns-2 (
   put-decimal-below t,

@@ -41,7 +41,7 @@ same-length c =
     let put-mark2 = c .before .before .before .before .before .before .before .before .before .before .before .put-mark2 in
     let put-mark3 = c .before .before .before .before .before .before .before .put-mark3 in
     let put-mark4 = c .before .before .before .put-mark4 in
-    length-set (put-mark4 .last .0) (a .at) (code "-") ∙ (put-mark4 .kept .0 ∙ (put-mark3 .kept .0 ∙ (put-mark2 .kept .0 ∙ put-mark .kept .0)))
+    length-set (put-mark4 .last .0) (a .at) _ ∙ (put-mark4 .kept .0 ∙ (put-mark3 .kept .0 ∙ (put-mark2 .kept .0 ∙ put-mark .kept .0)))
 
 returns : tie.Need-returns
 returns c =

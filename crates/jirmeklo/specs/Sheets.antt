@@ -30,8 +30,8 @@ filledAnswer r =
 
 -- r is answered, and the lent words are `after` where they were `before`; a sheet that is filled has the direct pair
 -- and its flags (R7.4)
-abbrev pub FillsNumbered : ℕ → ℕ → ℕ → FlatFilled → List ℕ → List ℕ → Type 0
-FillsNumbered operation x y r before after =
+abbrev pub FillsNumbered : ℕ → ℕ → ℕ → List ℕ → FlatFilled → List ℕ → Type 0
+FillsNumbered operation x y before r after =
     (r ≡ filledNumbers (filling operation x y before))
     × (after ≡ afterFilling operation x y before)
     × HasDirectPair operation x y (filledAnswer r)

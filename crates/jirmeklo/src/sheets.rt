@@ -19,7 +19,7 @@ pub struct FlatFilled {
 
 #[no_mangle]
 pub extern "C" fn jirmeklo_fill(operation: u32, x: u32, y: u32, words: &mut [u32]) -> FlatFilled
-    ensures { λ r. ⌜ FillsNumbered operation x y r (now (words .entry)) (now (words .exit)) ⌝ }
+    ensures { λ r. ⌜ FillsNumbered operation x y (now (words .entry)) r (now (words .exit)) ⌝ }
 {
     let filled = worksheet::fill(operation, x, y, words);
     match filled {

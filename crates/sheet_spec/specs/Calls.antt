@@ -1,4 +1,4 @@
--- What the program's calls do: bytes taken, and the end of the input. The text goes into a lent buffer.
+-- What the program's calls do (R8.15): bytes taken, and the end of the input. The text goes into a lent buffer.
 use Prim.Native.Nat.{ℕ, _+_, _≤_, _<_}
 use mathlib.Core.Path.{_≡_}
 use mathlib.Core.Logic.{_⊎_}

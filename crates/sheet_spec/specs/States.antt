@@ -1,4 +1,4 @@
--- What the program carries from byte to byte, and what each byte prints.
+-- What the program carries from byte to byte (R8.15), and what each byte prints (R9).
 use Prim.Native.Nat.{ℕ, suc, _+_}
 use mathlib.Core.Bool.{Bool, true, false, cond}
 use mathlib.Core.List.{List, [], _∷_, _++_}

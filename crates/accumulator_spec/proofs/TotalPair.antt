@@ -1,4 +1,4 @@
--- The two patterns of a total's number, by the class of the first: what `halves::of_number` gives.
+-- The two patterns of a total's number, by the class of the first: what `accumulator_read::of_number` gives.
 use mathlib.Core.Path.{_≡_, refl, sym, ap, ap₂, _∙_}
 use mathlib.Core.Bool.{Bool, true, false, not, true≢false}
 use mathlib.Core.List.{List}

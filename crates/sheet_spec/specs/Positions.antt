@@ -1,4 +1,4 @@
--- Where a run stands, as the code holds it: counts by value, the open line's bytes and the total in lent arrays.
+-- Where a run stands (R8.15), as the code holds it: counts by value, the open line's bytes and the total in lent arrays.
 use Prim.Native.Nat.{ℕ}
 use mathlib.Core.Path.{_≡_}
 use mathlib.Core.Bool.{Bool, not, _&&_, _||_}

@@ -81,7 +81,7 @@ module _ (line : List ℕ) (o x y : ℕ) where
       let first = text-back (firstPattern line) x (eight 4 full (omega arith)) (digits .0) (p .5) in
       let second = text-back (secondPattern line) y (eight 13 full (omega arith)) (digits .1) (p .6) in (
         assembled line (operationLettersByNumber o) (patternText x) (patternText y) full (eqb-true (getD line 3 0) tab (tabs .0))
-        (eqb-true (getD line 12 0) tab (tabs .1)) (word .0) (first .1) (second .1),
+            (eqb-true (getD line 12 0) tab (tabs .1)) (word .0) (first .1) (second .1),
         word .1,
         first .0,
         second .0,

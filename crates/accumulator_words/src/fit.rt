@@ -11,6 +11,13 @@ ghost use Rattle.accumulator_spec.specs.Words.{complement};
 ghost use Rattle.accumulator_spec.specs.Totals.{totalSize, fit};
 ghost use Rattle.accumulator_words.specs.Inner.{fault, belowLimit};
 
+// The top three words of the number: the limit counts the weight of the third.
+const TOP: usize = NUMBER_SIZE - 1;
+
+const NEXT: usize = NUMBER_SIZE - 2;
+
+const THIRD: usize = NUMBER_SIZE - 3;
+
 // What is tried first of lent words, by its refusal: 5, 6, or 0 for a fit total (R8.7, R8.8).
 pub fn refusal(total: &[u32]) -> u32
     ensures { λ r. ⌜ r ≡ fault (now (total .entry)) ⌝ }
@@ -24,7 +31,7 @@ pub fn refusal(total: &[u32]) -> u32
     0
 }
 
-// The limit is count * 1024 times the weight of word 17. A negative number is below it where its complement, which is smaller
+// The limit is count * 1024 times the weight of the third. A negative number is below it where its complement, which is smaller
 // by one, is: no negation, so that -2^639 needs no care.
 fn is_fit(total: &[u32]) -> bool
     requires { ⌜ length (now total) ≡ totalSize ⌝ }
@@ -34,15 +41,15 @@ fn is_fit(total: &[u32]) -> bool
     if n > MOST_TERMS {
         return false;
     }
-    let minus = total[19] >= 0x8000_0000;
-    if turned(minus, total[19]) != 0 {
+    let minus = total[TOP] >= 0x8000_0000;
+    if turned(minus, total[TOP]) != 0 {
         return false;
     }
-    if turned(minus, total[18]) != 0 {
+    if turned(minus, total[NEXT]) != 0 {
         return false;
     }
-    let top = turned(minus, total[17]);
-    within(&total[0..17], minus, top, n * 1024)
+    let top = turned(minus, total[THIRD]);
+    within(&total[0..THIRD], minus, top, n * 1024)
 }
 
 // The words below count at the limit itself, where a positive number must have none there.

@@ -43,7 +43,7 @@ unfoldable pub pairOf : Format → Value → Halves
 unfolding secondOf round
 pairOf F exact = let first = RN0 F exact in record { first = first; second = secondOf F exact first }
 
--- ---- flags: four truth values, in the order I O U X (R4.1)
+-- ---- flags, as four truth values (R4.1)
 -- I (R4.2): a signalling operand, or a NaN first where no operand is NaN
 unfoldable pub invalid : Format → ℕ → ℕ → Value → Bool
 unfolding signalling decode

@@ -61,8 +61,7 @@ Member p (k ∷ ks) = (p ≡ k) ⊎ Member p ks
 abbrev pub factors : List ℕ
 factors = psi ∷ two ∷ minusTwo ∷ half ∷ kappa ∷ twoTo24 ∷ twoTo48 ∷ twoToMinus24 ∷ plusZero ∷ []
 
--- Operands are among what is known, ks, but for a constant as the first operand of a multiplication (R5.2), and u with a sign as the second
--- of a subtraction (R5.8).
+-- Operands are among what is known, ks, but for the constants: factors stand first (R5.2), and u, with a sign, is taken away (R5.8).
 abbrev pub Drawn : List ℕ → Step → ℕ → ℕ → ℕ → Type 0
 Drawn ks add x y z = Among x ks × Among y ks
 Drawn ks subtract x y z = Among x ks × (Among y ks ⊎ Among y (smallest ∷ []))

@@ -71,11 +71,11 @@ module _ (p : Position) (line total : List ℕ) (r : goesOn p ≡ true) (out : L
           let k = at-end p line total r b room e in
           let c = ends-soundly total' out' h in
           let lines : (s .position .lines < mostInputLines) ⊎ ((s .position .lines ≡ mostInputLines) × (s .position .length ≡ 0)) =
-          elim (decLe mostInputLines (s .position .lines)) [ yes w ↦ inr (omega (arith, c .0), h .length) | no w ↦ inl (omega arith) ] in
-          let q = goes-on (s .position) (record { going = h .going; good = c .1; length = omega (arith, h .length); lines = lines }) in
+          elim (decLe mostInputLines (s .position .lines)) [ yes w ↦ inr (omega (arith, c .0), h .emptied) | no w ↦ inl (omega arith) ] in
+          let q = goes-on (s .position) (record { going = h .going; good = c .1; length = omega (arith, h .emptied); lines = lines }) in
           record {
             state =
-                going-on (s .position) line total' q ∙ ap {B = State} (λ (n : ℕ). record { progress = progressOf (s .position) total'; begun = take n line; stopped = false }) (h .length)
+                going-on (s .position) line total' q ∙ ap {B = State} (λ (n : ℕ). record { progress = progressOf (s .position) total'; begun = take n line; stopped = false }) (h .emptied)
                 ∙ ap {B = State} (λ (g : Progress). record { progress = g; begun = []; stopped = false }) (h .progress) ∙ sym (k .0);
             taken = refl;
             text = subst (λ (t : List ℕ). Put out 0 t (s .written) out') (sym (k .1)) (h .text);

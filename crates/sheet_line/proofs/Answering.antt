@@ -98,7 +98,7 @@ module _ (p : Position) (kept total out : List ℕ) (whole : length (take (p .le
     progress =
         progress-is (p .lines + 1) (suc (p .lines)) (p .good + cond (isDone a) 1 0) _ total' _ (add-one (p .lines)) (counted is (p .good))
         (t ∙ ap (λ (b : Answer Asked). column total (lineTerms b)) is);
-    length = refl;
+    emptied = refl;
     going = refl;
     taken = refl;
     text = rw (← is, ← add-one (p .lines)) (wrote (le-trans (line-most (p .lines + 1) a) room) w);

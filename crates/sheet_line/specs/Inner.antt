@@ -4,7 +4,7 @@ use mathlib.Core.Path.{_≡_}
 use mathlib.Core.Bool.{Bool, false, _&&_}
 use mathlib.Core.List.{List}
 use lib.Dec.{leb, ltb}
-use lib.ListN.{length as size, take}
+use lib.ListN.{length, take}
 use Rattle.question_spec.specs.Questions.{readQuestion}
 use Rattle.transcript_spec.specs.Texts.{lineRoom}
 use Rattle.transcript_spec.specs.Buffers.{Put}
@@ -29,9 +29,9 @@ lineEnded p good written =
 -- the open line, of these kept bytes, is ended
 pub record LineEnds (p : Position) (kept total out : List ℕ) (r : Progressed) (total' out' : List ℕ) : Type 0 where
   -- all of its bytes are there
-  pub whole : size (take (p .length) kept) ≡ p .length
+  pub whole : length (take (p .length) kept) ≡ p .length
   pub progress : progressOf (r .position) total' ≡ afterLine (progressOf p total) (take (p .length) kept)
-  pub length : r .position .length ≡ 0
+  pub emptied : r .position .length ≡ 0
   pub going : r .position .stopped ≡ false
   pub taken : r .taken ≡ 0
   pub text : Put out 0 (lineText (suc (p .lines)) (readQuestion (take (p .length) kept))) (r .written) out'

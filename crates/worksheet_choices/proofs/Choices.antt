@@ -10,7 +10,7 @@ use Rattle.rounding_spec.specs.Value.{isInfinite}
 use Rattle.pattern_spec.proofs.Shown.{chosen-and}
 use Rattle.worksheet_spec.specs.Constants.{twoTo127, twoTo102, twoToMinus102, twoToMinus126}
 use Rattle.pattern_spec.specs.Classes.{copySign}
-use Rattle.worksheet_spec.specs.Lines.{value, minus, equal, zero}
+use Rattle.worksheet_spec.specs.Lines.{value, minus, equal, isZeroPattern}
 use Rattle.worksheet_spec.specs.Sheets.{atEdge, overflows, tinyTie, restTie}
 use Rattle.worksheet_spec.proofs.Patterns.{minus-width, sign-width}
 use Rattle.worksheet_choices.proofs.Equality.{equal-one}
@@ -48,7 +48,7 @@ unless : (a b : Bool) → cond a false b ≡ not a && b
 unless true b = refl
 unless false b = refl
 
-pub overflow-is : (second a : ℕ) (p q : Bool) → p ≡ zero second → q ≡ isInfinite (value a) → cond p false q ≡ overflows second a
+pub overflow-is : (second a : ℕ) (p q : Bool) → p ≡ isZeroPattern second → q ≡ isInfinite (value a) → cond p false q ≡ overflows second a
 unfolding overflows
 overflow-is second a p q d e = unless p q ∙ ap₂ (λ (b c : Bool). not b && c) d e
 
@@ -63,7 +63,7 @@ unfolding tinyTie
 tiny-tie-is a z w t2 v p q b d e f =
     chosen-and (eqb z q) b ∙ ap₂ _&&_ (ap (eqb z) (e ∙ ap minus d) ∙ other-sign z a twoToMinus102 v (omega arith) (omega arith)) f
 
-pub rest-tie-is : (β r : ℕ) → r < 2 ^ 32 → (p : ℕ) (b : Bool) → p ≡ copySign twoToMinus126 β → b ≡ zero β → cond b false (eqb r p) ≡ restTie β r
+pub rest-tie-is : (β r : ℕ) → r < 2 ^ 32 → (p : ℕ) (b : Bool) → p ≡ copySign twoToMinus126 β → b ≡ isZeroPattern β → cond b false (eqb r p) ≡ restTie β r
 unfolding restTie
 rest-tie-is β r v p b d e =
     unless b (eqb r p) ∙ ap₂ (λ (c k : Bool). not c && k) e (ap (eqb r) d ∙ like-sign r β twoToMinus126 v (omega arith) (omega arith))

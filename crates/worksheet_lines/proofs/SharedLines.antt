@@ -6,7 +6,7 @@ use Prim.Native.Nat.{ℕ, _+_, _<_}
 use native.Mathlib.Omega.{arith}
 use lib.ListN.{length}
 use Rattle.worksheet_spec.specs.Constants.{psi, two, minusTwo, kappa, plusZero}
-use Rattle.worksheet_spec.specs.Lines.{mostLines, subtract, multiply, line, minus, equal, zero}
+use Rattle.worksheet_spec.specs.Lines.{mostLines, subtract, multiply, line, minus, equal, isZeroPattern}
 use Rattle.worksheet_spec.specs.Sheets.{recomposition, zeroFinish, recomposedFinished, atEdge, edgeFinish}
 use Rattle.worksheet_lines.specs.Inner.{Written, Follows}
 use Rattle.worksheet_lines.specs.declared.Foot.{Foot}
@@ -14,12 +14,12 @@ use Rattle.worksheet_lines.proofs.Rows.{Rows, Standing, none-yet, foot-
 
 -- ---- zero finish
 module _ (n first second : ℕ) where
-  pub zero-finished : {start here : Rows} {nought : ℕ} → zero second ≡ true → Written start here n (line multiply plusZero first nought)
+  pub zero-finished : {start here : Rows} {nought : ℕ} → isZeroPattern second ≡ true → Written start here n (line multiply plusZero first nought)
       → Follows start here n (zeroFinish first second) (record { first = first; second = nought; next = n + 1 })
   unfolding zeroFinish
   zero-finished {start} {here} e w = rw (e, ← w .gives .0) (then-sheet (then-line (none-yet start n) w (omega arith)) (foot-follows here (n + 1) _ _) (omega arith))
 
-  pub not-zero-finished : (start : Rows) → zero second ≡ false → Follows start start n (zeroFinish first second) (record { first = first; second = second; next = n })
+  pub not-zero-finished : (start : Rows) → isZeroPattern second ≡ false → Follows start start n (zeroFinish first second) (record { first = first; second = second; next = n })
   unfolding zeroFinish
   not-zero-finished start e = rw e (foot-follows start n first second)
 

@@ -9,7 +9,7 @@ use Rattle.rounding_spec.specs.Value.{Value, nan, infinite, finite, isFinite, i
 use Rattle.binary32_spec.specs.Steps.{addStep, subStep}
 use Rattle.errorfree_spec.proofs.NoNumber.{not-both, none-zero, both-of}
 use Rattle.worksheet_spec.specs.Constants.{half}
-use Rattle.worksheet_spec.specs.Lines.{add, subtract, multiply, Line, line, value, zero}
+use Rattle.worksheet_spec.specs.Lines.{add, subtract, multiply, Line, line, value, isZeroPattern}
 use Rattle.worksheet_spec.specs.Sheets.{recomposedFinished, edgeFinish, halvedSum, overflows, sumInOrder, swaps, sumSheet}
 use Rattle.worksheet_spec.specs.Theorems.{stepsOf}
 use Rattle.worksheet_spec.proofs.Sums.{b-none}
@@ -42,7 +42,7 @@ unfolding overflows
 not-finished x y s e =
     let a = addStep x y in
     let b = subStep y (subStep a x) in
-    let n = infinite-not-finite (value a) (both-of (not (zero s)) (isInfinite (value a)) e .1) in
+    let n = infinite-not-finite (value a) (both-of (not (isZeroPattern s)) (isInfinite (value a)) e .1) in
     sym (steps-length (recomposedFinished a b .lines)) ∙ ap length (recomposed-none-steps a b n (none-zero (value b) (b-none x y n)))
 
 -- ---- operands in order

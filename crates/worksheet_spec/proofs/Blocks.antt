@@ -19,7 +19,7 @@ use Rattle.errorfree_spec.proofs.Edge.{halfLimit, edgeRest}
 use Rattle.errorfree_spec.proofs.Halved.{EdgePair}
 use Rattle.worksheet_spec.specs.Constants.{psi, two, minusTwo, kappa, plusZero, twoTo127, twoTo102}
 use Rattle.pattern_spec.specs.Classes.{copySign}
-use Rattle.worksheet_spec.specs.Lines.{Sheet, value, minus, equal, zero}
+use Rattle.worksheet_spec.specs.Lines.{Sheet, value, minus, equal, isZeroPattern}
 use Rattle.worksheet_spec.specs.Sheets.{recomposition, zeroFinish, recomposedFinished, atEdge, edgeFinish}
 use Rattle.worksheet_spec.proofs.Patterns.{Pattern, mul-width, minus-width, minus-value, negate-finite, sign-value, sign-width}
 use Rattle.worksheet_spec.proofs.Constants.{psi-value, two-value, minus-two-value, kappa-value, zero-value, half-limit-value, edge-rest-value}
@@ -74,19 +74,19 @@ either false x = refl
 module _ (first second : ℕ) where
   pub finish-first : zeroFinish first second .first ≡ first
   unfolding zeroFinish
-  finish-first = first-cond (zero second) _ _ ∙ either (zero second) first
+  finish-first = first-cond (isZeroPattern second) _ _ ∙ either (isZeroPattern second) first
 
-  pub finish-pattern : zeroFinish first second .second ≡ cond (zero second) (mulStep plusZero first) second
+  pub finish-pattern : zeroFinish first second .second ≡ cond (isZeroPattern second) (mulStep plusZero first) second
   unfolding zeroFinish
-  finish-pattern = second-cond (zero second) _ _
+  finish-pattern = second-cond (isZeroPattern second) _ _
 
   pub finish-second : value (zeroFinish first second .second) ≡ cond (isZero (value second)) (mulValue binary32 factors.zero (value first)) (value second)
   finish-second =
-      ap value finish-pattern ∙ value-cond (zero second) (mulStep plusZero first) second
-      ∙ cond-eq (zero second) (mul-decodes plusZero first ∙ ap (λ (v : Value). mulValue binary32 v (value first)) zero-value) refl
+      ap value finish-pattern ∙ value-cond (isZeroPattern second) (mulStep plusZero first) second
+      ∙ cond-eq (isZeroPattern second) (mul-decodes plusZero first ∙ ap (λ (v : Value). mulValue binary32 v (value first)) zero-value) refl
 
   pub finish-width : Pattern second → Pattern (zeroFinish first second .second)
-  finish-width w = rw finish-pattern (width-cond (zero second) (mulStep plusZero first) second (mul-width plusZero first) w)
+  finish-width w = rw finish-pattern (width-cond (isZeroPattern second) (mulStep plusZero first) second (mul-width plusZero first) w)
 
 -- ---- recomposition and zero finish: the pair of n units with the sign s
 pub recomposed-foot : (s : Bool) (n A a b : ℕ) → value a ≡ finite s A → Pattern a → Pattern b → Split binary32 s n A (value b) → Foots (finite s (n * 2 ^ low binary32)) (recomposedFinished a b)
@@ -125,7 +125,7 @@ recomposition-none a b h =
     let c : equal (mulStep two b) d ≡ false = ap (same (value (mulStep two b))) di ∙ same-nan (value (mulStep two b)) in
     rw c (refl, refl)
 
-pub recomposed-none : (a b : ℕ) → isFinite (value a) ≡ false → zero b ≡ false → (recomposedFinished a b .first ≡ a) × (recomposedFinished a b .second ≡ b)
+pub recomposed-none : (a b : ℕ) → isFinite (value a) ≡ false → isZeroPattern b ≡ false → (recomposedFinished a b .first ≡ a) × (recomposedFinished a b .second ≡ b)
 unfolding recomposedFinished
 recomposed-none a b h k =
     let r = recomposition-none a b h in (

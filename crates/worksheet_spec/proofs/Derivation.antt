@@ -6,7 +6,7 @@ use mathlib.Core.List.{List, [], _∷_, _++_}
 use Prim.Native.Nat.{ℕ}
 use Rattle.binary32_spec.specs.Steps.{subStep, mulStep}
 use Rattle.worksheet_spec.specs.Constants.{psi, two, minusTwo, half, kappa, twoTo24, twoTo48, twoToMinus24, plusZero, smallest}
-use Rattle.worksheet_spec.specs.Lines.{add, subtract, multiply, Line, line, fusedLine, Sheet, before, ends, minus, equal, zero}
+use Rattle.worksheet_spec.specs.Lines.{add, subtract, multiply, Line, line, fusedLine, Sheet, before, ends, minus, equal, isZeroPattern}
 use Rattle.worksheet_spec.specs.Sheets.{recomposition, zeroFinish, recomposedFinished, atEdge, edgeFinish}
 use Rattle.worksheet_spec.specs.Theorems.{Among, Member, factors, Known, results}
 
@@ -178,7 +178,7 @@ module _ (B : List ℕ) where
   unfolding zeroFinish
   finish-leads rs x y hx hy =
       let n = mulStep plusZero x in
-      leads-cond (zero y) rs (before (line multiply plusZero x n ∷ []) (ends x n)) (ends x y)
+      leads-cond (isZeroPattern y) rs (before (line multiply plusZero x n ∷ []) (ends x n)) (ends x y)
       (scales plusZero x n rs (ends x n) zero-in (left x rs B hx) (stop x n (n ∷ rs) (there n x rs hx) (here n rs))) (stop x y rs hx hy)
 
   pub recomposed-leads : (rs : List ℕ) (a b : ℕ) → Among a rs → Among b rs → Among (minus b) rs → Leads rs (recomposedFinished a b)

@@ -6,7 +6,7 @@ use Prim.Native.Nat.{ℕ}
 use Rattle.binary32_spec.specs.Steps.{addStep, subStep, mulStep, fmaStep}
 use Rattle.augmented_spec.specs.Direct.{sum, difference, product}
 use Rattle.pattern_spec.specs.Classes.{copySign}
-use Rattle.worksheet_spec.specs.Lines.{add, subtract, multiply, Line, line, fusedLine, Sheet, before, ends, value, minus, zero}
+use Rattle.worksheet_spec.specs.Lines.{add, subtract, multiply, Line, line, fusedLine, Sheet, before, ends, value, minus, isZeroPattern}
 use Rattle.worksheet_spec.specs.Constants.{psi, two, minusTwo, half, kappa, twoTo24, twoTo48, twoToMinus24, plusZero, smallest}
 use Rattle.worksheet_spec.specs.Sheets.{Branch, whenInfinite, whenZero, whenTiny, whenMiddle, otherwise, recomposition, zeroFinish, recomposedFinished, atEdge, edgeFinish, halvedSum, overflows}
 use Rattle.worksheet_spec.specs.Sheets.{sumInOrder, swaps, sumSheet, infiniteProduct, lowered, lowering, tinyProduct, restTie, scaledDown, middleProduct, otherProduct, branchOf, productBy}
@@ -58,7 +58,7 @@ recomposition-each a b = multiplies psi a _ (subtracts (mulStep psi a) a _ (mult
 
 finish-each : (x y : ℕ) → Each (zeroFinish x y .lines)
 unfolding zeroFinish
-finish-each x y = each-cond (zero y) (before (line multiply plusZero x (mulStep plusZero x) ∷ []) (ends x (mulStep plusZero x))) (ends x y) (multiplies plusZero x _ none) none
+finish-each x y = each-cond (isZeroPattern y) (before (line multiply plusZero x (mulStep plusZero x) ∷ []) (ends x (mulStep plusZero x))) (ends x y) (multiplies plusZero x _ none) none
 
 recomposed-each : (a b : ℕ) → Each (recomposedFinished a b .lines)
 unfolding recomposedFinished

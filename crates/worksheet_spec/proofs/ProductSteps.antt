@@ -25,7 +25,7 @@ use Rattle.errorfree_spec.proofs.Steps.{toEven, is-sub}
 use Rattle.errorfree_spec.proofs.Theorems.{same-means}
 use Rattle.worksheet_spec.specs.Constants.{half, plusZero, smallest}
 use Rattle.pattern_spec.specs.Classes.{copySign}
-use Rattle.worksheet_spec.specs.Lines.{Step, add, subtract, multiply, fused, Line, line, Sheet, before, value, minus, equal, zero}
+use Rattle.worksheet_spec.specs.Lines.{Step, add, subtract, multiply, fused, Line, line, Sheet, before, value, minus, equal, isZeroPattern}
 use Rattle.worksheet_spec.specs.Sheets.{Branch, whenInfinite, whenZero, whenTiny, whenMiddle, otherwise, recomposition, zeroFinish, infiniteProduct, lowered, lowering, tinyProduct, scaledDown}
 use Rattle.worksheet_spec.specs.Sheets.{middleProduct, otherProduct, branchOf, productBy, productSheet}
 use Rattle.worksheet_spec.specs.Theorems.{stepsOf, recompositionSteps, finishStep, edgeSteps, tinySteps, middleSteps, ProductSteps}
@@ -131,11 +131,11 @@ module _ (x y : ℕ) where
         by false = refl
 
     -- ---- the middle: its operands are finite, so that a correction leaves no zero, and first is finite
-    middle-facts : 2 ^ 24 ≤ m → m ≤ 2 ^ 47 → (tie x y ≡ true → zero (corrected x y) ≡ false) × (isFinite (value (first x y)) ≡ true)
+    middle-facts : 2 ^ 24 ≤ m → m ≤ 2 ^ 47 → (tie x y ≡ true → isZeroPattern (corrected x y) ≡ false) × (isFinite (value (first x y)) ≡ true)
     unfolding Fits
     middle-facts lo hi = by (isFinite (value x) && isFinite (value y)) refl
       where
-        by : (i : Bool) → isFinite (value x) && isFinite (value y) ≡ i → (tie x y ≡ true → zero (corrected x y) ≡ false) × (isFinite (value (first x y)) ≡ true)
+        by : (i : Bool) → isFinite (value x) && isFinite (value y) ≡ i → (tie x y ≡ true → isZeroPattern (corrected x y) ≡ false) × (isFinite (value (first x y)) ≡ true)
         by false n = not-both (sym (ap isFinite e) ∙ ap isFinite (mul-decodes x y) ∙ mul-none binary32 (value x) (value y) n)
         by true n =
             let h = both-of (isFinite (value x)) (isFinite (value y)) n in
@@ -151,7 +151,7 @@ module _ (x y : ℕ) where
               first-number x y (u .0) (w .0) (u .1) (w .1) (u .2) (w .2) (f .0) (g .0) (f .1) (g .1) (rw (← a-is) (q .1)) (rw (← a-is) lo) (rw (← a-is) hi),
             )
 
-    middle-steps : stepsOf (middleProduct x y .lines) ≡ middleSteps ++ cond (tie x y) (subtract ∷ []) [] ++ cond (zero (corrected x y)) finishStep []
+    middle-steps : stepsOf (middleProduct x y .lines) ≡ middleSteps ++ cond (tie x y) (subtract ∷ []) [] ++ cond (isZeroPattern (corrected x y)) finishStep []
     unfolding middleProduct recomposition scaledDown
     middle-steps =
         ap {B = List Step} (λ (steps : List Step). middleSteps ++ steps)
@@ -159,11 +159,11 @@ module _ (x y : ℕ) where
         ∙ ap (λ (steps : List Step). cond (tie x y) (subtract ∷ []) [] ++ steps) (finish-steps (first x y) (corrected x y)))
 
     middle-ordered : 2 ^ 24 ≤ m → m ≤ 2 ^ 47 → let steps = stepsOf (middleProduct x y .lines) in
-        (zero (middleProduct x y .second) ≡ true → steps ≡ middleSteps ++ finishStep) × (zero (middleProduct x y .second) ≡ false → (steps ≡ middleSteps) ⊎ (steps ≡ middleSteps ++ (subtract ∷ [])))
+        (isZeroPattern (middleProduct x y .second) ≡ true → steps ≡ middleSteps ++ finishStep) × (isZeroPattern (middleProduct x y .second) ≡ false → (steps ≡ middleSteps) ⊎ (steps ≡ middleSteps ++ (subtract ∷ [])))
     unfolding middleProduct scaledDown
     middle-ordered lo hi =
         let f = middle-facts lo hi in
-        by (tie x y) (zero (corrected x y)) (zero (zeroFinish (first x y) (corrected x y) .second)) (finish-zero (first x y) (corrected x y) (f .1)) (f .0) middle-steps
+        by (tie x y) (isZeroPattern (corrected x y)) (isZeroPattern (zeroFinish (first x y) (corrected x y) .second)) (finish-zero (first x y) (corrected x y) (f .1)) (f .0) middle-steps
       where
         by : {steps : List Step} (c z w : Bool) → w ≡ z → (c ≡ true → z ≡ false) → steps ≡ middleSteps ++ cond c (subtract ∷ []) [] ++ cond z finishStep []
             → (w ≡ true → steps ≡ middleSteps ++ finishStep) × (w ≡ false → (steps ≡ middleSteps) ⊎ (steps ≡ middleSteps ++ (subtract ∷ [])))
@@ -173,7 +173,7 @@ module _ (x y : ℕ) where
         by false false w q n o = (λ h. not-both (sym h ∙ q), λ h. inl o)
 
     -- ---- otherwise
-    other-steps : stepsOf (otherProduct x y p .lines) ≡ fused ∷ recompositionSteps ++ cond (zero (otherProduct x y p .second)) finishStep []
+    other-steps : stepsOf (otherProduct x y p .lines) ≡ fused ∷ recompositionSteps ++ cond (isZeroPattern (otherProduct x y p .second)) finishStep []
     unfolding otherProduct
     other-steps =
         let c = fmaStep x y (minus p) in

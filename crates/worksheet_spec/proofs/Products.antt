@@ -28,7 +28,7 @@ use Rattle.errorfree_spec.proofs.MiddleSecond.{stepped}
 use Rattle.errorfree_spec.proofs.Middle.{Scaled, Finished, middle-split, middle-first, middle-second}
 use Rattle.worksheet_spec.specs.Constants.{half, twoTo24, twoTo48, twoToMinus24, plusZero, smallest, twoToMinus102, twoToMinus126}
 use Rattle.pattern_spec.specs.Classes.{copySign}
-use Rattle.worksheet_spec.specs.Lines.{ends, value, minus, zero}
+use Rattle.worksheet_spec.specs.Lines.{ends, value, minus, isZeroPattern}
 use Rattle.worksheet_spec.specs.Sheets.{recomposition, recomposedFinished, infiniteProduct, lowered, tinyTie, tinyProduct, restTie, scaledDown, middleProduct, otherProduct}
 use Rattle.worksheet_spec.proofs.Patterns.{Pattern, sub-width, mul-width, fma-width, minus-value, negate-finite, sign-value, sign-width}
 use Rattle.worksheet_spec.proofs.Constants.{half-value, up-value, up-up-value, down-value, zero-value, tie-value, lowest-value, smallest-value}
@@ -200,7 +200,7 @@ module _ (x y : ℕ) (s t : Bool) (a b : ℕ) (xi : value x ≡ finite s a) (yi 
           )
 
       -- a correction leaves no zero to be finished
-      pub corrected-nonzero : tie x y ≡ true → zero (corrected x y) ≡ false
+      pub corrected-nonzero : tie x y ≡ true → isZeroPattern (corrected x y) ≡ false
       corrected-nonzero h = ap isZero corrected-is ∙ second .nonzero (sym test ∙ h)
 
       pub first-number : isFinite (value (first x y)) ≡ true

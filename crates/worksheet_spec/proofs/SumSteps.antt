@@ -20,7 +20,7 @@ use Rattle.errorfree_spec.proofs.Recomposed.{psi-finite}
 use Rattle.errorfree_spec.proofs.Edge.{halfLimit, kappa-is}
 use Rattle.worksheet_spec.specs.Constants.{psi, two, half, kappa, plusZero, twoTo127, twoTo102}
 use Rattle.pattern_spec.specs.Classes.{copySign}
-use Rattle.worksheet_spec.specs.Lines.{Step, add, subtract, multiply, Line, Sheet, ends, value, minus, equal, zero}
+use Rattle.worksheet_spec.specs.Lines.{Step, add, subtract, multiply, Line, Sheet, ends, value, minus, equal, isZeroPattern}
 use Rattle.worksheet_spec.specs.Sheets.{recomposition, zeroFinish, recomposedFinished, atEdge, edgeFinish, halvedSum, overflows, sumInOrder, swaps, sumSheet}
 use Rattle.worksheet_spec.specs.Theorems.{stepsOf, recompositionSteps, finishStep, edgeSteps, openingSteps, halvedSteps, sumSteps}
 use Rattle.worksheet_spec.proofs.Patterns.{minus-value, negate-finite}
@@ -38,11 +38,11 @@ steps-cond true s t = refl
 steps-cond false s t = refl
 
 -- ---- the parts
-pub finish-steps : (x y : ℕ) → stepsOf (zeroFinish x y .lines) ≡ cond (zero y) finishStep []
+pub finish-steps : (x y : ℕ) → stepsOf (zeroFinish x y .lines) ≡ cond (isZeroPattern y) finishStep []
 unfolding zeroFinish
-finish-steps x y = steps-cond (zero y) _ _
+finish-steps x y = steps-cond (isZeroPattern y) _ _
 
-pub recomposed-steps : (a b : ℕ) → stepsOf (recomposedFinished a b .lines) ≡ recompositionSteps ++ cond (zero (recomposition a b .second)) finishStep []
+pub recomposed-steps : (a b : ℕ) → stepsOf (recomposedFinished a b .lines) ≡ recompositionSteps ++ cond (isZeroPattern (recomposition a b .second)) finishStep []
 unfolding recomposedFinished recomposition
 recomposed-steps a b = ap {B = List Step} (λ (steps : List Step). recompositionSteps ++ steps) (finish-steps (recomposition a b .first) (recomposition a b .second))
 
@@ -51,10 +51,10 @@ unfolding edgeFinish
 edge-steps a a' b' = steps-cond (atEdge a' b') _ _
 
 -- ---- a second is finished where it is zero, and is zero then
-pub finish-zero : (x y : ℕ) → isFinite (value x) ≡ true → zero (zeroFinish x y .second) ≡ zero y
-finish-zero x y h = ap zero (finish-pattern x y) ∙ by (zero y) refl
+pub finish-zero : (x y : ℕ) → isFinite (value x) ≡ true → isZeroPattern (zeroFinish x y .second) ≡ isZeroPattern y
+finish-zero x y h = ap isZeroPattern (finish-pattern x y) ∙ by (isZeroPattern y) refl
   where
-    by : (c : Bool) → zero y ≡ c → zero (cond c (mulStep plusZero x) y) ≡ c
+    by : (c : Bool) → isZeroPattern y ≡ c → isZeroPattern (cond c (mulStep plusZero x) y) ≡ c
     by true e =
         let n = number-of (value x) h in
         ap isZero (mul-decodes plusZero x ∙ ap₂ (mulValue binary32) zero-value (n .2) ∙ zero-times binary32 (n .0) (n .1))
@@ -76,13 +76,13 @@ first-finite a b h =
     by true = product
     by false = h
 
-pub recomposed-zero : (a b : ℕ) → isFinite (value a) ≡ true → zero (recomposedFinished a b .second) ≡ zero (recomposition a b .second)
+pub recomposed-zero : (a b : ℕ) → isFinite (value a) ≡ true → isZeroPattern (recomposedFinished a b .second) ≡ isZeroPattern (recomposition a b .second)
 unfolding recomposedFinished
 recomposed-zero a b h = finish-zero (recomposition a b .first) (recomposition a b .second) (first-finite a b h)
 
 -- what is no number is not finished
-pub recomposed-none-steps : (a b : ℕ) → isFinite (value a) ≡ false → zero b ≡ false → stepsOf (recomposedFinished a b .lines) ≡ recompositionSteps
-recomposed-none-steps a b h k = recomposed-steps a b ∙ ap {B = List Step} (λ (c : Bool). recompositionSteps ++ cond c finishStep []) (ap zero (recomposition-none a b h .1) ∙ k)
+pub recomposed-none-steps : (a b : ℕ) → isFinite (value a) ≡ false → isZeroPattern b ≡ false → stepsOf (recomposedFinished a b .lines) ≡ recompositionSteps
+recomposed-none-steps a b h k = recomposed-steps a b ∙ ap {B = List Step} (λ (c : Bool). recompositionSteps ++ cond c finishStep []) (ap isZeroPattern (recomposition-none a b h .1) ∙ k)
 
 -- ---- at the edge first is finite
 copied : (b : Bool) → value (cond b (minus twoTo127) twoTo127) ≡ finite b (halfLimit binary32)
@@ -141,11 +141,11 @@ module _ (x y : ℕ) where
 
   finite-steps : (s : Bool) (m : ℕ) → value a ≡ finite s m → Ordered (finite s m)
   finite-steps s m h =
-      let z : zero (sumInOrder x y .second) ≡ zero (recomposition a b .second) =
-      ap zero (second-is x y ∙ ap (λ (c : Bool). cond c (halvedSum x y a .second) (recomposedFinished a b .second)) (no-edge x y (ap isInfinite h))) ∙ recomposed-zero a b (ap isFinite h)
+      let z : isZeroPattern (sumInOrder x y .second) ≡ isZeroPattern (recomposition a b .second) =
+      ap isZeroPattern (second-is x y ∙ ap (λ (c : Bool). cond c (halvedSum x y a .second) (recomposedFinished a b .second)) (no-edge x y (ap isInfinite h))) ∙ recomposed-zero a b (ap isFinite h)
       in
       plain (ap isInfinite h) ∙ ap {B = List Step} (λ (steps : List Step). add ∷ subtract ∷ subtract ∷ steps ++ []) (recomposed-steps a b)
-      ∙ by (zero (recomposition a b .second)) (zero (sumInOrder x y .second)) (sym z)
+      ∙ by (isZeroPattern (recomposition a b .second)) (isZeroPattern (sumInOrder x y .second)) (sym z)
     where
       by : (c d : Bool) → c ≡ d → _≡_ {A = List Step} (openingSteps ++ cond c finishStep [] ++ []) (openingSteps ++ cond d finishStep [])
       by true true e = refl

@@ -26,7 +26,7 @@ use Rattle.errorfree_spec.proofs.Steps.{toEven, even-at}
 use Rattle.errorfree_spec.proofs.FastTwoSum.{add-finite, fast-two-sum}
 use Rattle.errorfree_spec.proofs.Halved.{sum-edge}
 use Rattle.worksheet_spec.specs.Constants.{half}
-use Rattle.worksheet_spec.specs.Lines.{value, zero}
+use Rattle.worksheet_spec.specs.Lines.{value, isZeroPattern}
 use Rattle.worksheet_spec.specs.Sheets.{recomposedFinished, halvedSum, overflows, sumInOrder, swaps, sumSheet}
 use Rattle.worksheet_spec.proofs.Patterns.{add-width, sub-width}
 use Rattle.worksheet_spec.proofs.Constants.{half-value}
@@ -57,7 +57,7 @@ module _ (x y : ℕ) where
   -- only where a is infinite the edge is asked for
   pub no-edge : isInfinite (value a) ≡ false → edge ≡ false
   unfolding overflows
-  no-edge h = ap (λ (i : Bool). not (zero (recomposedFinished a b .second)) && i) h ∙ never (not (zero (recomposedFinished a b .second)))
+  no-edge h = ap (λ (i : Bool). not (isZeroPattern (recomposedFinished a b .second)) && i) h ∙ never (not (isZeroPattern (recomposedFinished a b .second)))
     where
       never : (i : Bool) → i && false ≡ false
       never true = refl
@@ -82,7 +82,7 @@ module _ (x y : ℕ) where
   asks-edge s h =
       let n : isFinite (value a) ≡ false = ap isFinite h in
       let z = none-zero (value b) (b-none n) in
-      ap₂ (λ (i j : Bool). not i && j) (ap zero (recomposed-none a b n z .1) ∙ z) (ap isInfinite h)
+      ap₂ (λ (i j : Bool). not i && j) (ap isZeroPattern (recomposed-none a b n z .1) ∙ z) (ap isInfinite h)
 
   -- a is infinite
   pub infinite-foot : (v : Value) (s : Bool) → value a ≡ infinite s → Foots v (halvedSum x y a) → Foots v (sumInOrder x y)

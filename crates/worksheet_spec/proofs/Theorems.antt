@@ -13,7 +13,7 @@ use Rattle.rounding_spec.specs.Value.{Value, nan, infinite, finite, isNaN, isFi
 use Rattle.binary32_spec.specs.Steps.{addStep, mulStep}
 use Rattle.augmented_spec.specs.Direct.{sum, difference, product}
 use Rattle.worksheet_spec.specs.Constants.{psi, two, half, kappa, twoTo24, twoTo48, twoToMinus24, plusZero, smallest, twoTo127, twoTo102, twoToMinus102, twoToMinus126}
-use Rattle.worksheet_spec.specs.Lines.{mostLines, Step, add, subtract, multiply, fused, Line, line, value, minus, equal, zero}
+use Rattle.worksheet_spec.specs.Lines.{mostLines, Step, add, subtract, multiply, fused, Line, line, value, minus, equal, isZeroPattern}
 use Rattle.worksheet_spec.specs.Sheets.{sumInOrder, swaps, sumSheet, productSheet, sheetOf}
 use Rattle.worksheet_spec.specs.Theorems.{positivePattern, ConstantPatterns, StepNumbers, EachLine, Derived, FirstLine, stepsOf, recompositionSteps, finishStep, edgeSteps, openingSteps}
 use Rattle.worksheet_spec.specs.Theorems.{halvedSteps, sumSteps, tinySteps, middleSteps, ProductSteps, InOrder, LineCount, FootIsPair, SheetSizes, FillingRefused, SheetFilled, FilledPair}
@@ -86,7 +86,7 @@ ranged steps told e h = rw e h
 
 sum-range : (v : Value) (first second : ℕ) (steps : List Step) → steps ≡ sumSteps v first second → Range (length steps)
 sum-range nan first second steps h = ranged steps _ h (omega arith)
-sum-range (finite s m) first second steps h = by (zero second) h
+sum-range (finite s m) first second steps h = by (isZeroPattern second) h
   where
     by : (c : Bool) → steps ≡ openingSteps ++ cond c finishStep [] → Range (length steps)
     by true e = ranged steps _ e (omega arith)
@@ -109,7 +109,7 @@ product-range a (finite s m) first second steps h =
       | inl z ↦ ranged steps _ (h .0 z) (omega arith)
       | inr pos ↦ elim (decLe (2 ^ 24) m) [
         | no lo ↦ tiny (equal first a) (h .1 pos (omega arith))
-        | yes lo ↦ elim (decLe m (2 ^ 47)) [ yes hi ↦ middle (zero second) refl (h .2 lo hi) | no hi ↦ other (zero second) (h .3 (omega arith)) ]
+        | yes lo ↦ elim (decLe m (2 ^ 47)) [ yes hi ↦ middle (isZeroPattern second) refl (h .2 lo hi) | no hi ↦ other (isZeroPattern second) (h .3 (omega arith)) ]
       ]
     ]
   where
@@ -117,8 +117,8 @@ product-range a (finite s m) first second steps h =
     tiny true e = ranged steps _ e (omega arith)
     tiny false e = ranged steps _ e (omega arith)
 
-    middle : (c : Bool) → zero second ≡ c → (zero second ≡ true → steps ≡ multiply ∷ middleSteps ++ finishStep)
-        × (zero second ≡ false → (steps ≡ multiply ∷ middleSteps) ⊎ (steps ≡ multiply ∷ middleSteps ++ (subtract ∷ []))) → Range (length steps)
+    middle : (c : Bool) → isZeroPattern second ≡ c → (isZeroPattern second ≡ true → steps ≡ multiply ∷ middleSteps ++ finishStep)
+        × (isZeroPattern second ≡ false → (steps ≡ multiply ∷ middleSteps) ⊎ (steps ≡ multiply ∷ middleSteps ++ (subtract ∷ []))) → Range (length steps)
     middle true e k = ranged steps _ (k .0 e) (omega arith)
     middle false e k = elim (k .1 e) [ inl o ↦ ranged steps _ o (omega arith) | inr o ↦ ranged steps _ o (omega arith) ]
 

@@ -82,5 +82,5 @@ abbrev pub equal : ℕ → ℕ → Bool
 equal x y = same (value x) (value y)
 
 -- +0 or -0
-abbrev pub zero : ℕ → Bool
-zero x = isZero (value x)
+abbrev pub isZeroPattern : ℕ → Bool
+isZeroPattern x = isZero (value x)

@@ -13,7 +13,7 @@ use Rattle.worksheet_spec.specs.Constants.{psi, two, minusTwo, half, kap
 use Rattle.worksheet_spec.specs.Constants.{twoTo127, twoTo102, twoToMinus102, twoToMinus126}
 use Rattle.worksheet_spec.specs.Lines.{add, subtract, multiply, Line, line, fusedLine, Sheet, before, ends}
 use Rattle.pattern_spec.specs.Classes.{copySign}
-use Rattle.worksheet_spec.specs.Lines.{value, minus, equal, zero}
+use Rattle.worksheet_spec.specs.Lines.{value, minus, equal, isZeroPattern}
 
 -- recomposition (R5.5): three lines
 unfoldable pub recomposition : ℕ → ℕ → Sheet
@@ -28,7 +28,7 @@ recomposition a b =
 unfoldable pub zeroFinish : ℕ → ℕ → Sheet
 zeroFinish first second =
     let nought = mulStep plusZero first in
-    cond (zero second) (before (line multiply plusZero first nought ∷ []) (ends first nought)) (ends first second)
+    cond (isZeroPattern second) (before (line multiply plusZero first nought ∷ []) (ends first nought)) (ends first second)
 
 -- recomposition and zero finish, as they follow each other in R5.10 and R5.19
 unfoldable pub recomposedFinished : ℕ → ℕ → Sheet
@@ -61,7 +61,7 @@ halvedSum x y a =
 
 -- where it is made (R5.11): a is infinite and second not zero; a NaN is not zero, so that an infinite operand leads here too
 unfoldable pub overflows : ℕ → ℕ → Bool
-overflows second a = not (zero second) && isInfinite (value a)
+overflows second a = not (isZeroPattern second) && isInfinite (value a)
 
 -- a sum and its error, recomposition and zero finish (R5.10), and what may follow (R5.11)
 unfoldable pub sumInOrder : ℕ → ℕ → Sheet
@@ -123,7 +123,7 @@ tinyProduct x y a =
 
 -- where a middle product's second is lowered (R5.18)
 unfoldable pub restTie : ℕ → ℕ → Bool
-restTie β r = not (zero β) && equal r (copySign twoToMinus126 β)
+restTie β r = not (isZeroPattern β) && equal r (copySign twoToMinus126 β)
 
 -- its last lines (R5.17) and its end (R5.18)
 unfoldable pub scaledDown : ℕ → ℕ → Sheet

@@ -14,7 +14,7 @@ use Rattle.errorfree_spec.specs.Comparisons.{lessMagnitude}
 use Rattle.worksheet_spec.specs.Constants.{psi, two, minusTwo, half, kappa, twoTo24, twoTo48, twoToMinus24, plusZero, smallest}
 use Rattle.worksheet_spec.specs.Constants.{twoTo127, twoTo102, twoToMinus102, twoToMinus126}
 use Rattle.worksheet_spec.specs.Lines.{lineSize, mostLines, sheetSize, Step, add, subtract, multiply, fused, stepNumber}
-use Rattle.worksheet_spec.specs.Lines.{Line, line, Gives, value, minus, equal, zero}
+use Rattle.worksheet_spec.specs.Lines.{Line, line, Gives, value, minus, equal, isZeroPattern}
 use Rattle.worksheet_spec.specs.Sheets.{sheetOf}
 use Rattle.worksheet_spec.specs.Filling.{filled, filling, afterFilling, HasDirectPair}
 
@@ -116,7 +116,7 @@ halvedSteps = multiply ∷ multiply ∷ add ∷ subtract ∷ subtract ∷ []
 -- of a sum, by the value of a and the foot's halves: 6 or 7 lines, 6 where a is NaN, 11 or 13 where it is infinite
 abbrev pub sumSteps : Value → ℕ → ℕ → List Step
 sumSteps nan first second = openingSteps
-sumSteps (finite s m) first second = openingSteps ++ cond (zero second) finishStep []
+sumSteps (finite s m) first second = openingSteps ++ cond (isZeroPattern second) finishStep []
 sumSteps (infinite s) first second = openingSteps ++ halvedSteps ++ cond (isFinite (value first)) edgeSteps []
 
 -- of a tiny product (R5.15) and of a middle one (R5.17), behind the line of a
@@ -136,9 +136,9 @@ ProductSteps a (finite s m) first second steps =
     (m ≡ 0 → steps ≡ multiply ∷ [])
     × (0 < m → m < 2 ^ 24 → steps ≡ multiply ∷ tinySteps ++ cond (equal first a) finishStep (subtract ∷ finishStep))
     × (2 ^ 24 ≤ m → m ≤ 2 ^ 47
-    → (zero second ≡ true → steps ≡ multiply ∷ middleSteps ++ finishStep)
-    × (zero second ≡ false → (steps ≡ multiply ∷ middleSteps) ⊎ (steps ≡ multiply ∷ middleSteps ++ (subtract ∷ []))))
-    × (2 ^ 47 < m → steps ≡ multiply ∷ fused ∷ recompositionSteps ++ cond (zero second) finishStep [])
+    → (isZeroPattern second ≡ true → steps ≡ multiply ∷ middleSteps ++ finishStep)
+    × (isZeroPattern second ≡ false → (steps ≡ multiply ∷ middleSteps) ⊎ (steps ≡ multiply ∷ middleSteps ++ (subtract ∷ []))))
+    × (2 ^ 47 < m → steps ≡ multiply ∷ fused ∷ recompositionSteps ++ cond (isZeroPattern second) finishStep [])
 
 abbrev pub InOrder : Type 0
 InOrder =

@@ -41,7 +41,8 @@ pub fn ready(position: Position, room: usize, need: usize) -> bool
     goes_on(position)
 }
 
-fn goes_on(position: Position) -> bool
+// Whether the run goes on: it has not stopped, and its counts are such as a run can have.
+pub fn goes_on(position: Position) -> bool
     ensures { λ r. ⌜ r ≡ goesOn position ⌝ }
 {
     if position.stopped {

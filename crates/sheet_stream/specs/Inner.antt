@@ -1,12 +1,32 @@
--- What is taken of the bytes that a read gave: all of them, in order, each once. What the calls themselves read and wrote no contract says.
-use Prim.Native.Nat.{ℕ, _≤_}
+-- What is done with a read's answer and at the input's end (R9.1, R9.12). What the calls themselves read and wrote no contract says.
+use Prim.Native.Nat.{ℕ, zero, suc, _≤_}
 use mathlib.Core.Path.{_≡_}
-use mathlib.Core.Bool.{true}
+use mathlib.Core.Logic.{_⊎_}
+use mathlib.Core.Bool.{true, false, not}
 use mathlib.Core.List.{List}
+use lib.IntN.{ℤ, pos, negsuc}
+use lib.ListN.{take}
 use Rattle.transcript_spec.specs.Texts.{lineRoom}
 use Rattle.sheet_spec.specs.States.{State, takeBytes}
+use Rattle.sheet_spec.specs.Calls.{Ends}
 use Rattle.sheet_stream.specs.declared.Passed.{Passed}
+use Rattle.sheet_stream.specs.declared.Standing.{Standing}
 
--- all of the bytes, where no write failed and the buffer has room for a line's text
+-- all of the bytes are taken, in order, each once, where no write failed and the buffer has room for a line's text
 abbrev pub TakesAll : List ℕ → ℕ → State → Passed → State → Type 0
 TakesAll bytes room s r after = lineRoom ≤ room → r .whole ≡ true → after ≡ takeBytes s bytes
+
+-- From a read's answer to what is done next. Below 0 the read failed: nothing is taken, and neither a read nor the last lines follow. At 0
+-- the input has ended. Of any other number so many bytes are taken, and another read follows unless a write failed or the run has stopped.
+abbrev pub Follows : ℤ → List ℕ → ℕ → State → Standing → State → Type 0
+Follows (negsuc k) bytes room s r after = (r .whole ≡ false) × (r .more ≡ false) × (after ≡ s)
+Follows (pos zero) bytes room s r after = (r .whole ≡ true) × (r .more ≡ false) × (after ≡ s)
+Follows (pos (suc k)) bytes room s r after =
+    (r .whole ≡ false → r .more ≡ false)
+    × (r .whole ≡ true → r .more ≡ not (after .stopped))
+    × (lineRoom ≤ room → r .whole ≡ true → after ≡ takeBytes s (take (suc k) bytes))
+
+-- The last lines are printed where the input has ended, or the run has stopped, and every call has done its work; elsewhere nothing is.
+pub record Closes (h : Standing) (s : State) (out : List ℕ) (n : ℕ) (total' out' : List ℕ) : Type 0 where
+  pub ends : h .whole ≡ true → h .more ≡ false → Ends s out n total' out'
+  pub nothing : (h .whole ≡ false) ⊎ (h .more ≡ true) → (n ≡ 0) × (out' ≡ out) × (total' ≡ s .progress .total)

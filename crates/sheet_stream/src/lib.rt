@@ -1,12 +1,14 @@
 // Reads questions to the input's end and writes their model sheets. Of all crates only this one reads and writes; the text is sheet_feed's.
-// No contract can say what a call read or wrote; what is done with the bytes of a read, `take` says.
+// No contract can say what a call read or wrote. What is done next, `pass` says of a read's answer, and `closing` of the input's end.
+// A read or a write that fails is said on standard error, where it failed, and nothing more is printed (R9.12): a text without its last
+// lines is not taken for a whole one.
 use accumulator_spec::TOTAL_SIZE;
 use sheet_line::position;
 use sheet_spec::KEPT_BYTES;
 use sheet_spec::Position;
 ghost use lib.ListN.{length};
 ghost use Rattle.sheet_spec.specs.Positions.{stateOf};
-ghost use Rattle.sheet_stream.specs.Inner.{TakesAll};
+ghost use Rattle.sheet_stream.specs.Inner.{Closes, Follows, TakesAll};
 
 // A position, and whether every write on the way to it has done its work.
 pub struct Passed {
@@ -14,32 +16,76 @@ pub struct Passed {
     pub whole: bool,
 }
 
-// A loop that is proved has to end: this one counts down from a number of reads that no run uses up. After a read or a write that failed
-// nothing is closed: a text without its last lines is not taken for a whole one.
+// Where a run stands between two reads: its position, whether every call so far has done its work, and whether another read follows.
+pub struct Standing {
+    pub position: Position,
+    pub whole: bool,
+    pub more: bool,
+}
+
+// A loop that is proved has to end: this one counts down from a number of reads that no run uses up.
 pub fn run(input: i32, output: i32) {
     let mut bytes = io::large_buffer();
     let mut out = io::large_buffer();
     let mut line = [0u8; KEPT_BYTES];
     let mut total = [0u32; TOTAL_SIZE];
-    let mut here = position::begin();
+    let mut here = Standing {
+        position: position::begin(),
+        whole: true,
+        more: true,
+    };
     let mut reads = u64::MAX;
-    while reads > 0 && !here.stopped {
+    while reads > 0 && here.more {
         let got = libc::read(input, &mut bytes);
-        if got < 0 {
-            return;
-        }
-        if got == 0 {
-            break;
-        }
-        let n = io::count(got, &bytes);
-        let passed = take(output, &bytes[..n], here, &mut line, &mut total, &mut out);
-        if !passed.whole {
-            return;
-        }
-        here = passed.position;
+        here = pass(
+            got,
+            output,
+            &bytes,
+            here.position,
+            &mut line,
+            &mut total,
+            &mut out,
+        );
         reads -= 1;
     }
     close(output, here, &line, &mut total, &mut out);
+}
+
+// From what a read answered to what is done next: below 0 it failed, and 0 is the input's end.
+fn pass(
+    got: isize,
+    output: i32,
+    bytes: &[u8],
+    position: Position,
+    line: &mut [u8; KEPT_BYTES],
+    total: &mut [u32],
+    out: &mut [u8],
+) -> Standing
+    ensures { λ r. ⌜ Follows got (now (bytes .entry)) (length (now (out .entry)))
+        (stateOf position (now (line .entry)) (now (total .entry))) r (stateOf (r .position) (now (line .exit)) (now (total .exit))) ⌝ }
+{
+    if got < 0 {
+        say_unread();
+        return Standing {
+            position: position,
+            whole: false,
+            more: false,
+        };
+    }
+    if got == 0 {
+        return Standing {
+            position: position,
+            whole: true,
+            more: false,
+        };
+    }
+    let n = io::count(got, bytes);
+    let passed = take(output, &bytes[..n], position, line, total, out);
+    Standing {
+        position: passed.position,
+        whole: passed.whole,
+        more: passed.whole && position::goes_on(passed.position),
+    }
 }
 
 // Takes all the bytes. What they print is written whenever the buffer is full, and at the last byte. A write that fails ends the run at
@@ -62,7 +108,7 @@ fn take(
         let taken = fed.taken;
         let n = fed.written;
         here = fed.position;
-        if !io::write_all(output, &out[..n]) {
+        if !written(output, &out[..n]) {
             return Passed {
                 position: here,
                 whole: false,
@@ -84,11 +130,38 @@ fn take(
 
 fn close(
     output: i32,
-    position: Position,
+    standing: Standing,
     line: &[u8; KEPT_BYTES],
     total: &mut [u32],
     out: &mut [u8],
 ) {
-    let n = sheet_feed::finish(position, line, total, out);
-    io::write_all(output, &out[..n]);
+    let n = closing(standing, line, total, out);
+    written(output, &out[..n]);
+}
+
+// What is left to print: nothing where a call failed, and nothing before the input's end.
+fn closing(standing: Standing, line: &[u8; KEPT_BYTES], total: &mut [u32], out: &mut [u8]) -> usize
+    ensures { λ r. ⌜ Closes standing (stateOf (standing .position) (now (line .entry)) (now (total .entry))) (now (out .entry)) r
+        (now (total .exit)) (now (out .exit)) ⌝ }
+{
+    if standing.more {
+        return 0;
+    }
+    if !standing.whole {
+        return 0;
+    }
+    sheet_feed::finish(standing.position, line, total, out)
+}
+
+// Whether all of the text was written; where it was not, this is said.
+fn written(output: i32, text: &[u8]) -> bool {
+    if io::write_all(output, text) {
+        return true;
+    }
+    os::fail(b"sheet: the sheets cannot be written");
+    false
+}
+
+fn say_unread() {
+    os::fail(b"sheet: the questions cannot be read");
 }

@@ -1,21 +1,21 @@
 use mathlib.Core.Path.{sym}
 use lib.Seq.{length-take-le}
-use Rattle.sheet_stream.proofs.Within.{end-within}
+use Rattle.sheet_stream.proofs.Within.{closing-within}
 use borrow.Author.Needs.{needs}
 use Rattle.sheet_stream.proofs.close.Statement.{statement}
 use Rattle.sheet_stream.proofs.close.Tie as tie
 
-finish-requires : tie.Need-finish-requires
-finish-requires c κs = search needs
+closing-requires : tie.Need-closing-requires
+closing-requires c κs = search needs
 
-slice-reshare-prefix-write-all : tie.Need-slice-reshare-prefix-write-all
-slice-reshare-prefix-write-all c = let f = c .before .before .before .before .finish in end-within _ _ (f .kept .1 .1 .1 .0) _ _ _ (f .ensures)
+slice-reshare-prefix-written : tie.Need-slice-reshare-prefix-written
+slice-reshare-prefix-written c = let f = c .before .before .before .before .closing in closing-within _ _ (f .kept .1 .1 .1 .0) _ _ _ _ (f .ensures)
 
-slice-aggregate-write-all : tie.Need-slice-aggregate-write-all
-slice-aggregate-write-all c = let f = c .before .before .before .before .before .finish in sym (length-take-le _ _ (end-within _ _ (f .kept .1 .1 .1 .0) _ _ _ (f .ensures)))
+slice-aggregate-written : tie.Need-slice-aggregate-written
+slice-aggregate-written c = let f = c .before .before .before .before .before .closing in sym (length-take-le _ _ (closing-within _ _ (f .kept .1 .1 .1 .0) _ _ _ _ (f .ensures)))
 
-write-all-requires : tie.Need-write-all-requires
-write-all-requires c κs = search needs
+written-requires : tie.Need-written-requires
+written-requires c κs = search needs
 
 same-length : tie.Need-same-length
 same-length c = search needs
@@ -30,10 +30,10 @@ pub close-spec : {M : Type 1} → statement M
 close-spec =
     tie.close
     (tie.spec
-    finish-requires
-    slice-reshare-prefix-write-all
-    slice-aggregate-write-all
-    write-all-requires
+    closing-requires
+    slice-reshare-prefix-written
+    slice-aggregate-written
+    written-requires
     same-length
     same-length-2
     returns)

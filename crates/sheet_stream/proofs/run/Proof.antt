@@ -29,32 +29,17 @@ slice-aggregate-read c = search needs
 read-requires : tie.Need-read-requires Inv-loop μ-loop
 read-requires c κs = search needs
 
-returns : tie.Need-returns Inv-loop μ-loop
-returns c = search needs
+slice-aggregate-pass : tie.Need-slice-aggregate-pass Inv-loop μ-loop
+slice-aggregate-pass c = search needs
 
-slice-aggregate-count : tie.Need-slice-aggregate-count Inv-loop μ-loop
-slice-aggregate-count c = search needs
+slice-aggregate-pass-2 : tie.Need-slice-aggregate-pass-2 Inv-loop μ-loop
+slice-aggregate-pass-2 c = search needs
 
-count-requires : tie.Need-count-requires Inv-loop μ-loop
-count-requires c κs = search needs
+slice-aggregate-pass-3 : tie.Need-slice-aggregate-pass-3 Inv-loop μ-loop
+slice-aggregate-pass-3 c = search needs
 
-array-share-prefix-bytes : tie.Need-array-share-prefix-bytes Inv-loop μ-loop
-array-share-prefix-bytes c = search needs
-
-slice-aggregate-take : tie.Need-slice-aggregate-take Inv-loop μ-loop
-slice-aggregate-take c = search needs
-
-slice-aggregate-take-2 : tie.Need-slice-aggregate-take-2 Inv-loop μ-loop
-slice-aggregate-take-2 c = search needs
-
-slice-aggregate-take-3 : tie.Need-slice-aggregate-take-3 Inv-loop μ-loop
-slice-aggregate-take-3 c = search needs
-
-take-requires : tie.Need-take-requires Inv-loop μ-loop
-take-requires c κs = search needs
-
-returns-2 : tie.Need-returns-2 Inv-loop μ-loop
-returns-2 c = search needs
+pass-requires : tie.Need-pass-requires Inv-loop μ-loop
+pass-requires c κs = search needs
 
 sub-reads : tie.Need-sub-reads Inv-loop μ-loop
 sub-reads c = search needs
@@ -74,8 +59,8 @@ slice-aggregate-close-2 c = search needs
 close-requires : tie.Need-close-requires Inv-loop μ-loop
 close-requires c κs = search needs
 
-returns-3 : tie.Need-returns-3 Inv-loop μ-loop
-returns-3 c = search needs
+returns : tie.Need-returns Inv-loop μ-loop
+returns c = search needs
 
 pub run-spec : {M : Type 1} → statement M
 run-spec =
@@ -89,19 +74,14 @@ run-spec =
     loop-holds
     slice-aggregate-read
     read-requires
-    returns
-    slice-aggregate-count
-    count-requires
-    array-share-prefix-bytes
-    slice-aggregate-take
-    slice-aggregate-take-2
-    slice-aggregate-take-3
-    take-requires
-    returns-2
+    slice-aggregate-pass
+    slice-aggregate-pass-2
+    slice-aggregate-pass-3
+    pass-requires
     sub-reads
     loop-less
     loop-again
     slice-aggregate-close
     slice-aggregate-close-2
     close-requires
-    returns-3)
+    returns)

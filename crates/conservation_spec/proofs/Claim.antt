@@ -40,7 +40,7 @@ at-most-one true sum = omega arith
 at-most-one true difference = omega arith
 at-most-one true product = omega arith
 
-entered : (es : List Event) → enteringSums es + enteringProducts es ≤ questions es
+pub entered : (es : List Event) → enteringSums es + enteringProducts es ≤ questions es
 unfolding enteringSums enteringProducts questions
 entered [] = omega arith
 entered (asks q ∷ es) = omega (arith, at-most-one (enters q) (operationFor q), entered es)

@@ -1,0 +1,90 @@
+-- Which lists are allowed, call by call.
+use mathlib.Core.Path.{_≡_, refl}
+use mathlib.Core.Logic.{_⊎_, _↔_, inl, inr}
+use mathlib.Core.Bool.{Bool, true, false, _&&_}
+use mathlib.Core.List.{List, [], _∷_, _++_}
+use Prim.Native.Nat.{ℕ, _^_, _<_}
+use Rattle.rounding_spec.specs.Format.{binary32}
+use Rattle.rounding_spec.specs.Value.{decode, isFinite}
+use Rattle.accumulator_spec.specs.Totals.{mostTerms, count, Term, ofPattern, ofProduct, finiteOperands}
+use Rattle.conservation_spec.specs.Lists.{Posed, Totals, Side, totalOn, Event, asks, reads, adds, afterEvent, afterEvents}
+use Rattle.conservation_spec.specs.Theorems.{AllowedNow, Allowed, AllowedNext}
+
+-- ---- one call
+pub asks-allowed : (t : Totals) (q : Posed) → AllowedNow t (asks q) ↔ ((q .x < 2 ^ 32) × (q .y < 2 ^ 32))
+asks-allowed t q = (λ h. h, λ h. h)
+
+pub reads-allowed : (t : Totals) (side : Side) → AllowedNow t (reads side)
+reads-allowed t side = tt
+
+pub adds-allowed : (t : Totals) (side : Side) (x : Term) → AllowedNow t (adds side x) ↔ ((finiteOperands x ≡ false) ⊎ (count (totalOn side t) ≡ mostTerms))
+adds-allowed t side x = (λ h. h, λ h. h)
+
+-- ---- lists in two parts
+pub allowed-first : (t : Totals) (e : Event) (es : List Event) → AllowedNow t e → Allowed (afterEvent t e) es → Allowed t (e ∷ es)
+unfolding Allowed
+allowed-first t e es h k = (h, k)
+
+pub allowed-parts : (t : Totals) (es fs : List Event) → Allowed t (es ++ fs) → Allowed t es × Allowed (afterEvents t es) fs
+unfolding Allowed afterEvents
+allowed-parts t [] fs h = (tt, h)
+allowed-parts t (e ∷ es) fs h = let k = allowed-parts (afterEvent t e) es fs (h .1) in ((h .0, k .0), k .1)
+
+pub allowed-join : (t : Totals) (es fs : List Event) → Allowed t es → Allowed (afterEvents t es) fs → Allowed t (es ++ fs)
+unfolding Allowed afterEvents
+allowed-join t [] fs h k = k
+allowed-join t (e ∷ es) fs h k = (h .0, allowed-join (afterEvent t e) es fs (h .1) k)
+
+-- the part before a call, and the call
+pub allowed-here : (t : Totals) (es fs : List Event) (e : Event) → Allowed t (es ++ (e ∷ fs)) → Allowed t es × AllowedNow (afterEvents t es) e
+unfolding Allowed
+allowed-here t es fs e h = let k = allowed-parts t es (e ∷ fs) h in (k .0, k .1 .0)
+
+-- one call more
+pub allowed-more : (t : Totals) (es : List Event) (e : Event) → Allowed t es → AllowedNow (afterEvents t es) e → Allowed t (es ++ (e ∷ []))
+unfolding Allowed
+allowed-more t es e h k = allowed-join t es (e ∷ []) h (k, tt)
+
+more-is : (t : Totals) (es : List Event) (e : Event) (C : Type 0) → AllowedNow (afterEvents t es) e ↔ C → Allowed t (es ++ (e ∷ [])) ↔ (Allowed t es × C)
+more-is t es e C i = (
+  λ h. let k = allowed-here t es [] e h in (k .0, i .0 (k .1)),
+  λ h. allowed-more t es e (h .0) (i .1 (h .1)),
+)
+
+-- ---- operands that are not finite
+either-special : (a b : Bool) → a && b ≡ false → (a ≡ false) ⊎ (b ≡ false)
+either-special true b e = inr e
+either-special false b e = inl refl
+
+special-left : (a b : Bool) → a ≡ false → a && b ≡ false
+special-left a b e = rw e
+
+special-right : (a b : Bool) → b ≡ false → a && b ≡ false
+special-right true b e = e
+special-right false b e = refl
+
+pub allowed-next : AllowedNext
+unfolding Allowed
+allowed-next t es = (
+  tt,
+  λ q. let i = more-is t es (asks q) _ (asks-allowed (afterEvents t es) q) in (λ h. let k = i .0 h in (k .0, k .1 .0, k .1 .1), λ h. i .1 (h .0, (h .1, h .2))),
+  λ side. (λ h. allowed-here t es [] (reads side) h .0, λ h. allowed-more t es (reads side) h (reads-allowed (afterEvents t es) side)),
+  λ side x. more-is t es (adds side (ofPattern x)) _ (adds-allowed (afterEvents t es) side (ofPattern x)),
+  λ side x y. more-is t es (adds side (ofProduct x y)) _ (
+    λ h. product-special x y (adds-allowed (afterEvents t es) side (ofProduct x y) .0 h),
+    λ h. adds-allowed (afterEvents t es) side (ofProduct x y) .1 (special-product x y h),
+  ),
+)
+  where
+    product-special : (x y : ℕ) {C : Type 0} → (finiteOperands (ofProduct x y) ≡ false) ⊎ C → (isFinite (decode binary32 x) ≡ false) ⊎ (isFinite (decode binary32 y) ≡ false) ⊎ C
+    product-special x y (inr c) = inr (inr c)
+    product-special x y (inl e) = go (either-special (isFinite (decode binary32 x)) (isFinite (decode binary32 y)) e)
+      where
+        go : {C : Type 0} → (isFinite (decode binary32 x) ≡ false) ⊎ (isFinite (decode binary32 y) ≡ false) → (isFinite (decode binary32 x) ≡ false) ⊎ (isFinite (decode binary32 y) ≡ false) ⊎ C
+        go (inl h) = inl h
+        go (inr h) = inr (inl h)
+
+    special-product : (x y : ℕ) {C : Type 0} → (isFinite (decode binary32 x) ≡ false) ⊎ (isFinite (decode binary32 y) ≡ false) ⊎ C → (finiteOperands (ofProduct x y) ≡ false) ⊎ C
+    special-product x y (inl h) = inl (special-left (isFinite (decode binary32 x)) (isFinite (decode binary32 y)) h)
+    special-product x y (inr (inl h)) = inl (special-right (isFinite (decode binary32 x)) (isFinite (decode binary32 y)) h)
+    special-product x y (inr (inr c)) = inr c

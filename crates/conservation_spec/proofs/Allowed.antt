@@ -11,14 +11,20 @@ use Rattle.conservation_spec.specs.Lists.{Posed, Totals, Side, totalOn, 
 use Rattle.conservation_spec.specs.Theorems.{AllowedNow, Allowed, AllowedNext}
 
 -- ---- one call
-pub asks-allowed : (t : Totals) (q : Posed) → AllowedNow t (asks q) ↔ ((q .x < 2 ^ 32) × (q .y < 2 ^ 32))
-asks-allowed t q = (λ h. h, λ h. h)
+pub asks-allowed : (t : Totals) (q : Posed) → (q .x < 2 ^ 32) × (q .y < 2 ^ 32) → AllowedNow t (asks q)
+asks-allowed t q h = h
+
+pub asks-only : (t : Totals) (q : Posed) → AllowedNow t (asks q) → (q .x < 2 ^ 32) × (q .y < 2 ^ 32)
+asks-only t q h = h
 
 pub reads-allowed : (t : Totals) (side : Side) → AllowedNow t (reads side)
 reads-allowed t side = tt
 
-pub adds-allowed : (t : Totals) (side : Side) (x : Term) → AllowedNow t (adds side x) ↔ ((finiteOperands x ≡ false) ⊎ (count (totalOn side t) ≡ mostTerms))
-adds-allowed t side x = (λ h. h, λ h. h)
+pub adds-allowed : (t : Totals) (side : Side) (x : Term) → (finiteOperands x ≡ false) ⊎ (count (totalOn side t) ≡ mostTerms) → AllowedNow t (adds side x)
+adds-allowed t side x h = h
+
+pub adds-only : (t : Totals) (side : Side) (x : Term) → AllowedNow t (adds side x) → (finiteOperands x ≡ false) ⊎ (count (totalOn side t) ≡ mostTerms)
+adds-only t side x h = h
 
 -- ---- lists in two parts
 pub allowed-first : (t : Totals) (e : Event) (es : List Event) → AllowedNow t e → Allowed (afterEvent t e) es → Allowed t (e ∷ es)
@@ -67,12 +73,12 @@ pub allowed-next : AllowedNext
 unfolding Allowed
 allowed-next t es = (
   tt,
-  λ q. let i = more-is t es (asks q) _ (asks-allowed (afterEvents t es) q) in (λ h. let k = i .0 h in (k .0, k .1 .0, k .1 .1), λ h. i .1 (h .0, (h .1, h .2))),
+  λ q. let i = more-is t es (asks q) _ (asks-only (afterEvents t es) q, asks-allowed (afterEvents t es) q) in (λ h. let k = i .0 h in (k .0, k .1 .0, k .1 .1), λ h. i .1 (h .0, (h .1, h .2))),
   λ side. (λ h. allowed-here t es [] (reads side) h .0, λ h. allowed-more t es (reads side) h (reads-allowed (afterEvents t es) side)),
-  λ side x. more-is t es (adds side (ofPattern x)) _ (adds-allowed (afterEvents t es) side (ofPattern x)),
+  λ side x. more-is t es (adds side (ofPattern x)) _ (adds-only (afterEvents t es) side (ofPattern x), adds-allowed (afterEvents t es) side (ofPattern x)),
   λ side x y. more-is t es (adds side (ofProduct x y)) _ (
-    λ h. product-special x y (adds-allowed (afterEvents t es) side (ofProduct x y) .0 h),
-    λ h. adds-allowed (afterEvents t es) side (ofProduct x y) .1 (special-product x y h),
+    λ h. product-special x y (adds-only (afterEvents t es) side (ofProduct x y) h),
+    λ h. adds-allowed (afterEvents t es) side (ofProduct x y) (special-product x y h),
   ),
 )
   where

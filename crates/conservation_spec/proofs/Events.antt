@@ -7,7 +7,7 @@ use native.Mathlib.Omega.{arith}
 use lib.ListN.{length, drop, getD, drop-of-length-le}
 use lib.Seq.{drop-cons}
 use Rattle.accumulator_spec.specs.Words.{Words}
-use Rattle.conservation_spec.specs.Lists.{Posed, Totals, afterQuestion, afterEvents, questions}
+use Rattle.conservation_spec.specs.Lists.{Totals, afterQuestion, afterEvents, questions}
 use Rattle.conservation_spec.specs.Replay.{Asking, Lent, Entry, entries, posedOn, wordsAfter, eventsOf, wordsAfterAll, afterAsking}
 use Rattle.conservation_spec.specs.Inner.{Settles}
 use Rattle.conservation_spec.specs.Theorems.{Allowed}
@@ -34,7 +34,7 @@ allowed-of (o ∷ os) [] ys counts words t v w = tt
 allowed-of (o ∷ os) (x ∷ xs) [] counts words t v w = tt
 allowed-of (o ∷ os) (x ∷ xs) (y ∷ ys) [] words t v w = tt
 allowed-of (o ∷ os) (x ∷ xs) (y ∷ ys) (n ∷ counts) words t v w =
-    (asks-allowed t (posedOn words (record { operation = o; x = x; y = y; count = n })) .1 (v 0, w 0), allowed-of os xs ys counts _ _ (rest-words x xs v) (rest-words y ys w))
+    (asks-allowed t (posedOn words (record { operation = o; x = x; y = y; count = n })) (v 0, w 0), allowed-of os xs ys counts _ _ (rest-words x xs v) (rest-words y ys w))
 
 -- ---- what is left to ask from the ith question on
 module _ (q : Asking) (i : ℕ) where

@@ -1,28 +1,26 @@
 -- When a total is full, where an addition that answers 8 can stand, and that it does stand there.
 use mathlib.Core.Path.{_≡_, refl, sym, ap, _∙_}
 use mathlib.Core.Logic.{_⊎_, _↔_, inl, inr}
-use mathlib.Core.Bool.{true≢false, Bool, true, false}
+use mathlib.Core.Bool.{true≢false, true, false}
 use mathlib.Core.List.{List, [], _∷_, _++_}
-use Prim.Native.Nat.{ℕ, zero, suc, _+_, _*_, _^_, _≤_, _<_}
+use Prim.Native.Nat.{ℕ, zero, suc, _+_, _*_, _≤_, _<_}
 use native.Mathlib.Nat.{le-trans, le-of-eq}
 use native.Mathlib.Omega.{arith}
 use lib.Dec.{lit<, lit≤}
 use lib.Ieee.{size}
 use lib.ListN.{length, replicate}
 use Rattle.pattern_spec.specs.Answer.{refused}
-use Rattle.rounding_spec.specs.Format.{binary32}
 use Rattle.rounding_spec.specs.Round.{keep, lastPlace}
 use Rattle.rounding_spec.specs.Value.{decode}
 use Rattle.pattern_spec.specs.Exact.{times}
-use Rattle.augmented_spec.specs.declared.Pair.{Pair}
-use Rattle.augmented_spec.specs.Direct.{Operation, sum, difference, product, directPair, none}
+use Rattle.augmented_spec.specs.Direct.{product, directPair}
 use Rattle.worksheet_spec.specs.Lines.{sheetSize}
 use Rattle.accumulator_spec.specs.Totals.{totalSize, mostTerms, count, Term, finiteOperands, adding}
-use Rattle.conservation_spec.specs.Lists.{mostQuestions, Posed, enters, Totals, Side, onFirst, onOther, totalOn}
+use Rattle.conservation_spec.specs.Lists.{mostQuestions, enters, Totals, Side, onFirst, onOther, totalOn}
 use Rattle.conservation_spec.specs.Lists.{Event, asks, reads, adds, afterEvent, afterEvents, questions, enteringSums, enteringProducts}
 use Rattle.conservation_spec.specs.Claim.{BothHold, Met}
 use Rattle.conservation_spec.specs.Theorems.{Allowed, cleared, FullWhen, EightLast, withOtherCalls, ones, OnesEnter, EightReached}
-use Rattle.conservation_spec.proofs.Allowed.{asks-allowed, adds-allowed, allowed-first, allowed-here, allowed-join, allowed-more}
+use Rattle.conservation_spec.proofs.Allowed.{asks-allowed, adds-allowed, adds-only, allowed-here, allowed-join, allowed-more}
 use Rattle.conservation_spec.proofs.Claim.{conserved, enters-exactly, entered}
 use Rattle.conservation_spec.proofs.Others.{met-each}
 
@@ -87,7 +85,7 @@ eight-last a b before after side x la lb few w f =
     let t = cleared a b in
     let n = questions-join before (adds side x ∷ after) in
     let h = allowed-here t before after (adds side x) w in
-    let c = count-full (totalOn side (afterEvents t before)) x (adds-allowed (afterEvents t before) side x .0 (h .1)) f in
+    let c = count-full (totalOn side (afterEvents t before)) x (adds-only (afterEvents t before) side x (h .1)) f in
     let r = filled a b la lb side before (omega (arith, n)) (h .0) c in
     let m = met-each t before after (adds side x) (conserved a b (before ++ (adds side x ∷ after)) la lb few w .1) in
     let e = entered before in
@@ -131,7 +129,7 @@ module _ (words : List ℕ) (long : sheetSize ≤ length words) where
   repeated-allowed : (n : ℕ) (t : Totals) → Allowed t (repeated n)
   unfolding Allowed
   repeated-allowed zero t = tt
-  repeated-allowed (suc n) t = (asks-allowed t (ones 1 words) .1 (lit< tt, lit< tt), repeated-allowed n _)
+  repeated-allowed (suc n) t = (asks-allowed t (ones 1 words) (lit< tt, lit< tt), repeated-allowed n _)
 
   module _ (a b : List ℕ) (x : Term) (la : length a ≡ totalSize) (lb : length b ≡ totalSize) (f : finiteOperands x ≡ true) (n : ℕ) (most : n ≡ mostQuestions) where
     few : questions (repeated n) ≤ mostQuestions
@@ -148,7 +146,7 @@ module _ (words : List ℕ) (long : sheetSize ≤ length words) where
     one-more side =
         let t = cleared a b in
         let es = repeated n in
-        let w = allowed-more t es (adds side x) (repeated-allowed n t) (adds-allowed (afterEvents t es) side x .1 (inr (both-full side))) in
+        let w = allowed-more t es (adds side x) (repeated-allowed n t) (adds-allowed (afterEvents t es) side x (inr (both-full side))) in
         eight-last a b es [] side x la lb (le-trans (le-of-eq (questions-join es (adds side x ∷ []))) (omega (arith, few))) w f .0
 
     two-more : let t = cleared a b in let es = repeated n ++ (adds onFirst x ∷ adds onOther x ∷ []) in
@@ -159,8 +157,8 @@ module _ (words : List ℕ) (long : sheetSize ≤ length words) where
         let es = repeated n in
         let fs = adds onFirst x ∷ adds onOther x ∷ [] in
         let u = afterEvents t es in
-        let first = adds-allowed u onFirst x .1 (inr (both-full onFirst)) in
-        let other = adds-allowed (afterEvent u (adds onFirst x)) onOther x .1 (inr (both-full onOther)) in
+        let first = adds-allowed u onFirst x (inr (both-full onFirst)) in
+        let other = adds-allowed (afterEvent u (adds onFirst x)) onOther x (inr (both-full onOther)) in
         let w = allowed-join t es fs (repeated-allowed n t) (first, (other, tt)) in
         let q : questions (es ++ fs) ≡ mostQuestions = questions-join es fs ∙ omega (arith, repeated-questions n, most) in
         let k = conserved a b (es ++ fs) la lb (le-of-eq q) w in

@@ -3,12 +3,12 @@ use mathlib.Core.Path.{_≡_, refl, sym, ap, ap₂, _∙_, subst}
 use mathlib.Core.Logic.{inl}
 use mathlib.Core.Bool.{false, cond}
 use mathlib.Core.List.{List, [], _∷_, _++_, map}
-use Prim.Native.Nat.{ℕ, suc, _+_, _*_, _≤_}
+use Prim.Native.Nat.{ℕ, suc, _+_}
 use native.Mathlib.Nat.{le-trans, le-of-eq}
 use lib.IntN.{ℤ, pos, _+ℤ_}
 use lib.ListN.{length}
 use Rattle.rounding_spec.specs.Value.{decode}
-use Rattle.accumulator_spec.specs.Totals.{totalOf, Term, ofPattern, ofProduct, finiteOperands}
+use Rattle.accumulator_spec.specs.Totals.{Term, ofPattern, ofProduct, finiteOperands}
 use Rattle.conservation_spec.specs.Lists.{Posed, operationFor, enters, exactOfPatterns, oneSum, oneProduct, Totals, Side, onFirst, onOther}
 use Rattle.conservation_spec.specs.Lists.{Event, asks, reads, adds, afterEvent, afterEvents, book, questions, enteringSums, enteringProducts}
 use Rattle.conservation_spec.specs.Claim.{BothHold, Met}
@@ -47,7 +47,7 @@ reading-anywhere : (side : Side) (es : List Event) → Anywhere es → Anywhere 
 reading-anywhere side es h t = allowed-first t (reads side) es (reads-allowed t side) (h t)
 
 adding-anywhere : (side : Side) (x : Term) (es : List Event) → finiteOperands x ≡ false → Anywhere es → Anywhere (adds side x ∷ es)
-adding-anywhere side x es e h t = allowed-first t (adds side x) es (adds-allowed t side x .1 (inl e)) (h (afterEvent t (adds side x)))
+adding-anywhere side x es e h t = allowed-first t (adds side x) es (adds-allowed t side x (inl e)) (h (afterEvent t (adds side x)))
 
 calls-anywhere : (es : List Event) → Anywhere es → Anywhere (otherCalls ++ es)
 calls-anywhere es h =
@@ -61,12 +61,12 @@ calls-anywhere es h =
 among-allowed : (qs : List Posed) → OnPatterns qs → Anywhere (withOtherCalls qs)
 unfolding Allowed withOtherCalls OnPatterns
 among-allowed [] w = calls-anywhere [] (λ t. tt)
-among-allowed (q ∷ qs) w = calls-anywhere (asks q ∷ withOtherCalls qs) (λ t. (asks-allowed t q .1 (w .0, w .1), among-allowed qs (w .2) (afterEvent t (asks q))))
+among-allowed (q ∷ qs) w = calls-anywhere (asks q ∷ withOtherCalls qs) (λ t. (asks-allowed t q (w .0, w .1), among-allowed qs (w .2) (afterEvent t (asks q))))
 
 alone-allowed : (qs : List Posed) → OnPatterns qs → Anywhere (map asks qs)
 unfolding Allowed OnPatterns
 alone-allowed [] w t = tt
-alone-allowed (q ∷ qs) w t = (asks-allowed t q .1 (w .0, w .1), alone-allowed qs (w .2) (afterEvent t (asks q)))
+alone-allowed (q ∷ qs) w t = (asks-allowed t q (w .0, w .1), alone-allowed qs (w .2) (afterEvent t (asks q)))
 
 -- ---- they count for nothing
 among-questions : (qs : List Posed) → questions (withOtherCalls qs) ≡ length qs

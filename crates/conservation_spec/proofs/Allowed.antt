@@ -3,9 +3,7 @@ use mathlib.Core.Path.{_≡_, refl}
 use mathlib.Core.Logic.{_⊎_, _↔_, inl, inr}
 use mathlib.Core.Bool.{Bool, true, false, _&&_}
 use mathlib.Core.List.{List, [], _∷_, _++_}
-use Prim.Native.Nat.{ℕ, _^_, _<_}
-use Rattle.rounding_spec.specs.Format.{binary32}
-use Rattle.rounding_spec.specs.Value.{decode, isFinite}
+use Prim.Native.Nat.{_^_, _<_}
 use Rattle.accumulator_spec.specs.Totals.{mostTerms, count, Term, ofPattern, ofProduct, finiteOperands}
 use Rattle.conservation_spec.specs.Lists.{Posed, Totals, Side, totalOn, Event, asks, reads, adds, afterEvent, afterEvents}
 use Rattle.conservation_spec.specs.Theorems.{AllowedNow, Allowed, AllowedNext}
@@ -57,17 +55,18 @@ more-is t es e C i = (
   λ h. allowed-more t es e (h .0) (i .1 (h .1)),
 )
 
--- ---- operands that are not finite
-either-special : (a b : Bool) → a && b ≡ false → (a ≡ false) ⊎ (b ≡ false)
-either-special true b e = inr e
-either-special false b e = inl refl
+-- ---- a product has an operand that is not finite where either factor is not
+module _ {C : Type 0} where
+  either-special : (a b : Bool) → (a && b ≡ false) ⊎ C → (a ≡ false) ⊎ (b ≡ false) ⊎ C
+  either-special true b (inl e) = inr (inl e)
+  either-special false b (inl e) = inl refl
+  either-special a b (inr c) = inr (inr c)
 
-special-left : (a b : Bool) → a ≡ false → a && b ≡ false
-special-left a b e = rw e
-
-special-right : (a b : Bool) → b ≡ false → a && b ≡ false
-special-right true b e = e
-special-right false b e = refl
+  special-either : (a b : Bool) → (a ≡ false) ⊎ (b ≡ false) ⊎ C → (a && b ≡ false) ⊎ C
+  special-either a b (inl e) = inl (rw e)
+  special-either true b (inr (inl e)) = inl e
+  special-either false b (inr (inl e)) = inl refl
+  special-either a b (inr (inr c)) = inr c
 
 pub allowed-next : AllowedNext
 unfolding Allowed
@@ -77,20 +76,7 @@ allowed-next t es = (
   λ side. (λ h. allowed-here t es [] (reads side) h .0, λ h. allowed-more t es (reads side) h (reads-allowed (afterEvents t es) side)),
   λ side x. more-is t es (adds side (ofPattern x)) _ (adds-only (afterEvents t es) side (ofPattern x), adds-allowed (afterEvents t es) side (ofPattern x)),
   λ side x y. more-is t es (adds side (ofProduct x y)) _ (
-    λ h. product-special x y (adds-only (afterEvents t es) side (ofProduct x y) h),
-    λ h. adds-allowed (afterEvents t es) side (ofProduct x y) (special-product x y h),
+    λ h. either-special _ _ (adds-only (afterEvents t es) side (ofProduct x y) h),
+    λ h. adds-allowed (afterEvents t es) side (ofProduct x y) (special-either _ _ h),
   ),
 )
-  where
-    product-special : (x y : ℕ) {C : Type 0} → (finiteOperands (ofProduct x y) ≡ false) ⊎ C → (isFinite (decode binary32 x) ≡ false) ⊎ (isFinite (decode binary32 y) ≡ false) ⊎ C
-    product-special x y (inr c) = inr (inr c)
-    product-special x y (inl e) = go (either-special (isFinite (decode binary32 x)) (isFinite (decode binary32 y)) e)
-      where
-        go : {C : Type 0} → (isFinite (decode binary32 x) ≡ false) ⊎ (isFinite (decode binary32 y) ≡ false) → (isFinite (decode binary32 x) ≡ false) ⊎ (isFinite (decode binary32 y) ≡ false) ⊎ C
-        go (inl h) = inl h
-        go (inr h) = inr (inl h)
-
-    special-product : (x y : ℕ) {C : Type 0} → (isFinite (decode binary32 x) ≡ false) ⊎ (isFinite (decode binary32 y) ≡ false) ⊎ C → (finiteOperands (ofProduct x y) ≡ false) ⊎ C
-    special-product x y (inl h) = inl (special-left (isFinite (decode binary32 x)) (isFinite (decode binary32 y)) h)
-    special-product x y (inr (inl h)) = inl (special-right (isFinite (decode binary32 x)) (isFinite (decode binary32 y)) h)
-    special-product x y (inr (inr c)) = inr c

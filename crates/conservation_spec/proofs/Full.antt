@@ -3,7 +3,7 @@ use mathlib.Core.Path.{_≡_, refl, sym, ap, _∙_}
 use mathlib.Core.Logic.{_⊎_, _↔_, inl, inr}
 use mathlib.Core.Bool.{true≢false, true, false}
 use mathlib.Core.List.{List, [], _∷_, _++_}
-use Prim.Native.Nat.{ℕ, zero, suc, _+_, _*_, _≤_, _<_}
+use Prim.Native.Nat.{ℕ, zero, suc, _+_, _*_, _≤_}
 use native.Mathlib.Nat.{le-trans, le-of-eq}
 use native.Mathlib.Omega.{arith}
 use lib.Dec.{lit<, lit≤}
@@ -13,7 +13,7 @@ use Rattle.pattern_spec.specs.Answer.{refused}
 use Rattle.rounding_spec.specs.Round.{keep, lastPlace}
 use Rattle.rounding_spec.specs.Value.{decode}
 use Rattle.pattern_spec.specs.Exact.{times}
-use Rattle.augmented_spec.specs.Direct.{product, directPair}
+use Rattle.augmented_spec.specs.Direct.{directPair}
 use Rattle.worksheet_spec.specs.Lines.{sheetSize}
 use Rattle.accumulator_spec.specs.Totals.{totalSize, mostTerms, count, Term, finiteOperands, adding}
 use Rattle.conservation_spec.specs.Lists.{mostQuestions, enters, Totals, Side, onFirst, onOther, totalOn}

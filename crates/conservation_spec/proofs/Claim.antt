@@ -1,6 +1,6 @@
 -- The claim about every list, and that a question enters exactly under its three conditions.
 use mathlib.Core.Path.{_≡_, refl, sym, ap, ap₂, _∙_, subst}
-use mathlib.Core.Bool.{true≢false, Bool, true, false, not, cond, _&&_}
+use mathlib.Core.Bool.{true≢false, Bool, true, false, not, cond}
 use mathlib.Core.List.{List, [], _∷_}
 use Prim.Native.Nat.{ℕ, _+_, _*_, _^_, _≤_}
 use native.Mathlib.Nat.{zero-add, le-trans, le-of-eq, le-refl}
@@ -40,7 +40,7 @@ at-most-one true sum = omega arith
 at-most-one true difference = omega arith
 at-most-one true product = omega arith
 
-entered : (es : List Event) → enteringSums es + enteringProducts es ≤ questions es
+pub entered : (es : List Event) → enteringSums es + enteringProducts es ≤ questions es
 unfolding enteringSums enteringProducts questions
 entered [] = omega arith
 entered (asks q ∷ es) = omega (arith, at-most-one (enters q) (operationFor q), entered es)

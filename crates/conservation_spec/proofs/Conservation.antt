@@ -20,6 +20,7 @@ use Rattle.conservation_spec.specs.Lists.{book, questions, oneSum, onePr
 use Rattle.conservation_spec.specs.Claim.{MetNow, Met}
 use Rattle.conservation_spec.specs.Theorems.{AllowedNow, Allowed}
 use Rattle.conservation_spec.proofs.Entering.{entering}
+use Rattle.conservation_spec.proofs.Allowed.{asks-only, adds-only}
 
 -- two totals that hold z, with m and n terms
 abbrev pub holding : ℤ → ℕ → ℕ → Totals
@@ -121,11 +122,11 @@ module _ (z : ℤ) (m n : ℕ) (es : List Event) (few : m ≤ mostTerms) (few' :
   adding-step : (side : Side) (x : Term) → AllowedNow (holding z m n) (adds side x) → Step z (pos 0) m n 0 0 (adds side x) es
   unfolding book enteringSums enteringProducts
   adding-step onFirst x h =
-      let r = refused-call (totalOf z m) x (total-fit z m few small) h in
+      let r = refused-call (totalOf z m) x (total-fit z m few small) (adds-only (holding z m n) onFirst x h) in
       let u = ap {B = Totals} (λ (t : List ℕ). record { first = t; other = totalOf z n }) (r .unchanged) in
       idle z m n (adds onFirst x) es small small' u (r .special, r .full, u) (sym (+ℤ-idl (book es))) refl refl
   adding-step onOther x h =
-      let r = refused-call (totalOf z n) x (total-fit z n few' small') h in
+      let r = refused-call (totalOf z n) x (total-fit z n few' small') (adds-only (holding z m n) onOther x h) in
       let u = ap {B = Totals} (λ (t : List ℕ). record { first = totalOf z m; other = t }) (r .unchanged) in
       idle z m n (adds onOther x) es small small' u (r .special, r .full, u) (sym (+ℤ-idl (book es))) refl refl
 
@@ -195,7 +196,7 @@ kept (adds side x ∷ es) z m n k a b c s s' h =
     joined z (pos 0) m n 0 0 (adds side x) es t (kept es (z +ℤ pos 0) (m + 0) (n + 0) k (omega arith) (omega arith) c (t .firstRoom) (t .otherRoom)
     (subst (λ (v : Totals). Allowed v es) (t .leaves) (h .1)))
 kept (asks q ∷ es) z m n k a b c s s' h =
-    let t = question-step z m n es (omega arith) (omega arith) s s' q (h .0 .1) (omega arith) (omega arith) in
+    let t = question-step z m n es (omega arith) (omega arith) s s' q (asks-only (holding z m n) q (h .0) .1) (omega arith) (omega arith) in
     joined z (t .amount) m n (t .more) (t .more') (asks q) es (t .step)
     (kept es (z +ℤ t .amount) (m + t .more) (n + t .more') (suc k) (omega (arith, t .most)) (omega (arith, t .most')) (omega arith) (t .step .firstRoom) (t .step .otherRoom)
     (subst (λ (v : Totals). Allowed v es) (t .step .leaves) (h .1)))

@@ -7,10 +7,11 @@ use native.Mathlib.Omega.{arith}
 use lib.ListN.{length, drop, getD, drop-of-length-le}
 use lib.Seq.{drop-cons}
 use Rattle.accumulator_spec.specs.Words.{Words}
-use Rattle.conservation_spec.specs.Lists.{Posed, Totals, afterQuestion, afterEvents, questions}
+use Rattle.conservation_spec.specs.Lists.{Totals, afterQuestion, afterEvents, questions}
 use Rattle.conservation_spec.specs.Replay.{Asking, Lent, Entry, entries, posedOn, wordsAfter, eventsOf, wordsAfterAll, afterAsking}
 use Rattle.conservation_spec.specs.Inner.{Settles}
 use Rattle.conservation_spec.specs.Theorems.{Allowed}
+use Rattle.conservation_spec.proofs.Allowed.{asks-allowed}
 
 -- ---- as many questions as operation numbers
 pub questions-of : (os xs ys counts words : List ℕ) → length xs ≡ length os → length ys ≡ length os → length counts ≡ length os
@@ -32,7 +33,8 @@ allowed-of [] xs ys counts words t v w = tt
 allowed-of (o ∷ os) [] ys counts words t v w = tt
 allowed-of (o ∷ os) (x ∷ xs) [] counts words t v w = tt
 allowed-of (o ∷ os) (x ∷ xs) (y ∷ ys) [] words t v w = tt
-allowed-of (o ∷ os) (x ∷ xs) (y ∷ ys) (n ∷ counts) words t v w = ((v 0, w 0), allowed-of os xs ys counts _ _ (rest-words x xs v) (rest-words y ys w))
+allowed-of (o ∷ os) (x ∷ xs) (y ∷ ys) (n ∷ counts) words t v w =
+    (asks-allowed t (posedOn words (record { operation = o; x = x; y = y; count = n })) (v 0, w 0), allowed-of os xs ys counts _ _ (rest-words x xs v) (rest-words y ys w))
 
 -- ---- what is left to ask from the ith question on
 module _ (q : Asking) (i : ℕ) where

@@ -1,8 +1,11 @@
 pub mod Operands
 pub mod Entering
+pub mod Allowed
 pub mod Conservation
 pub mod Settled
 pub mod Claim
+pub mod Others
+pub mod Full
 pub mod Events
 pub mod Misfits
 pub mod Refusals

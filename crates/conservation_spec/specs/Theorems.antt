@@ -1,24 +1,27 @@
 -- What is proved of lists. `All`, at the end, lists the statements, and `proofs/Theorems.antt` proves them.
 -- What is said of one sheet, its lines, line count, foot and flags, stands in worksheet_spec's Theorems (`EachLine` to `FilledPair`).
-use Prim.Native.Nat.{ℕ, _^_, _≤_, _<_}
+use Prim.Native.Nat.{ℕ, _+_, _^_, _≤_, _<_}
 use mathlib.Core.Path.{_≡_}
 use mathlib.Core.Logic.{_⊎_, _↔_, _≢_}
 use mathlib.Core.Bool.{true, false}
-use mathlib.Core.List.{List, [], _∷_}
+use mathlib.Core.List.{List, [], _∷_, _++_, map}
 use lib.ListN.{length, getD, replicate}
 use Rattle.pattern_spec.specs.Answer.{refused, done}
 use Rattle.rounding_spec.specs.Format.{binary32}
 use Rattle.rounding_spec.specs.Value.{decode, isFinite}
 use Rattle.worksheet_spec.specs.Lines.{sheetSize}
 use Rattle.accumulator_spec.specs.Words.{Words}
-use Rattle.accumulator_spec.specs.Totals.{totalSize, mostTerms, zeros, count, finiteOperands, afterClearing}
-use Rattle.conservation_spec.specs.Lists.{mostQuestions, Posed, directFor, enters, Totals, totalOn}
+use Rattle.accumulator_spec.specs.Totals.{totalSize, mostTerms, zeros, count, afterClearing}
+use Rattle.accumulator_spec.specs.Totals.{Term, ofPattern, ofProduct, finiteOperands, adding}
+use Rattle.conservation_spec.specs.Lists.{mostQuestions, Posed, directFor, enters, Totals, Side, onFirst, onOther, totalOn}
 use Rattle.conservation_spec.specs.Lists.{Event, asks, reads, adds, afterEvent, afterEvents, questions}
-use Rattle.conservation_spec.specs.Claim.{BothHold, Met}
+use Rattle.conservation_spec.specs.Lists.{enteringSums, enteringProducts}
+use Rattle.conservation_spec.specs.Claim.{BothHold, MetNow, Met}
 use Rattle.conservation_spec.specs.Replay.{Asking, Lent, entriesOf, eventsOf, replaying, afterReplaying}
 
 -- ---- every list
--- which lists: questions on patterns, readings, and adding calls with an operand that is not finite or on a total that is full (R7.7)
+-- which lists: questions on patterns, readings, and adding calls with an operand that is not finite or on a total that is full (R7.7);
+-- `AllowedNext` says the same by one call more
 abbrev pub AllowedNow : Totals → Event → Type 0
 AllowedNow t (asks q) = (q .x < 2 ^ 32) × (q .y < 2 ^ 32)
 AllowedNow t (reads side) = Unit {0}
@@ -38,6 +41,10 @@ Conserved =
     (a b : List ℕ) (es : List Event) → length a ≡ totalSize → length b ≡ totalSize → questions es ≤ mostQuestions
     → Allowed (cleared a b) es → BothHold (afterEvents (cleared a b) es) es × Met (cleared a b) es
 
+-- each call was met by the totals that the calls before it left (R7.5)
+abbrev pub MetEach : Type 0
+MetEach = (t : Totals) (before after : List Event) (e : Event) → Met t (before ++ (e ∷ after)) → MetNow (afterEvents t before) e
+
 -- a question enters exactly under the three conditions of R7.8
 abbrev pub EntersExactly : Type 0
 EntersExactly =
@@ -46,6 +53,89 @@ EntersExactly =
     ↔ ((1 ≤ q .operation) × (q .operation ≤ 3) × (sheetSize ≤ length (q .words))
     × (isFinite (decode binary32 (p .first)) ≡ true) × (isFinite (decode binary32 (p .second)) ≡ true)
     × (p .flags .inexact ≡ false))
+
+-- ---- which lists those are (R7.7)
+-- The empty one; and after any of them one call more: a question on patterns, a reading, an addition with an operand that is infinite or
+-- NaN, an addition to a total whose count, its word 20, is 65,536 at that moment; and no other.
+abbrev pub AllowedNext : Type 0
+AllowedNext =
+    (t : Totals) (es : List Event) → let Then : Event → Type 0 = λ e. Allowed t (es ++ (e ∷ [])) in
+    let Full : Side → Type 0 = λ side. getD (totalOn side (afterEvents t es)) 20 0 ≡ 65536 in
+    let Special : ℕ → Type 0 = λ x. isFinite (decode binary32 x) ≡ false in
+    Allowed t []
+    × ((q : Posed) → Then (asks q) ↔ (Allowed t es × (q .x < 2 ^ 32) × (q .y < 2 ^ 32)))
+    × ((side : Side) → Then (reads side) ↔ Allowed t es)
+    × ((side : Side) (x : ℕ) → Then (adds side (ofPattern x)) ↔ (Allowed t es × (Special x ⊎ Full side)))
+    × ((side : Side) (x y : ℕ) → Then (adds side (ofProduct x y)) ↔ (Allowed t es × (Special x ⊎ Special y ⊎ Full side)))
+
+-- readings, and additions of an infinity and of a product with a NaN, on both totals
+abbrev pub otherCalls : List Event
+otherCalls =
+    reads onFirst ∷ reads onOther
+    ∷ adds onFirst (ofPattern 0x7f80_0000) ∷ adds onOther (ofPattern 0xff80_0000)
+    ∷ adds onFirst (ofProduct 0x7fc0_0000 0x3f80_0000) ∷ adds onOther (ofProduct 0x3f80_0000 0x7f80_0001) ∷ []
+
+-- all of these before, between and after the questions
+unfoldable pub withOtherCalls : List Posed → List Event
+withOtherCalls [] = otherCalls
+withOtherCalls (q ∷ qs) = otherCalls ++ (asks q ∷ withOtherCalls qs)
+
+-- their operands are patterns (R7.1)
+unfoldable pub OnPatterns : List Posed → Type 0
+OnPatterns [] = Unit {0}
+OnPatterns (q ∷ qs) = (q .x < 2 ^ 32) × (q .y < 2 ^ 32) × OnPatterns qs
+
+-- Whatever the questions, those calls may stand there: the claim holds of such a list, both totals end as by the questions alone, and each
+-- of the additions answers 7 and changes nothing.
+abbrev pub AmongOthers : Type 0
+AmongOthers =
+    (a b : List ℕ) (qs : List Posed) → length a ≡ totalSize → length b ≡ totalSize → length qs ≤ mostQuestions → OnPatterns qs
+    → let t = cleared a b in let es = withOtherCalls qs in
+    Allowed t es × (questions es ≡ length qs) × BothHold (afterEvents t es) es × Met t es
+    × (afterEvents t es ≡ afterEvents t (map asks qs))
+    × ((before after : List Event) (side : Side) (x : Term) → before ++ (adds side x ∷ after) ≡ es → let now = afterEvents t before in
+    (adding (totalOn side now) x ≡ refused 7) × (afterEvent now (adds side x) ≡ now))
+
+-- ---- additions to a full total (R7.7, R8.7)
+-- the first total is full exactly where 32,768 questions entered, the other exactly where so many sums and differences did (R7.13)
+abbrev pub FullWhen : Type 0
+FullWhen =
+    (a b : List ℕ) (es : List Event) → length a ≡ totalSize → length b ≡ totalSize → questions es ≤ mostQuestions
+    → Allowed (cleared a b) es → let t = afterEvents (cleared a b) es in
+    (count (t .first) ≡ mostTerms ↔ (enteringSums es + enteringProducts es ≡ mostQuestions))
+    × (count (t .other) ≡ mostTerms ↔ (enteringSums es ≡ mostQuestions))
+
+-- A finite term that is added in a list answers 8. It stands after 32,768 questions that all entered, on the other total only where no
+-- product was among them; no question follows.
+abbrev pub EightLast : Type 0
+EightLast =
+    (a b : List ℕ) (before after : List Event) (side : Side) (x : Term) → length a ≡ totalSize → length b ≡ totalSize
+    → let es = before ++ (adds side x ∷ after) in
+    questions es ≤ mostQuestions → Allowed (cleared a b) es → finiteOperands x ≡ true
+    → (adding (totalOn side (afterEvents (cleared a b) before)) x ≡ refused 8)
+    × (questions before ≡ mostQuestions) × (enteringSums before + enteringProducts before ≡ mostQuestions)
+    × (side ≡ onOther → enteringProducts before ≡ 0) × (questions after ≡ 0)
+
+-- 1 and 1 in the operation of this number
+abbrev pub ones : ℕ → List ℕ → Posed
+ones n words = record { operation = n; x = 0x3f80_0000; y = 0x3f80_0000; words = words }
+
+-- 1 + 1, 1 - 1 and 1 * 1 enter (R7.8), and so they do in one list, with other calls before, between and after them
+abbrev pub OnesEnter : Type 0
+OnesEnter =
+    (words : List ℕ) → sheetSize ≤ length words
+    → (enters (ones 1 words) ≡ true) × (enters (ones 2 words) ≡ true) × (enters (ones 3 words) ≡ true)
+    × (let es = withOtherCalls (ones 1 words ∷ ones 2 words ∷ ones 3 words ∷ []) in (enteringSums es ≡ 2) × (enteringProducts es ≡ 1))
+
+-- 32,768 times 1 + 1 fill both totals: any finite term may then be added to either, and answers 8; the claim holds of the whole list.
+abbrev pub EightReached : Type 0
+EightReached =
+    (a b words : List ℕ) (x : Term) → length a ≡ totalSize → length b ≡ totalSize → sheetSize ≤ length words → finiteOperands x ≡ true
+    → let t = cleared a b in let sums = replicate mostQuestions (asks (ones 1 words)) in
+    let es = sums ++ (adds onFirst x ∷ adds onOther x ∷ []) in
+    Allowed t es × (questions es ≡ mostQuestions) × (enteringSums sums ≡ mostQuestions)
+    × ((side : Side) → adding (totalOn side (afterEvents t sums)) x ≡ refused 8)
+    × BothHold (afterEvents t es) es × Met t es
 
 -- ---- lists in one call
 -- Where `replay` is carried out, the claim holds of its questions, and these are as many as the arrays have. xs and ys hold 32-bit words.
@@ -78,4 +168,6 @@ QuestionLimit = mostQuestions ≡ 32768
 
 -- ---- all of them
 abbrev pub All : Type 0
-All = QuestionLimit × Conserved × EntersExactly × ReplayConserves × ReplayRefused × ReplayUnchanged
+All =
+    QuestionLimit × Conserved × MetEach × EntersExactly × AllowedNext × AmongOthers × FullWhen × EightLast × OnesEnter × EightReached
+    × ReplayConserves × ReplayRefused × ReplayUnchanged

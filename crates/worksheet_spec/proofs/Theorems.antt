@@ -8,16 +8,19 @@ use native.Mathlib.Nat.{eq-zero-or-pos}
 use native.Mathlib.Decide.{decLe}
 use native.Mathlib.Omega.{arith}
 use lib.Dec.{T}
+use lib.Ieee.{size}
 use lib.ListN.{length, take}
+use Rattle.rounding_spec.specs.Round.{keep, lastPlace}
 use Rattle.rounding_spec.specs.Value.{Value, nan, infinite, finite, isNaN, isFinite, decode}
-use Rattle.binary32_spec.specs.Steps.{addStep, mulStep}
+use Rattle.binary32_spec.specs.Steps.{addStep, subStep, mulStep}
 use Rattle.augmented_spec.specs.Direct.{sum, difference, product}
+use Rattle.errorfree_spec.specs.Comparisons.{same, lessMagnitude}
 use Rattle.worksheet_spec.specs.Constants.{psi, two, half, kappa, twoTo24, twoTo48, twoToMinus24, plusZero, smallest, twoTo127, twoTo102, twoToMinus102, twoToMinus126}
 use Rattle.worksheet_spec.specs.Lines.{mostLines, Step, add, subtract, multiply, fused, Line, line, value, minus, equal, isZeroPattern}
-use Rattle.worksheet_spec.specs.Sheets.{sumInOrder, swaps, sumSheet, productSheet, sheetOf}
+use Rattle.worksheet_spec.specs.Sheets.{recomposition, zeroFinish, recomposedFinished, overflows, sumInOrder, swaps, sumSheet, productSheet, sheetOf}
 use Rattle.worksheet_spec.specs.Theorems.{positivePattern, ConstantPatterns, StepNumbers, EachLine, Derived, FirstLine, stepsOf, recompositionSteps, finishStep, edgeSteps, openingSteps}
-use Rattle.worksheet_spec.specs.Theorems.{halvedSteps, sumSteps, tinySteps, middleSteps, ProductSteps, InOrder, LineCount, FootIsPair, SheetSizes, FillingRefused, SheetFilled, FilledPair}
-use Rattle.worksheet_spec.specs.Theorems.{All}
+use Rattle.worksheet_spec.specs.Theorems.{halvedSteps, sumSteps, tinySteps, middleSteps, ProductSteps, InOrder, LineCount}
+use Rattle.worksheet_spec.specs.Theorems.{FootIsPair, PrintedSheet, SheetSizes, FillingRefused, SheetFilled, FilledPair, All}
 use Rattle.worksheet_spec.proofs.Patterns.{Pattern, pattern-of}
 use Rattle.worksheet_spec.proofs.EachLine as lines
 use Rattle.worksheet_spec.proofs.Derived as derivation
@@ -141,6 +144,10 @@ line-count product x y =
 pub foot-is-pair : FootIsPair
 foot-is-pair = feet.foot-is-pair
 
+pub printed-sheet : PrintedSheet
+unfolding sheetOf sumSheet swaps sumInOrder recomposedFinished recomposition zeroFinish overflows lessMagnitude same addStep subStep mulStep keep lastPlace size
+printed-sheet = refl
+
 -- ---- filling
 pub sheet-sizes : SheetSizes
 sheet-sizes = (refl, refl, refl)
@@ -155,4 +162,4 @@ pub filled-pair : FilledPair
 filled-pair = answers.filled-pair
 
 pub all : All
-all = (constant-patterns, step-numbers, each-line, derived, first-line, in-order, line-count, foot-is-pair, sheet-sizes, filling-refused, sheet-filled, filled-pair)
+all = (constant-patterns, step-numbers, each-line, derived, first-line, in-order, line-count, foot-is-pair, printed-sheet, sheet-sizes, filling-refused, sheet-filled, filled-pair)

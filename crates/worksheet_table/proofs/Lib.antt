@@ -1,0 +1,10 @@
+pub mod Computed
+pub mod Told
+pub mod Sums
+pub mod Turned
+pub mod NoTie
+pub mod Branches
+pub mod Operands
+pub mod Products
+pub mod Counts
+pub mod Theorems

@@ -8,20 +8,18 @@ use native.Mathlib.Nat.{eq-zero-or-pos}
 use native.Mathlib.Decide.{decLe}
 use native.Mathlib.Omega.{arith}
 use lib.Dec.{T}
-use lib.Ieee.{size}
 use lib.ListN.{length, take}
-use Rattle.rounding_spec.specs.Round.{keep, lastPlace}
 use Rattle.rounding_spec.specs.Value.{Value, nan, infinite, finite, isNaN, isFinite, decode}
-use Rattle.binary32_spec.specs.Steps.{addStep, subStep, mulStep}
+use Rattle.binary32_spec.specs.Steps.{addStep, mulStep}
 use Rattle.augmented_spec.specs.Direct.{sum, difference, product}
-use Rattle.errorfree_spec.specs.Comparisons.{same, lessMagnitude}
 use Rattle.worksheet_spec.specs.Constants.{psi, two, half, kappa, twoTo24, twoTo48, twoToMinus24, plusZero, smallest, twoTo127, twoTo102, twoToMinus102, twoToMinus126}
 use Rattle.worksheet_spec.specs.Lines.{mostLines, Step, add, subtract, multiply, fused, Line, line, value, minus, equal, isZeroPattern}
-use Rattle.worksheet_spec.specs.Sheets.{recomposition, zeroFinish, recomposedFinished, overflows, sumInOrder, swaps, sumSheet, productSheet, sheetOf}
+use Rattle.worksheet_spec.specs.Sheets.{sumInOrder, swaps, sumSheet, productSheet, sheetOf}
 use Rattle.worksheet_spec.specs.Theorems.{positivePattern, ConstantPatterns, StepNumbers, EachLine, Derived, FirstLine, stepsOf, recompositionSteps, finishStep, edgeSteps, openingSteps}
 use Rattle.worksheet_spec.specs.Theorems.{halvedSteps, sumSteps, tinySteps, middleSteps, ProductSteps, InOrder, LineCount}
 use Rattle.worksheet_spec.specs.Theorems.{FootIsPair, PrintedSheet, SheetSizes, FillingRefused, SheetFilled, FilledPair, All}
 use Rattle.worksheet_spec.proofs.Patterns.{Pattern, pattern-of}
+use Rattle.worksheet_spec.proofs.Computed as computed
 use Rattle.worksheet_spec.proofs.EachLine as lines
 use Rattle.worksheet_spec.proofs.Derived as derivation
 use Rattle.worksheet_spec.proofs.FootIsPair as feet
@@ -145,8 +143,7 @@ pub foot-is-pair : FootIsPair
 foot-is-pair = feet.foot-is-pair
 
 pub printed-sheet : PrintedSheet
-unfolding sheetOf sumSheet swaps sumInOrder recomposedFinished recomposition zeroFinish overflows lessMagnitude same addStep subStep mulStep keep lastPlace size
-printed-sheet = refl
+printed-sheet = computed.printed-sheet
 
 -- ---- filling
 pub sheet-sizes : SheetSizes

@@ -1,10 +1,10 @@
 pub mod Computed
 pub mod Told
 pub mod Sums
-pub mod Turned
+pub mod Changed
 pub mod NoTie
 pub mod Branches
-pub mod Operands
+pub mod Excluded
 pub mod Products
 pub mod Counts
 pub mod Theorems

@@ -1,4 +1,4 @@
--- A rest that is a power of two is never corrected in the middle branch.
+-- A rest that is a power of two is never lowered in the middle branch.
 use Prim.Native.Nat.{ℕ, _+_, _-_, _*_, _^_, _≤_, _<_}
 use mathlib.Core.Path.{_≡_, refl, sym, ap, ap₂, _∙_, subst}
 use mathlib.Core.Bool.{Bool, true, false, not, _&&_}

@@ -10,10 +10,10 @@ use Rattle.worksheet_spec.proofs.Products.{tie}
 use Rattle.worksheet_spec.proofs.ProductSteps.{sheet-by}
 use Rattle.worksheet_table.specs.Programs.{sheetAlong, passes}
 use Rattle.worksheet_table.specs.Table.{productInfinite, productEdge, productZero, tinyLowered, tinyKept}
-use Rattle.worksheet_table.specs.Table.{middleTurned, middleTurnedZero, middleKept, middleKeptZero, middleLowered, otherTurned, otherKept, otherKeptZero}
+use Rattle.worksheet_table.specs.Table.{middleChanged, middleChangedZero, middleKept, middleKeptZero, middleLowered, otherChanged, otherKept, otherKeptZero}
 use Rattle.worksheet_table.proofs.Told.{Told}
 use Rattle.worksheet_table.proofs.Branches.{infinite-branch, zero-branch, tiny-branch, middle-branch, other-branch}
-use Rattle.worksheet_table.proofs.Operands.{lowered-nonzero}
+use Rattle.worksheet_table.proofs.Excluded.{lowered-nonzero}
 
 module _ (x y : ℕ) where
   abbrev p : ℕ
@@ -39,13 +39,13 @@ module _ (x y : ℕ) where
   unfolding productBy tinyProduct tinyTie lowered lowering sheetAlong passes
   tiny-kept k = sheet-by x y whenTiny (tiny-branch (value p) (k .0) (k .1 .0)) ∙ rw (k .1 .1 .0) refl
 
-  pub middle-turned : Told middleTurned x y → productSheet x y ≡ sheetAlong middleTurned x y
+  pub middle-changed : Told middleChanged x y → productSheet x y ≡ sheetAlong middleChanged x y
   unfolding productBy middleProduct recomposition scaledDown restTie lowered lowering zeroFinish sheetAlong passes
-  middle-turned k = sheet-by x y whenMiddle (middle-branch (value p) (k .0) (k .1 .0) (k .1 .1 .0)) ∙ rw (k .1 .1 .1 .0, k .1 .1 .1 .1 .0, k .1 .1 .1 .1 .1 .0) refl
+  middle-changed k = sheet-by x y whenMiddle (middle-branch (value p) (k .0) (k .1 .0) (k .1 .1 .0)) ∙ rw (k .1 .1 .1 .0, k .1 .1 .1 .1 .0, k .1 .1 .1 .1 .1 .0) refl
 
-  pub middle-turned-zero : Told middleTurnedZero x y → productSheet x y ≡ sheetAlong middleTurnedZero x y
+  pub middle-changed-zero : Told middleChangedZero x y → productSheet x y ≡ sheetAlong middleChangedZero x y
   unfolding productBy middleProduct recomposition scaledDown restTie lowered lowering zeroFinish sheetAlong passes
-  middle-turned-zero k = sheet-by x y whenMiddle (middle-branch (value p) (k .0) (k .1 .0) (k .1 .1 .0)) ∙ rw (k .1 .1 .1 .0, k .1 .1 .1 .1 .0, k .1 .1 .1 .1 .1 .0) refl
+  middle-changed-zero k = sheet-by x y whenMiddle (middle-branch (value p) (k .0) (k .1 .0) (k .1 .1 .0)) ∙ rw (k .1 .1 .1 .0, k .1 .1 .1 .1 .0, k .1 .1 .1 .1 .1 .0) refl
 
   pub middle-kept : Told middleKept x y → productSheet x y ≡ sheetAlong middleKept x y
   unfolding productBy middleProduct recomposition scaledDown restTie lowered lowering zeroFinish sheetAlong passes
@@ -64,9 +64,9 @@ module _ (x y : ℕ) where
       let nonzero = rw (e, t) at (lowered-nonzero x y (k .1 .0) (k .1 .1 .0) tied) in
       sheet-by x y whenMiddle (middle-branch (value p) (k .0) (k .1 .0) (k .1 .1 .0)) ∙ rw (e, t, nonzero)
 
-  pub other-turned : Told otherTurned x y → productSheet x y ≡ sheetAlong otherTurned x y
+  pub other-changed : Told otherChanged x y → productSheet x y ≡ sheetAlong otherChanged x y
   unfolding productBy otherProduct recomposedFinished recomposition zeroFinish sheetAlong passes
-  other-turned k = sheet-by x y otherwise (other-branch (value p) (k .0) (k .1 .0) (k .1 .1 .0) (k .1 .1 .1 .0)) ∙ rw (k .1 .1 .1 .1 .0, k .1 .1 .1 .1 .1 .0) refl
+  other-changed k = sheet-by x y otherwise (other-branch (value p) (k .0) (k .1 .0) (k .1 .1 .0) (k .1 .1 .1 .0)) ∙ rw (k .1 .1 .1 .1 .0, k .1 .1 .1 .1 .1 .0) refl
 
   pub other-kept : Told otherKept x y → productSheet x y ≡ sheetAlong otherKept x y
   unfolding productBy otherProduct recomposedFinished recomposition zeroFinish sheetAlong passes

@@ -12,7 +12,7 @@ use Rattle.worksheet_spec.specs.Sheets.{recomposition, zeroFinish, recomposedFi
 use Rattle.worksheet_spec.proofs.Blocks.{none-recomposed}
 use Rattle.worksheet_spec.proofs.Sums.{b-none}
 use Rattle.worksheet_table.specs.Programs.{sheetAlong, passes}
-use Rattle.worksheet_table.specs.Table.{sumTurned, sumTurnedZero, sumKept, sumKeptZero, sumInfinite, sumEdge}
+use Rattle.worksheet_table.specs.Table.{sumChanged, sumChangedZero, sumKept, sumKeptZero, sumInfinite, sumEdge}
 use Rattle.worksheet_table.proofs.Told.{Told}
 
 -- ---- an infinite a is not recomposed, and leaves no zero
@@ -35,19 +35,19 @@ module _ (x y : ℕ) where
   abbrev e=d : Bool
   e=d = equal (mulStep two b) (subStep (mulStep psi a) a)
 
-  turned-bounded : e=d ≡ true → values.isInfinite (value a) ≡ false
-  turned-bounded h = bounded (value a) e=d h (none-recomposed a b)
+  changed-bounded : e=d ≡ true → values.isInfinite (value a) ≡ false
+  changed-bounded h = bounded (value a) e=d h (none-recomposed a b)
 
   zero-bounded : isZeroPattern b ≡ true → values.isInfinite (value a) ≡ false
   zero-bounded h = bounded (value a) (isZeroPattern b) h (λ n. none-zero (value b) (b-none x y n))
 
-  pub turned : Told sumTurned x y → sumInOrder x y ≡ sheetAlong sumTurned x y
+  pub changed : Told sumChanged x y → sumInOrder x y ≡ sheetAlong sumChanged x y
   unfolding sumInOrder recomposedFinished recomposition zeroFinish overflows sheetAlong passes
-  turned k = rw (k .0, k .1 .0, k .1 .0, turned-bounded (k .0)) refl
+  changed k = rw (k .0, k .1 .0, k .1 .0, changed-bounded (k .0)) refl
 
-  pub turned-zero : Told sumTurnedZero x y → sumInOrder x y ≡ sheetAlong sumTurnedZero x y
+  pub changed-zero : Told sumChangedZero x y → sumInOrder x y ≡ sheetAlong sumChangedZero x y
   unfolding sumInOrder recomposedFinished recomposition zeroFinish overflows sheetAlong passes
-  turned-zero k = rw (k .0, k .1 .0, turned-bounded (k .0), and-false) refl
+  changed-zero k = rw (k .0, k .1 .0, changed-bounded (k .0), and-false) refl
 
   pub kept : Told sumKept x y → sumInOrder x y ≡ sheetAlong sumKept x y
   unfolding sumInOrder recomposedFinished recomposition zeroFinish overflows sheetAlong passes

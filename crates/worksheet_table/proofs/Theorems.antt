@@ -13,9 +13,9 @@ use Rattle.errorfree_spec.specs.Comparisons.{lessMagnitude}
 use Rattle.worksheet_spec.specs.Lines.{Sheet}
 use Rattle.worksheet_spec.specs.Sheets.{sheetOf, sumSheet, swaps, sumInOrder, productSheet}
 use Rattle.worksheet_table.specs.Programs.{Way, taken, howManyTaken, sheetAlong, sheetBy}
-use Rattle.worksheet_table.specs.Table.{sumTurned, sumTurnedZero, sumKept, sumKeptZero, sumInfinite, sumEdge, sumWays}
-use Rattle.worksheet_table.specs.Table.{productInfinite, productEdge, productZero, tinyLowered, tinyKept, middleTurned, middleTurnedZero, middleKept, middleKeptZero, middleLowered}
-use Rattle.worksheet_table.specs.Table.{otherTurned, otherKept, otherKeptZero, productWays, sumByTable, sheetByTable}
+use Rattle.worksheet_table.specs.Table.{sumChanged, sumChangedZero, sumKept, sumKeptZero, sumInfinite, sumEdge, sumWays}
+use Rattle.worksheet_table.specs.Table.{productInfinite, productEdge, productZero, tinyLowered, tinyKept, middleChanged, middleChangedZero, middleKept, middleKeptZero, middleLowered}
+use Rattle.worksheet_table.specs.Table.{otherChanged, otherKept, otherKeptZero, productWays, sumByTable, sheetByTable}
 use Rattle.worksheet_table.specs.Theorems.{Agree, Every, SumWritten, EachWay, OneWay, EachTaken, WellMade, NaNTaken, All}
 use Rattle.worksheet_table.proofs.Computed as computed
 use Rattle.worksheet_table.proofs.Told.{Told, told}
@@ -37,8 +37,8 @@ a & b = (a, b)
 sum-ways : Every (Writes sumInOrder) sumWays
 unfolding _&_
 sum-ways =
-    from-told sumInOrder sumTurned sums.turned
-    & from-told sumInOrder sumTurnedZero sums.turned-zero
+    from-told sumInOrder sumChanged sums.changed
+    & from-told sumInOrder sumChangedZero sums.changed-zero
     & from-told sumInOrder sumKept sums.kept
     & from-told sumInOrder sumKeptZero sums.kept-zero
     & from-told sumInOrder sumInfinite sums.infinite-sum
@@ -53,12 +53,12 @@ product-ways =
     & from-told productSheet productZero products.zero-product
     & from-told productSheet tinyLowered products.tiny-lowered
     & from-told productSheet tinyKept products.tiny-kept
-    & from-told productSheet middleTurned products.middle-turned
-    & from-told productSheet middleTurnedZero products.middle-turned-zero
+    & from-told productSheet middleChanged products.middle-changed
+    & from-told productSheet middleChangedZero products.middle-changed-zero
     & from-told productSheet middleKept products.middle-kept
     & from-told productSheet middleKeptZero products.middle-kept-zero
     & from-told productSheet middleLowered products.middle-lowered
-    & from-told productSheet otherTurned products.other-turned
+    & from-told productSheet otherChanged products.other-changed
     & from-told productSheet otherKept products.other-kept
     & from-told productSheet otherKeptZero products.other-kept-zero
     & tt

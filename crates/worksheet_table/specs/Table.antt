@@ -1,6 +1,6 @@
 -- The rules of the step sheet (R5) as a table: for each way through them its tests, its lines and its foot.
 -- The comment behind a line has the line's number and the name that R5 gives its result; a list of lines goes by the numbers of the whole
--- sheet. In the names of ways, Turned is recomposition's (z, -b) and Kept its (a, b); Zero is zero finish; Lowered is R5.8.
+-- sheet. In the names of ways, Changed is recomposition's (z, -b) and Kept its (a, b); Zero is zero finish; Lowered is R5.8.
 use Prim.Native.Nat.{ℕ}
 use mathlib.Core.Bool.{cond}
 use mathlib.Core.List.{List, [], _∷_, _++_}
@@ -40,16 +40,16 @@ halvedLines =
 abbrev pub atSumEdge : Test
 atSumEdge = line 9 equals 2^127 withSignOf line 9 and line 11 equals minus (2^102 withSignOf line 9)
 
--- Recomposition takes (z, -b) where e = d. An infinite a is never turned, and leaves no zero second: `EachWay` says so of the ways that do
--- not ask for it.
-abbrev pub sumTurned : Way
-sumTurned = way (line 6 equals line 5 ∷ isNot (isZero (minus (line 3))) ∷ []) sumLines (line 4) (minus (line 3))
+-- Recomposition gives (z, -b) where e = d (R5.5). An infinite a does not meet this, and leaves no zero second: `EachWay` says so of the
+-- ways that do not ask whether a is infinite.
+abbrev pub sumChanged : Way
+sumChanged = way (line 6 equals line 5 ∷ isNot (isZero (minus (line 3))) ∷ []) sumLines (line 4) (minus (line 3))
 
 -- zero finish (R5.6)
-abbrev pub sumTurnedZero : Way
-sumTurnedZero = way (line 6 equals line 5 ∷ isZero (minus (line 3)) ∷ []) (sumLines ++ +0 * line 4 ∷ []) (line 4) (line 7)
+abbrev pub sumChangedZero : Way
+sumChangedZero = way (line 6 equals line 5 ∷ isZero (minus (line 3)) ∷ []) (sumLines ++ +0 * line 4 ∷ []) (line 4) (line 7)
 
--- NaN too
+-- otherwise (a, b), NaN too
 abbrev pub sumKept : Way
 sumKept =
     way (isNot (line 6 equals line 5) ∷ isNot (isZero (line 3)) ∷ isNot (isInfinite (line 1)) ∷ []) sumLines (line 1) (line 3)
@@ -70,7 +70,7 @@ sumEdge =
     (sumLines ++ halvedLines ++ κ * line 9 ∷ -2 * line 11 ∷ []) (line 12) (line 13)
 
 abbrev pub sumWays : List Way
-sumWays = sumTurned ∷ sumTurnedZero ∷ sumKept ∷ sumKeptZero ∷ sumInfinite ∷ sumEdge ∷ []
+sumWays = sumChanged ∷ sumChangedZero ∷ sumKept ∷ sumKeptZero ∷ sumInfinite ∷ sumEdge ∷ []
 
 -- ---- products: line 1 is a (R5.12)
 -- a is infinite (R5.13)
@@ -138,8 +138,8 @@ middleLines =
     []
 
 -- scaled down where (A, B) is (z, -b')
-abbrev pub turnedLines : List Instruction
-turnedLines =
+abbrev pub changedLines : List Instruction
+changedLines =
     2^-24 * line 5 ∷  -- 8 first
     2^-24 * minus (line 4) ∷  -- 9 β
     2^24 * line 9 ∷  -- 10 g
@@ -160,15 +160,15 @@ abbrev pub atRestTie : Test
 atRestTie = isNot (isZero (line 9)) and line 11 equals 2^-126 withSignOf line 9
 
 -- where (A, B) is (z, -b') no second is lowered: `OneWay` says so
-abbrev pub middleTurned : Way
-middleTurned =
+abbrev pub middleChanged : Way
+middleChanged =
     way (middle ++ line 7 equals line 6 ∷ isNot atRestTie ∷ isNot (isZero (line 9)) ∷ [])
-    (middleLines ++ turnedLines) (line 8) (line 9)
+    (middleLines ++ changedLines) (line 8) (line 9)
 
-abbrev pub middleTurnedZero : Way
-middleTurnedZero =
+abbrev pub middleChangedZero : Way
+middleChangedZero =
     way (middle ++ line 7 equals line 6 ∷ isNot atRestTie ∷ isZero (line 9) ∷ [])
-    (middleLines ++ turnedLines ++ +0 * line 8 ∷ []) (line 8) (line 12)
+    (middleLines ++ changedLines ++ +0 * line 8 ∷ []) (line 8) (line 12)
 
 abbrev pub middleKept : Way
 middleKept =
@@ -199,9 +199,9 @@ otherLines =
     +2 * line 2 ∷  -- 5 e
     []
 
--- where recomposition takes (z, -b) second is not zero: `OneWay` says so
-abbrev pub otherTurned : Way
-otherTurned = way (other ++ line 5 equals line 4 ∷ isNot (isZero (minus (line 2))) ∷ []) otherLines (line 3) (minus (line 2))
+-- where recomposition gives (z, -b) second is not zero: `OneWay` says so
+abbrev pub otherChanged : Way
+otherChanged = way (other ++ line 5 equals line 4 ∷ isNot (isZero (minus (line 2))) ∷ []) otherLines (line 3) (minus (line 2))
 
 abbrev pub otherKept : Way
 otherKept = way (other ++ isNot (line 5 equals line 4) ∷ isNot (isZero (line 2)) ∷ []) otherLines (line 1) (line 2)
@@ -213,8 +213,8 @@ otherKeptZero =
 abbrev pub productWays : List Way
 productWays =
     productInfinite ∷ productEdge ∷ productZero ∷ tinyLowered ∷ tinyKept
-    ∷ middleTurned ∷ middleTurnedZero ∷ middleKept ∷ middleKeptZero ∷ middleLowered
-    ∷ otherTurned ∷ otherKept ∷ otherKeptZero ∷ []
+    ∷ middleChanged ∷ middleChangedZero ∷ middleKept ∷ middleKeptZero ∷ middleLowered
+    ∷ otherChanged ∷ otherKept ∷ otherKeptZero ∷ []
 
 -- ---- the sheet of a question
 -- x and y change places where |y| > |x| (R5.9)

@@ -1,4 +1,4 @@
--- What recomposition leaves where it is taken: the rest is a power of two.
+-- Where recomposition changes the pair, the rest is a power of two.
 use Prim.Native.Nat.{ℕ, zero, suc, _+_, _-_, _*_, _^_, _<_}
 use mathlib.Core.Path.{_≡_, refl, sym, ap, ap₂, _∙_, subst}
 use mathlib.Core.Bool.{Bool, true, not, cond}
@@ -57,13 +57,13 @@ module _ (s : Bool) (n A : ℕ) (b z d e : Value) (over : 2 ^ 23 < A) (h : Split
       mul-positive binary32 ((2 ^ 24 - 1) * 2 ^ 125) s A
       ∙ round-below ToEven binary32 s ((2 ^ 24 - 1) * 2 ^ 125 * A) (lt-of-le-of-lt (z-le Z (h .near) (recomposed.psi-near binary32 (omega arith) A)) (h .fine))
 
-  turned : Split0 binary32 s n (toZero binary32 (n * 2 ^ low binary32)) z (negate b)
-  turned =
+  changed : Split0 binary32 s n (toZero binary32 (n * 2 ^ low binary32)) z (negate b)
+  changed =
       subst (λ (c : Bool). Split0 binary32 s n (toZero binary32 (n * 2 ^ low binary32)) (cond c z (finite s A)) (cond c (negate b) b)) t
       (recomposed.recomposed binary32 (omega arith) s n A b h z d e zi di ei)
 
   first-is : toZero binary32 (n * 2 ^ low binary32) ≡ Z
-  first-is = same-number s s (toZero binary32 (n * 2 ^ low binary32)) Z (sym (turned .is) ∙ zi ∙ z-is)
+  first-is = same-number s s (toZero binary32 (n * 2 ^ low binary32)) Z (sym (changed .is) ∙ zi ∙ z-is)
 
   abbrev Power : Type 0
   Power = (q : Bool) × (k : ℕ) × (b ≡ finite q (2 ^ k)) × (2 ^ k < limit binary32)
@@ -71,9 +71,9 @@ module _ (s : Bool) (n A : ℕ) (b z d e : Value) (over : 2 ^ 23 < A) (h : Split
   power-of : (q : Bool) (m k : ℕ) → m ≡ 2 ^ k → b ≡ finite q m → m ≡ dist n A → Power
   power-of q m k e i f = (q, k, i ∙ ap (finite q) e, subst (λ (w : ℕ). w < limit binary32) e (less m (dist n A) (limit binary32) f (lt-of-le-of-lt (error-le (h .near)) (h .fine))))
 
-  turned-power : Power
+  changed-power : Power
   unfolding negate
-  turned-power = by b refl (h .rest) (subst (λ (f : ℕ). Is s (negate b) n f) first-is (turned .rest))
+  changed-power = by b refl (h .rest) (subst (λ (f : ℕ). Is s (negate b) n f) first-is (changed .rest))
     where
       by : (v : Value) → b ≡ v → Is s v n A → Is s (negate v) n Z → Power
       by nan i j l = absurd j
@@ -85,10 +85,10 @@ module _ (s : Bool) (n A : ℕ) (b z d e : Value) (over : 2 ^ 23 < A) (h : Split
           power-of q m (half .0) (half .1) i (rel-dist s q m n A j)
 
 -- ---- on patterns
-pub turned-rest : (a b : ℕ) (r : Bool) (n A : ℕ) → value a ≡ finite r A → 2 ^ 23 < A → Split binary32 r n A (value b) → equal (mulStep two b) (subStep (mulStep psi a) a) ≡ true
+pub changed-rest : (a b : ℕ) (r : Bool) (n A : ℕ) → value a ≡ finite r A → 2 ^ 23 < A → Split binary32 r n A (value b) → equal (mulStep two b) (subStep (mulStep psi a) a) ≡ true
     → (q : Bool) × (k : ℕ) × (value b ≡ finite q (2 ^ k)) × (2 ^ k < limit binary32)
-turned-rest a b r n A ai over split e =
+changed-rest a b r n A ai over split e =
     let z = mulStep psi a in
-    turned-power r n A (value b) (value z) (value (subStep z a)) (value (mulStep two b)) over split
+    changed-power r n A (value b) (value z) (value (subStep z a)) (value (mulStep two b)) over split
     (mul-decodes psi a ∙ ap₂ (mulValue binary32) psi-value ai) (sub-decodes z a ∙ ap (subValue binary32 (value z)) ai)
     (mul-decodes two b ∙ ap (λ (v : Value). mulValue binary32 v (value b)) two-value) e

@@ -32,7 +32,7 @@ use Rattle.worksheet_spec.proofs.Products.{m, a', b', tie, corrected, pi}
 use Rattle.worksheet_spec.proofs.FiniteProduct.{factors-of}
 use Rattle.worksheet_spec.proofs.ProductSteps.{middle-facts}
 use Rattle.worksheet_table.specs.Programs.{notAbove}
-use Rattle.worksheet_table.proofs.Turned.{turned-rest}
+use Rattle.worksheet_table.proofs.Changed.{changed-rest}
 use Rattle.worksheet_table.proofs.NoTie.{rep-power, power-rest}
 use Rattle.worksheet_table.proofs.Branches.{low, high, middle-number, other-number}
 
@@ -45,31 +45,31 @@ module _ (x y : ℕ) where
 
   -- ---- in the middle branch
   module _ (l : lessMagnitude (value p) low ≡ false) (h : notAbove (value p) high ≡ true) where
-    -- a correction leaves no zero
+    -- what is lowered is not zero
     pub lowered-nonzero : tie x y ≡ true → isZeroPattern (corrected x y) ≡ false
     lowered-nonzero = let n = middle-number (value p) l h in middle-facts x y (n .0) (n .1) (n .2) (n .3) (n .4) .0
 
-    -- where recomposition is taken nothing is corrected
+    -- where recomposition changes the pair, nothing is lowered
     abbrev pub B : ℕ
     B = minus (b' x y)
 
-    abbrev pub turned-tie : Bool
-    turned-tie = restTie (mulStep twoToMinus24 B) (subStep (mulStep twoTo24 (mulStep twoToMinus24 B)) B)
+    abbrev pub changed-tie : Bool
+    changed-tie = restTie (mulStep twoToMinus24 B) (subStep (mulStep twoTo24 (mulStep twoToMinus24 B)) B)
 
-    pub turned-uncorrected : equal (mulStep two (b' x y)) (subStep (mulStep psi (a' x y)) (a' x y)) ≡ true → turned-tie ≡ false
-    turned-uncorrected e =
+    pub changed-uncorrected : equal (mulStep two (b' x y)) (subStep (mulStep psi (a' x y)) (a' x y)) ≡ true → changed-tie ≡ false
+    changed-uncorrected e =
         let n = middle-number (value p) l h in
         let o = factors-of x y (n .0) (n .1) (n .2) in
         at (o .s) (o .t) (o .a) (o .b) (o .xi) (o .yi) (o .xr) (o .yr) (rw (← o .is) (n .3)) (rw (← o .is) (n .4))
       where
-        power : (q : Bool) (k : ℕ) → value (b' x y) ≡ finite q (2 ^ k) → 2 ^ k < limit binary32 → turned-tie ≡ false
+        power : (q : Bool) (k : ℕ) → value (b' x y) ≡ finite q (2 ^ k) → 2 ^ k < limit binary32 → changed-tie ≡ false
         power q k i f = power-rest B (not q) k (minus-value (b' x y) (fma-width (m x y) y (minus (a' x y))) ∙ ap negate i ∙ negate-finite q (2 ^ k)) f
 
-        split : (r : Bool) (n A : ℕ) → value (a' x y) ≡ finite r A → Split binary32 r n A (value (b' x y)) → 2 ^ 47 ≤ n → turned-tie ≡ false
-        split r n A ai s big = let k = turned-rest (a' x y) (b' x y) r n A ai (omega (arith, near-ge (s .near) (rep-power 47) big)) s e in power (k .0) (k .1) (k .2) (k .3)
+        split : (r : Bool) (n A : ℕ) → value (a' x y) ≡ finite r A → Split binary32 r n A (value (b' x y)) → 2 ^ 47 ≤ n → changed-tie ≡ false
+        split r n A ai s big = let k = changed-rest (a' x y) (b' x y) r n A ai (omega (arith, near-ge (s .near) (rep-power 47) big)) s e in power (k .0) (k .1) (k .2) (k .3)
 
         at : (s t : Bool) (a b : ℕ) → value x ≡ finite s a → value y ≡ finite t b → Rep 24 0 a → Rep 24 0 b → 2 ^ 24 ≤ toEven binary32 (a * b) → toEven binary32 (a * b) ≤ 2 ^ 47
-            → turned-tie ≡ false
+            → changed-tie ≡ false
         at s t a b xi yi xr yr lo hi =
             let S =
             middle-split binary32 (omega arith) a b xr yr lo hi s t (value (m x y)) (value (a' x y)) (value (b' x y)) (mul-decodes twoTo24 x ∙ ap₂ (mulValue binary32) up-value xi)
@@ -83,9 +83,9 @@ module _ (x y : ℕ) where
     abbrev c : ℕ
     c = fmaStep x y (minus p)
 
-    -- where recomposition is taken the rest is not zero
-    pub turned-nonzero : equal (mulStep two c) (subStep (mulStep psi p) p) ≡ true → isZeroPattern (minus c) ≡ false
-    turned-nonzero e =
+    -- where recomposition changes the pair, the rest is not zero
+    pub changed-nonzero : equal (mulStep two c) (subStep (mulStep psi p) p) ≡ true → isZeroPattern (minus c) ≡ false
+    changed-nonzero e =
         elim (other-number (value p) i h) [
           | inl n ↦ not-both (sym e ∙ none-recomposed p c (ap isFinite n))
           | inr n ↦ let o = factors-of x y (n .0) (n .1) (n .2) in at (o .s) (o .t) (o .a) (o .b) (o .xi) (o .yi) (o .xr) (o .yr) (o .xb) (o .yb) (o .fine) (rw (← o .is) (n .3))
@@ -106,5 +106,5 @@ module _ (x y : ℕ) where
             fma-decodes x y (minus p) ∙ ap₂ (λ (u w : Value). fmaValue binary32 u w (value (minus p))) xi yi
             ∙ ap (fmaValue binary32 (finite s a) (finite t b)) (minus-value p (mul-width x y) ∙ ap negate ai)
             in
-            let k = turned-rest p c r (whole binary32 a b xr yr least .0) A ai (omega (arith, big)) (rw ci (product-split binary32 a b xr yr least s t fine)) e in
+            let k = changed-rest p c r (whole binary32 a b xr yr least .0) A ai (omega (arith, big)) (rw ci (product-split binary32 a b xr yr least s t fine)) e in
             power (k .0) (k .1) (k .2)

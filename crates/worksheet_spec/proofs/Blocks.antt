@@ -115,15 +115,18 @@ no-difference (infinite false) h = refl
 no-difference (infinite true) h = refl
 no-difference (finite s a) h = absurd (subst (λ (b : Bool). T b) h tt)
 
-pub recomposition-none : (a b : ℕ) → isFinite (value a) ≡ false → (recomposition a b .first ≡ a) × (recomposition a b .second ≡ b)
-unfolding recomposition
-recomposition-none a b h =
+-- so that e = d is false
+pub none-recomposed : (a b : ℕ) → isFinite (value a) ≡ false → equal (mulStep two b) (subStep (mulStep psi a) a) ≡ false
+none-recomposed a b h =
     let z = mulStep psi a in
     let d = subStep z a in
     let di : value d ≡ nan = sub-decodes z a ∙ ap (λ (v : Value). subValue binary32 v (value a)) (mul-decodes psi a ∙ ap (λ (v : Value). mulValue binary32 v (value a)) psi-value)
     ∙ no-difference (value a) h in
-    let c : equal (mulStep two b) d ≡ false = ap (same (value (mulStep two b))) di ∙ same-nan (value (mulStep two b)) in
-    rw c (refl, refl)
+    ap (same (value (mulStep two b))) di ∙ same-nan (value (mulStep two b))
+
+pub recomposition-none : (a b : ℕ) → isFinite (value a) ≡ false → (recomposition a b .first ≡ a) × (recomposition a b .second ≡ b)
+unfolding recomposition
+recomposition-none a b h = rw (none-recomposed a b h) (refl, refl)
 
 pub recomposed-none : (a b : ℕ) → isFinite (value a) ≡ false → isZeroPattern b ≡ false → (recomposedFinished a b .first ≡ a) × (recomposedFinished a b .second ≡ b)
 unfolding recomposedFinished

@@ -1,3 +1,4 @@
+pub mod Computed
 pub mod Patterns
 pub mod Constants
 pub mod TinyResults
@@ -5,6 +6,7 @@ pub mod Foots
 pub mod Blocks
 pub mod Sums
 pub mod Products
+pub mod FiniteProduct
 pub mod ProductSheet
 pub mod EachLine
 pub mod Derivation

@@ -1,38 +1,36 @@
 -- The steps of a product's lines, in order, branch by branch.
 use mathlib.Core.Path.{_≡_, refl, sym, ap, ap₂, _∙_, subst}
 use mathlib.Core.Logic.{_⊎_, inl, inr}
-use mathlib.Core.Bool.{Bool, true, false, not, cond, _&&_}
+use mathlib.Core.Bool.{Bool, true, false, not, cond}
 use mathlib.Core.List.{List, [], _∷_, _++_}
-use Prim.Native.Nat.{ℕ, _+_, _-_, _*_, _^_, _≤_, _<_}
+use Prim.Native.Nat.{ℕ, _+_, _-_, _^_, _≤_, _<_}
 use native.Mathlib.Nat.{le-refl, mul-one}
 use native.Mathlib.Omega.{arith}
 use borrow.Author.Tests.{eq-eqb, ne-eqb, lt-ltb, le-ltb, le-leb, lt-leb}
 use lib.Dec.{T}
-use lib.Ieee.{unlike}
-use Rattle.rounding_spec.specs.declared.Ties.the-variants.{ToEven}
 use Rattle.rounding_spec.specs.Format.{binary32, limit}
 use Rattle.rounding_spec.specs.Nearest.{dist}
 use Rattle.rounding_spec.specs.Value.{Value, nan, infinite, finite, Fits, isFinite, isZero}
 use Rattle.rounding_spec.proofs.Representable.{rep-lt}
-use Rattle.rounding_spec.proofs.RoundValue.{round-finite}
 use Rattle.rounding_spec.proofs.Codec.{decode-fits}
 use Rattle.binary32_spec.specs.Steps.{subValue, fmaValue, subStep, mulStep, fmaStep}
-use Rattle.binary32_spec.proofs.Theorems.{sub-decodes, mul-decodes, fma-decodes}
+use Rattle.binary32_spec.proofs.Theorems.{sub-decodes, fma-decodes}
 use Rattle.errorfree_spec.specs.Comparisons.{same}
-use Rattle.errorfree_spec.proofs.NoNumber.{not-both, number-of, both-of, mul-none, fma-nan}
+use Rattle.errorfree_spec.proofs.NoNumber.{not-both, fma-nan}
 use Rattle.errorfree_spec.proofs.Signed.{Is, rel-own, same-eq}
-use Rattle.errorfree_spec.proofs.Steps.{toEven, is-sub}
+use Rattle.errorfree_spec.proofs.Steps.{is-sub}
 use Rattle.errorfree_spec.proofs.Theorems.{same-means}
 use Rattle.worksheet_spec.specs.Constants.{half, plusZero, smallest}
 use Rattle.pattern_spec.specs.Classes.{copySign}
-use Rattle.worksheet_spec.specs.Lines.{Step, add, subtract, multiply, fused, Line, line, Sheet, before, value, minus, equal, isZeroPattern}
+use Rattle.worksheet_spec.specs.Lines.{Step, subtract, multiply, fused, Line, line, Sheet, before, value, minus, equal, isZeroPattern}
 use Rattle.worksheet_spec.specs.Sheets.{Branch, whenInfinite, whenZero, whenTiny, whenMiddle, otherwise, recomposition, zeroFinish, infiniteProduct, lowered, lowering, tinyProduct, scaledDown}
 use Rattle.worksheet_spec.specs.Sheets.{middleProduct, otherProduct, branchOf, productBy, productSheet}
 use Rattle.worksheet_spec.specs.Theorems.{stepsOf, recompositionSteps, finishStep, edgeSteps, tinySteps, middleSteps, ProductSteps}
 use Rattle.worksheet_spec.proofs.Patterns.{mul-width, minus-nan, sign-value}
 use Rattle.worksheet_spec.proofs.Constants.{smallest-value}
 use Rattle.worksheet_spec.proofs.TinyResults as tiny
-use Rattle.worksheet_spec.proofs.Products.{first, β, tie, corrected, p-value, corrected-nonzero, first-number}
+use Rattle.worksheet_spec.proofs.Products.{first, β, tie, corrected, corrected-nonzero, first-number}
+use Rattle.worksheet_spec.proofs.FiniteProduct.{factors-of}
 use Rattle.worksheet_spec.proofs.SumSteps.{finish-steps, recomposed-steps, edge-steps, finish-zero, recomposed-zero, recomposed-none-steps, edge-told}
 
 one-less : (m W : ℕ) → m < W → m - 1 < W
@@ -66,7 +64,7 @@ module _ (x y : ℕ) where
   abbrev p : ℕ
   p = mulStep x y
 
-  sheet-by : (k : Branch) → branchOf (value p) ≡ k → productSheet x y ≡ before (line multiply x y p ∷ []) (productBy k x y p)
+  pub sheet-by : (k : Branch) → branchOf (value p) ≡ k → productSheet x y ≡ before (line multiply x y p ∷ []) (productBy k x y p)
   unfolding productSheet
   sheet-by k e = ap (λ (i : Branch). before (line multiply x y p ∷ []) (productBy i x y p)) e
 
@@ -131,25 +129,12 @@ module _ (x y : ℕ) where
         by false = refl
 
     -- ---- the middle: its operands are finite, so that a correction leaves no zero, and first is finite
-    middle-facts : 2 ^ 24 ≤ m → m ≤ 2 ^ 47 → (tie x y ≡ true → isZeroPattern (corrected x y) ≡ false) × (isFinite (value (first x y)) ≡ true)
-    unfolding Fits
-    middle-facts lo hi = by (isFinite (value x) && isFinite (value y)) refl
-      where
-        by : (i : Bool) → isFinite (value x) && isFinite (value y) ≡ i → (tie x y ≡ true → isZeroPattern (corrected x y) ≡ false) × (isFinite (value (first x y)) ≡ true)
-        by false n = not-both (sym (ap isFinite e) ∙ ap isFinite (mul-decodes x y) ∙ mul-none binary32 (value x) (value y) n)
-        by true n =
-            let h = both-of (isFinite (value x)) (isFinite (value y)) n in
-            let u = number-of (value x) (h .0) in
-            let w = number-of (value y) (h .1) in
-            let f = subst (Fits binary32) (u .2) (decode-fits binary32 (omega arith) x) in
-            let g = subst (Fits binary32) (w .2) (decode-fits binary32 (omega arith) y) in
-            let q = subst (Fits binary32) e (decode-fits binary32 (omega arith) p) in
-            let r = unlike (u .0) (w .0) in
-            let a-is : m ≡ toEven binary32 (u .1 * w .1) = round-finite ToEven binary32 r (u .1 * w .1) s m
-            (sym (p-value x y (u .0) (w .0) (u .1) (w .1) (u .2) (w .2) (f .0) (g .0) (f .1) (g .1)) ∙ e) in (
-              corrected-nonzero x y (u .0) (w .0) (u .1) (w .1) (u .2) (w .2) (f .0) (g .0) (f .1) (g .1) (rw (← a-is) (q .1)) (rw (← a-is) lo) (rw (← a-is) hi),
-              first-number x y (u .0) (w .0) (u .1) (w .1) (u .2) (w .2) (f .0) (g .0) (f .1) (g .1) (rw (← a-is) (q .1)) (rw (← a-is) lo) (rw (← a-is) hi),
-            )
+    pub middle-facts : 2 ^ 24 ≤ m → m ≤ 2 ^ 47 → (tie x y ≡ true → isZeroPattern (corrected x y) ≡ false) × (isFinite (value (first x y)) ≡ true)
+    middle-facts lo hi =
+        let o = factors-of x y s m e in (
+          corrected-nonzero x y (o .s) (o .t) (o .a) (o .b) (o .xi) (o .yi) (o .xr) (o .yr) (o .xb) (o .yb) (o .fine) (rw (← o .is) lo) (rw (← o .is) hi),
+          first-number x y (o .s) (o .t) (o .a) (o .b) (o .xi) (o .yi) (o .xr) (o .yr) (o .xb) (o .yb) (o .fine) (rw (← o .is) lo) (rw (← o .is) hi),
+        )
 
     middle-steps : stepsOf (middleProduct x y .lines) ≡ middleSteps ++ cond (tie x y) (subtract ∷ []) [] ++ cond (isZeroPattern (corrected x y)) finishStep []
     unfolding middleProduct recomposition scaledDown

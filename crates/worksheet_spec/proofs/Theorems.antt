@@ -16,9 +16,10 @@ use Rattle.worksheet_spec.specs.Constants.{psi, two, half, kappa, twoTo2
 use Rattle.worksheet_spec.specs.Lines.{mostLines, Step, add, subtract, multiply, fused, Line, line, value, minus, equal, isZeroPattern}
 use Rattle.worksheet_spec.specs.Sheets.{sumInOrder, swaps, sumSheet, productSheet, sheetOf}
 use Rattle.worksheet_spec.specs.Theorems.{positivePattern, ConstantPatterns, StepNumbers, EachLine, Derived, FirstLine, stepsOf, recompositionSteps, finishStep, edgeSteps, openingSteps}
-use Rattle.worksheet_spec.specs.Theorems.{halvedSteps, sumSteps, tinySteps, middleSteps, ProductSteps, InOrder, LineCount, FootIsPair, SheetSizes, FillingRefused, SheetFilled, FilledPair}
-use Rattle.worksheet_spec.specs.Theorems.{All}
+use Rattle.worksheet_spec.specs.Theorems.{halvedSteps, sumSteps, tinySteps, middleSteps, ProductSteps, InOrder, LineCount}
+use Rattle.worksheet_spec.specs.Theorems.{FootIsPair, PrintedSheet, SheetSizes, FillingRefused, SheetFilled, FilledPair, All}
 use Rattle.worksheet_spec.proofs.Patterns.{Pattern, pattern-of}
+use Rattle.worksheet_spec.proofs.Computed as computed
 use Rattle.worksheet_spec.proofs.EachLine as lines
 use Rattle.worksheet_spec.proofs.Derived as derivation
 use Rattle.worksheet_spec.proofs.FootIsPair as feet
@@ -141,6 +142,9 @@ line-count product x y =
 pub foot-is-pair : FootIsPair
 foot-is-pair = feet.foot-is-pair
 
+pub printed-sheet : PrintedSheet
+printed-sheet = computed.printed-sheet
+
 -- ---- filling
 pub sheet-sizes : SheetSizes
 sheet-sizes = (refl, refl, refl)
@@ -155,4 +159,4 @@ pub filled-pair : FilledPair
 filled-pair = answers.filled-pair
 
 pub all : All
-all = (constant-patterns, step-numbers, each-line, derived, first-line, in-order, line-count, foot-is-pair, sheet-sizes, filling-refused, sheet-filled, filled-pair)
+all = (constant-patterns, step-numbers, each-line, derived, first-line, in-order, line-count, foot-is-pair, printed-sheet, sheet-sizes, filling-refused, sheet-filled, filled-pair)

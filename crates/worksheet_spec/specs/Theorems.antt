@@ -14,7 +14,7 @@ use Rattle.errorfree_spec.specs.Comparisons.{lessMagnitude}
 use Rattle.worksheet_spec.specs.Constants.{psi, two, minusTwo, half, kappa, twoTo24, twoTo48, twoToMinus24, plusZero, smallest}
 use Rattle.worksheet_spec.specs.Constants.{twoTo127, twoTo102, twoToMinus102, twoToMinus126}
 use Rattle.worksheet_spec.specs.Lines.{lineSize, mostLines, sheetSize, Step, add, subtract, multiply, fused, stepNumber}
-use Rattle.worksheet_spec.specs.Lines.{Line, line, Gives, value, minus, equal, isZeroPattern}
+use Rattle.worksheet_spec.specs.Lines.{Line, line, Gives, before, ends, value, minus, equal, isZeroPattern}
 use Rattle.worksheet_spec.specs.Sheets.{sheetOf}
 use Rattle.worksheet_spec.specs.Filling.{filled, filling, afterFilling, HasDirectPair}
 
@@ -156,6 +156,20 @@ FootIsPair =
     (o : Operation) (x y : ℕ) → let s = sheetOf o x y in let p = directPair o binary32 x y in
     (s .first ≡ p .first) × (s .second ≡ p .second)
 
+-- ---- one sheet in full, the one of R9.11: its six lines and its foot
+abbrev pub PrintedSheet : Type 0
+PrintedSheet =
+    sheetOf sum 0x3f80_0001 0x3380_0000
+    ≡ before
+    (line add 0x3f80_0001 0x3380_0000 0x3f80_0002
+    ∷ line subtract 0x3f80_0002 0x3f80_0001 0x3400_0000
+    ∷ line subtract 0x3380_0000 0x3400_0000 0xb380_0000
+    ∷ line multiply 0x3f7f_ffff 0x3f80_0002 0x3f80_0001
+    ∷ line subtract 0x3f80_0001 0x3f80_0002 0xb400_0000
+    ∷ line multiply 0x4000_0000 0xb380_0000 0xb400_0000
+    ∷ [])
+    (ends 0x3f80_0001 0x3380_0000)
+
 -- ---- filling
 -- its refusals, in their order (R8.2, R8.5); they leave the words as they were (R8.1)
 abbrev pub FillingRefused : Type 0
@@ -184,5 +198,5 @@ FilledPair = (o x y : ℕ) (words : List ℕ) → HasDirectPair o x y (filling o
 -- ---- all of them
 abbrev pub All : Type 0
 All =
-    ConstantPatterns × StepNumbers × EachLine × Derived × FirstLine × InOrder × LineCount × FootIsPair × SheetSizes
-    × FillingRefused × SheetFilled × FilledPair
+    ConstantPatterns × StepNumbers × EachLine × Derived × FirstLine × InOrder × LineCount × FootIsPair × PrintedSheet
+    × SheetSizes × FillingRefused × SheetFilled × FilledPair

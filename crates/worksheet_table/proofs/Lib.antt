@@ -1,0 +1,10 @@
+pub mod Computed
+pub mod Told
+pub mod Sums
+pub mod Changed
+pub mod NoTie
+pub mod Branches
+pub mod Excluded
+pub mod Products
+pub mod Counts
+pub mod Theorems

@@ -10,9 +10,10 @@ use Rattle.accumulator_spec.proofs.ReadTotal.{read-zero}
 use Rattle.question_spec.specs.Questions as questions
 use Rattle.transcript_spec.specs.Texts.{decimalUpTo, badText, endText}
 use Rattle.sheet_spec.specs.Printed.{linesFrom, lineText, afterLine, afterLines, linesText, readText, closingText, output}
-use Rattle.sheet_spec.specs.Theorems.{SheetLimits, ByteByByte, AnyReads, NothingAfterStop, NeverRefused, LineTerms, TotalTakesAll, EmptyInput, TwoBadLines, All}
+use Rattle.sheet_spec.specs.Theorems.{SheetLimits, ByteByByte, AnyReads, NothingAfterStop, NeverRefused, LineTerms, TotalTakesAll, EmptyInput, TwoBadLines, PrintedExample, All}
 use Rattle.sheet_spec.proofs.Bytes as bytes
 use Rattle.sheet_spec.proofs.Totals as totals
+use Rattle.sheet_spec.proofs.Example as example
 
 pub byte-by-byte : ByteByByte
 byte-by-byte = bytes.byte-by-byte
@@ -42,6 +43,9 @@ pub two-bad-lines : TwoBadLines
 unfolding output linesFrom linesText lineText afterLines afterLine closingText questions.readQuestion column badText decimalUpTo
 two-bad-lines = ap (λ (a : Answer TwoPatterns). badText 1 1 ++ (badText 2 1 ++ (readText a ++ endText 0 2))) cleared
 
+pub printed-example : PrintedExample
+printed-example = example.printed-example
+
 pub line-terms : LineTerms
 line-terms = totals.line-terms
 
@@ -49,4 +53,4 @@ pub sheet-limits : SheetLimits
 sheet-limits = (refl, refl, refl, refl)
 
 pub all : All
-all = (byte-by-byte, any-reads, nothing-after-stop, never-refused, line-terms, total-takes-all, sheet-limits, empty-input, two-bad-lines)
+all = (byte-by-byte, any-reads, nothing-after-stop, never-refused, line-terms, total-takes-all, sheet-limits, empty-input, two-bad-lines, printed-example)

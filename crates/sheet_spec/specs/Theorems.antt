@@ -75,5 +75,26 @@ EmptyInput = output [] ≡ totalText 0 0 ++ endText 0 0
 abbrev pub TwoBadLines : Type 0
 TwoBadLines = output (ascii "x\nx") ≡ badText 1 1 ++ (badText 2 1 ++ (totalText 0 0 ++ endText 0 2))
 
+-- ---- R9.11: a question's input, whose one line may end without a newline (R9.1), and all that it prints
+abbrev pub exampleQuestion : List ℕ
+exampleQuestion = ascii "sum\t3F800001\t33800000"
+
+abbrev pub exampleText : List ℕ
+exampleText =
+    ascii "ask\t1\tsum\t3F800001\t33800000\n"
+    ++ (ascii "step\t1\tadd\t3F800001\t33800000\t-\t3F800002\n"
+    ++ (ascii "step\t2\tsub\t3F800002\t3F800001\t-\t34000000\n"
+    ++ (ascii "step\t3\tsub\t33800000\t34000000\t-\tB3800000\n"
+    ++ (ascii "step\t4\tmul\t3F7FFFFF\t3F800002\t-\t3F800001\n"
+    ++ (ascii "step\t5\tsub\t3F800001\t3F800002\t-\tB4000000\n"
+    ++ (ascii "step\t6\tmul\t40000000\tB3800000\t-\tB4000000\n"
+    ++ (ascii "pair\t3F800001\t33800000\t-\n"
+    ++ (ascii "total\t3F800001\t33800000\n"
+    ++ ascii "end\t1\t0\n"))))))))
+
+abbrev pub PrintedExample : Type 0
+PrintedExample = (output (exampleQuestion ++ ascii "\n") ≡ exampleText) × (output exampleQuestion ≡ exampleText)
+
 abbrev pub All : Type 0
 All = ByteByByte × AnyReads × NothingAfterStop × NeverRefused × LineTerms × TotalTakesAll × SheetLimits × EmptyInput × TwoBadLines
+    × PrintedExample

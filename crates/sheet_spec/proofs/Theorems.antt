@@ -10,9 +10,10 @@ use Rattle.accumulator_spec.proofs.ReadTotal.{read-zero}
 use Rattle.question_spec.specs.Questions as questions
 use Rattle.transcript_spec.specs.Texts.{decimalUpTo, badText, endText}
 use Rattle.sheet_spec.specs.Printed.{linesFrom, lineText, afterLine, afterLines, linesText, readText, closingText, output}
-use Rattle.sheet_spec.specs.Theorems.{SheetLimits, ByteByByte, AnyReads, NothingAfterStop, NeverRefused, LineTerms, TotalTakesAll, EmptyInput, TwoBadLines, PrintedExample, All}
+use Rattle.sheet_spec.specs.Theorems.{ByteByByte, AnyReads, NothingAfterStop, NeverRefused, LineTerms, TotalTakesAll, LinesAre, WithinLimit, PastLimit, SheetLimits, EmptyInput, TwoBadLines, PrintedExample, All}
 use Rattle.sheet_spec.proofs.Bytes as bytes
 use Rattle.sheet_spec.proofs.Totals as totals
+use Rattle.sheet_spec.proofs.Limit as limit
 use Rattle.sheet_spec.proofs.Example as example
 
 pub byte-by-byte : ByteByByte
@@ -49,8 +50,17 @@ printed-example = example.printed-example
 pub line-terms : LineTerms
 line-terms = totals.line-terms
 
+pub lines-are : LinesAre
+lines-are = limit.lines-are
+
+pub within-limit : WithinLimit
+within-limit = limit.within-limit
+
+pub past-limit : PastLimit
+past-limit = limit.past-limit
+
 pub sheet-limits : SheetLimits
 sheet-limits = (refl, refl, refl, refl)
 
 pub all : All
-all = (byte-by-byte, any-reads, nothing-after-stop, never-refused, line-terms, total-takes-all, sheet-limits, empty-input, two-bad-lines, printed-example)
+all = (byte-by-byte, any-reads, nothing-after-stop, never-refused, line-terms, total-takes-all, lines-are, within-limit, past-limit, sheet-limits, empty-input, two-bad-lines, printed-example)

@@ -1,20 +1,24 @@
 -- What holds of what is printed. Each name is a statement; proofs/Theorems.antt has its proof.
-use Prim.Native.Nat.{ℕ, _≤_}
+use Prim.Native.Nat.{ℕ, _+_, _≤_, _<_}
 use mathlib.Core.Path.{_≡_}
-use mathlib.Core.Bool.{true, false}
+use mathlib.Core.Logic.{_≢_}
+use mathlib.Core.Bool.{true, false, cond}
 use mathlib.Core.List.{List, [], _∷_, _++_}
+use lib.Dec.{eqb}
 use lib.ListN.{length}
 use Rattle.pattern_spec.specs.Answer.{refused, isDone}
 use Rattle.pattern_spec.specs.Classes.{bothFinite}
 use Rattle.rounding_spec.specs.Format.{binary32}
+use Rattle.rounding_spec.specs.Value.{encode}
+use Rattle.augmented_spec.specs.Pairs.{pairOf}
 use Rattle.augmented_spec.specs.Direct.{directPair, operationOf}
 use Rattle.worksheet_spec.specs.Filling.{filling}
 use Rattle.question_spec.specs.Ascii.{ascii}
 use Rattle.question_spec.specs.Questions.{asked, readQuestion}
 use Rattle.transcript_spec.specs.Texts.{lineRoom, badText, totalText, endText}
-use Rattle.accumulator_spec.specs.Totals.{zeros, number, Term, ofPattern, FitTotal}
+use Rattle.accumulator_spec.specs.Totals.{zeros, number, Term, ofPattern, FitTotal, exactNumber}
 use Rattle.accumulator_spec.specs.Columns.{column, Accepted, columnSum}
-use Rattle.sheet_spec.specs.Printed.{blank, lineTerms, start, afterLines, mostInputLines, output}
+use Rattle.sheet_spec.specs.Printed.{blank, linesOf, lineTerms, start, afterLines, linesText, mostInputLines, output}
 use Rattle.sheet_spec.specs.Calls.{lastRoom}
 use Rattle.sheet_spec.specs.States.{keptBytes, State, begin, takeBytes, bytesText, closeText}
 
@@ -63,6 +67,54 @@ TotalTakesAll =
     (lines : List (List ℕ)) → length lines ≤ mostInputLines → let total = afterLines start lines .total in
     Accepted zeros (termsOf lines) × (total ≡ column zeros (termsOf lines)) × (number total ≡ columnSum (termsOf lines)) × FitTotal total
 
+-- ---- lines, told from the input's bytes (R9.1): each newline ends one, and so does the input's last byte
+unfoldable pub newlines : List ℕ → ℕ
+newlines [] = 0
+newlines (b ∷ bs) = cond (eqb b 10) 1 0 + newlines bs
+
+-- lines, each with a newline behind it, make these bytes
+unfoldable pub withNewlines : List (List ℕ) → List ℕ
+withNewlines [] = []
+withNewlines (l ∷ ls) = l ++ (10 ∷ withNewlines ls)
+
+unfoldable pub NoNewline : List (List ℕ) → Type 0
+NoNewline [] = Unit {0}
+NoNewline (l ∷ ls) = (newlines l ≡ 0) × NoNewline ls
+
+-- an input that ends in a newline is its lines, none of which has one within; a newline that is missing there makes no difference
+abbrev pub LinesAre : Type 0
+LinesAre =
+    (front : List ℕ)
+    → (withNewlines (linesOf (front ++ (10 ∷ []))) ≡ front ++ (10 ∷ []))
+    × NoNewline (linesOf (front ++ (10 ∷ [])))
+    × ((b : ℕ) → b ≢ 10 → linesOf (front ++ (b ∷ [])) ≡ linesOf (front ++ (b ∷ 10 ∷ [])))
+
+-- ---- how many lines are good, and how many are not (R9.9)
+unfoldable pub goodLines : List (List ℕ) → ℕ
+goodLines [] = 0
+goodLines (l ∷ ls) = cond (isDone (readQuestion l)) 1 0 + goodLines ls
+
+unfoldable pub badLines : List (List ℕ) → ℕ
+badLines [] = 0
+badLines (l ∷ ls) = cond (isDone (readQuestion l)) 0 1 + badLines ls
+
+-- ---- the limit, from both sides (R8.11). An input of up to 32,768 lines: fewer newlines than that stand before its last byte, whatever
+-- this is. It prints the texts of its lines, the exact sum of their terms, rounded once (R6.5), and both counts.
+abbrev pub WithinLimit : Type 0
+WithinLimit =
+    (front : List ℕ) (b : ℕ) → newlines front < 32768 → let lines = linesOf (front ++ (b ∷ [])) in
+    let total = pairOf binary32 (exactNumber (columnSum (termsOf lines))) in
+    (output (front ++ (b ∷ []))
+    ≡ linesText start lines
+    ++ (totalText (encode binary32 (total .first)) (encode binary32 (total .second)) ++ endText (goodLines lines) (badLines lines)))
+    × (goodLines lines + badLines lines ≡ newlines front + 1)
+
+-- A byte after the 32,768th newline, any one: the texts of the lines before it, and `stop`, whatever follows.
+abbrev pub PastLimit : Type 0
+PastLimit =
+    (front : List ℕ) (b : ℕ) (after : List ℕ) → newlines front ≡ 32767
+    → output (front ++ (10 ∷ b ∷ after)) ≡ linesText start (linesOf (front ++ (10 ∷ []))) ++ ascii "stop\t11\n"
+
 -- ---- how many lines are taken (R8.11), bytes of a line are kept, and bytes are room for a line's text and the last two lines
 abbrev pub SheetLimits : Type 0
 SheetLimits = (mostInputLines ≡ 32768) × (keptBytes ≡ 22) × (lineRoom ≡ 680) × (lastRoom ≡ 740)
@@ -96,5 +148,5 @@ abbrev pub PrintedExample : Type 0
 PrintedExample = (output (exampleQuestion ++ ascii "\n") ≡ exampleText) × (output exampleQuestion ≡ exampleText)
 
 abbrev pub All : Type 0
-All = ByteByByte × AnyReads × NothingAfterStop × NeverRefused × LineTerms × TotalTakesAll × SheetLimits × EmptyInput × TwoBadLines
-    × PrintedExample
+All = ByteByByte × AnyReads × NothingAfterStop × NeverRefused × LineTerms × TotalTakesAll × LinesAre × WithinLimit
+    × PastLimit × SheetLimits × EmptyInput × TwoBadLines × PrintedExample

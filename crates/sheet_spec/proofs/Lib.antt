@@ -1,6 +1,7 @@
 pub mod Lines
 pub mod Bytes
 pub mod Totals
+pub mod LineTexts
 pub mod Limit
 pub mod Example
 pub mod Theorems

@@ -6,7 +6,7 @@ use mathlib.Core.List.{List, [], _∷_, _++_, append-assoc}
 use Prim.Native.Nat.{ℕ, suc, _+_, _-_, _≤_, _<_}
 use native.Mathlib.Omega.{arith}
 use borrow.Author.Tests.{le-leb, lt-leb, ne-eqb, eqb-true}
-use lib.Dec.{eqb, leb}
+use lib.Dec.{eqb}
 use lib.ListN.{length, take, length-append}
 use lib.Seq.{take-at}
 use Rattle.pattern_spec.specs.Answer.{Answer, isDone}
@@ -17,8 +17,8 @@ use Rattle.accumulator_spec.specs.Columns.{columnSum}
 use Rattle.accumulator_spec.proofs.ReadTotal.{read-column}
 use Rattle.question_spec.specs.Questions.{readQuestion}
 use Rattle.transcript_spec.specs.Texts.{stopText, endText}
-use Rattle.sheet_spec.specs.Printed.{linesFrom, linesOf, Progress, start, afterLine, afterLines, linesText, readText, closingText, mostInputLines, output}
-use Rattle.sheet_spec.specs.Theorems.{newlines, withNewlines, NoNewline, LinesAre, termsOf, goodLines, badLines, WithinLimit, PastLimit}
+use Rattle.sheet_spec.specs.Printed.{linesFrom, linesOf, lineText, Progress, start, afterLine, afterLines, linesText, readText, closingText, mostInputLines, output}
+use Rattle.sheet_spec.specs.Theorems.{newlines, withNewlines, NoNewline, LinesAre, termsOf, textsFrom, goodLines, badLines, WithinLimit, PastLimit}
 use Rattle.sheet_spec.proofs.Lines.{first-line}
 use Rattle.sheet_spec.proofs.Totals.{all-terms, total-is}
 
@@ -109,6 +109,11 @@ module _ (lines : List (List ℕ)) (most : length lines ≤ mostInputLines) wher
   unfolding closingText
   closes = ap₂ (λ (a : Answer TwoPatterns) (t : List ℕ). readText a ++ t) total-reads (ap₂ endText all-good bad-left)
 
+numbered : (ls : List (List ℕ)) (p : Progress) → linesText p ls ≡ textsFrom (suc (p .lines)) ls
+unfolding linesText textsFrom afterLine
+numbered [] p = refl
+numbered (l ∷ ls) p = ap (λ (t : List ℕ). lineText (suc (p .lines)) (readQuestion l) ++ t) (numbered ls (afterLine p l))
+
 output-within : (input : List ℕ) → length (linesOf input) ≤ mostInputLines → output input ≡ linesText start (linesOf input) ++ closingText (afterLines start (linesOf input))
 unfolding output
 output-within input h = rw (le-leb (length (linesOf input)) mostInputLines h)
@@ -118,7 +123,7 @@ within-limit front b h =
     let n = line-count front [] b in
     let lines = linesOf (front ++ (b ∷ [])) in
     let most : length lines ≤ mostInputLines = omega (arith, n) in
-    (output-within (front ++ (b ∷ [])) most ∙ ap (λ (t : List ℕ). linesText start lines ++ t) (closes lines most), good-and-bad lines ∙ n)
+    (output-within (front ++ (b ∷ [])) most ∙ ap₂ {C = List ℕ} _++_ (numbered lines start) (closes lines most), good-and-bad lines ∙ n)
 
 -- ---- more
 output-past : (input : List ℕ) → mostInputLines < length (linesOf input) → output input ≡ linesText start (take mostInputLines (linesOf input)) ++ stopText
@@ -145,3 +150,4 @@ past-limit front b after h =
     let split : linesOf (front ++ (10 ∷ b ∷ after)) ≡ taken ++ (s .0 ∷ s .1) = lines-split front [] (b ∷ after) ∙ ap (λ (ls : List (List ℕ)). taken ++ ls) (s .2) in
     output-past (front ++ (10 ∷ b ∷ after)) (omega (arith, n, ap length split, length-append taken (s .0 ∷ s .1)))
     ∙ ap (λ (ls : List (List ℕ)). linesText start ls ++ stopText) (ap (take mostInputLines) split ∙ take-at taken (s .0 ∷ s .1) mostInputLines n)
+    ∙ ap (λ (t : List ℕ). t ++ stopText) (numbered taken start)

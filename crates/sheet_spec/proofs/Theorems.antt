@@ -10,9 +10,11 @@ use Rattle.accumulator_spec.proofs.ReadTotal.{read-zero}
 use Rattle.question_spec.specs.Questions as questions
 use Rattle.transcript_spec.specs.Texts.{decimalUpTo, badText, endText}
 use Rattle.sheet_spec.specs.Printed.{linesFrom, lineText, afterLine, afterLines, linesText, readText, closingText, output}
-use Rattle.sheet_spec.specs.Theorems.{ByteByByte, AnyReads, NothingAfterStop, NeverRefused, LineTerms, TotalTakesAll, LinesAre, WithinLimit, PastLimit, SheetLimits, EmptyInput, TwoBadLines, PrintedExample, All}
+use Rattle.sheet_spec.specs.Theorems.{ByteByByte, AnyReads, NothingAfterStop, NeverRefused, LineTexts, LineTerms, TotalTakesAll}
+use Rattle.sheet_spec.specs.Theorems.{LinesAre, WithinLimit, PastLimit, SheetLimits, EmptyInput, TwoBadLines, PrintedExample, All}
 use Rattle.sheet_spec.proofs.Bytes as bytes
 use Rattle.sheet_spec.proofs.Totals as totals
+use Rattle.sheet_spec.proofs.LineTexts as texts
 use Rattle.sheet_spec.proofs.Limit as limit
 use Rattle.sheet_spec.proofs.Example as example
 
@@ -27,6 +29,12 @@ nothing-after-stop = bytes.nothing-after-stop
 
 pub never-refused : NeverRefused
 never-refused = totals.never-refused
+
+pub line-texts : LineTexts
+line-texts = texts.line-texts
+
+pub line-terms : LineTerms
+line-terms = totals.line-terms
 
 pub total-takes-all : TotalTakesAll
 total-takes-all = totals.total-takes-all
@@ -47,9 +55,6 @@ two-bad-lines = ap (λ (a : Answer TwoPatterns). badText 1 1 ++ (badText 2 1 ++ 
 pub printed-example : PrintedExample
 printed-example = example.printed-example
 
-pub line-terms : LineTerms
-line-terms = totals.line-terms
-
 pub lines-are : LinesAre
 lines-are = limit.lines-are
 
@@ -63,4 +68,19 @@ pub sheet-limits : SheetLimits
 sheet-limits = (refl, refl, refl, refl)
 
 pub all : All
-all = (byte-by-byte, any-reads, nothing-after-stop, never-refused, line-terms, total-takes-all, lines-are, within-limit, past-limit, sheet-limits, empty-input, two-bad-lines, printed-example)
+all = (
+  byte-by-byte,
+  any-reads,
+  nothing-after-stop,
+  never-refused,
+  line-texts,
+  line-terms,
+  total-takes-all,
+  lines-are,
+  within-limit,
+  past-limit,
+  sheet-limits,
+  empty-input,
+  two-bad-lines,
+  printed-example,
+)

@@ -1,5 +1,5 @@
 -- What holds of what is printed. Each name is a statement; proofs/Theorems.antt has its proof.
-use Prim.Native.Nat.{ℕ, _+_, _≤_, _<_}
+use Prim.Native.Nat.{ℕ, suc, _+_, _≤_, _<_}
 use mathlib.Core.Path.{_≡_}
 use mathlib.Core.Logic.{_≢_}
 use mathlib.Core.Bool.{true, false, cond}
@@ -12,13 +12,15 @@ use Rattle.rounding_spec.specs.Format.{binary32}
 use Rattle.rounding_spec.specs.Value.{encode}
 use Rattle.augmented_spec.specs.Pairs.{pairOf}
 use Rattle.augmented_spec.specs.Direct.{directPair, operationOf}
-use Rattle.worksheet_spec.specs.Filling.{filling}
+use Rattle.worksheet_spec.specs.Lines.{Line}
+use Rattle.worksheet_spec.specs.Sheets.{sheetOf}
+use Rattle.worksheet_spec.specs.Filling.{lineWords, filling}
 use Rattle.question_spec.specs.Ascii.{ascii}
 use Rattle.question_spec.specs.Questions.{asked, readQuestion}
-use Rattle.transcript_spec.specs.Texts.{lineRoom, badText, totalText, endText}
+use Rattle.transcript_spec.specs.Texts.{lineRoom, decimal, lineOf, stepText, pairText, badText, totalText, endText}
 use Rattle.accumulator_spec.specs.Totals.{zeros, number, Term, ofPattern, FitTotal, exactNumber}
 use Rattle.accumulator_spec.specs.Columns.{column, Accepted, columnSum}
-use Rattle.sheet_spec.specs.Printed.{blank, linesOf, lineTerms, start, afterLines, linesText, mostInputLines, output}
+use Rattle.sheet_spec.specs.Printed.{blank, linesOf, lineText, lineTerms, start, afterLines, mostInputLines, output}
 use Rattle.sheet_spec.specs.Calls.{lastRoom}
 use Rattle.sheet_spec.specs.States.{keptBytes, State, begin, takeBytes, bytesText, closeText}
 
@@ -46,6 +48,28 @@ NothingAfterStop =
 -- ---- no question that is read is refused when its sheet is filled
 abbrev pub NeverRefused : Type 0
 NeverRefused = (line : List ℕ) (o x y : ℕ) → readQuestion line ≡ asked o x y → isDone (filling o x y blank) ≡ true
+
+-- ---- what a line prints
+-- a `step` for each line of a sheet, in order, from this number on (R9.5)
+unfoldable pub sheetText : ℕ → List Line → List ℕ
+sheetText number [] = []
+sheetText number (l ∷ ls) = stepText number (lineWords l) ++ sheetText (suc number) ls
+
+-- of a question, its own bytes behind `ask` and the line's number (R9.4), all lines of its sheet, and its direct pair with its flags
+-- (R9.6); of any other line, the refusal (R9.7)
+abbrev pub LineTexts : Type 0
+LineTexts =
+    ((number : ℕ) (line : List ℕ) (o x y : ℕ) → readQuestion line ≡ asked o x y
+    → lineText number (readQuestion line)
+    ≡ lineOf (ascii "ask" ∷ decimal number ∷ line ∷ [])
+    ++ (sheetText 1 (sheetOf (operationOf o) x y .lines) ++ pairText (directPair (operationOf o) binary32 x y)))
+    × ((number : ℕ) (line : List ℕ) (n : ℕ) → readQuestion line ≡ refused n
+    → lineText number (readQuestion line) ≡ lineOf (ascii "bad" ∷ decimal number ∷ decimal n ∷ []))
+
+-- the texts of lines, from this number on
+unfoldable pub textsFrom : ℕ → List (List ℕ) → List ℕ
+textsFrom number [] = []
+textsFrom number (l ∷ ls) = lineText number (readQuestion l) ++ textsFrom (suc number) ls
 
 -- ---- the total (R9.8)
 -- the terms of all lines, in order
@@ -99,13 +123,13 @@ badLines [] = 0
 badLines (l ∷ ls) = cond (isDone (readQuestion l)) 0 1 + badLines ls
 
 -- ---- the limit, from both sides (R8.11). An input of up to 32,768 lines: fewer newlines than that stand before its last byte, whatever
--- this is. It prints the texts of its lines, the exact sum of their terms, rounded once (R6.5), and both counts.
+-- this is. It prints the texts of its lines, numbered from 1, the exact sum of their terms, rounded once (R6.5), and both counts.
 abbrev pub WithinLimit : Type 0
 WithinLimit =
     (front : List ℕ) (b : ℕ) → newlines front < 32768 → let lines = linesOf (front ++ (b ∷ [])) in
     let total = pairOf binary32 (exactNumber (columnSum (termsOf lines))) in
     (output (front ++ (b ∷ []))
-    ≡ linesText start lines
+    ≡ textsFrom 1 lines
     ++ (totalText (encode binary32 (total .first)) (encode binary32 (total .second)) ++ endText (goodLines lines) (badLines lines)))
     × (goodLines lines + badLines lines ≡ newlines front + 1)
 
@@ -113,7 +137,7 @@ WithinLimit =
 abbrev pub PastLimit : Type 0
 PastLimit =
     (front : List ℕ) (b : ℕ) (after : List ℕ) → newlines front ≡ 32767
-    → output (front ++ (10 ∷ b ∷ after)) ≡ linesText start (linesOf (front ++ (10 ∷ []))) ++ ascii "stop\t11\n"
+    → output (front ++ (10 ∷ b ∷ after)) ≡ textsFrom 1 (linesOf (front ++ (10 ∷ []))) ++ ascii "stop\t11\n"
 
 -- ---- how many lines are taken (R8.11), bytes of a line are kept, and bytes are room for a line's text and the last two lines
 abbrev pub SheetLimits : Type 0
@@ -148,5 +172,5 @@ abbrev pub PrintedExample : Type 0
 PrintedExample = (output (exampleQuestion ++ ascii "\n") ≡ exampleText) × (output exampleQuestion ≡ exampleText)
 
 abbrev pub All : Type 0
-All = ByteByByte × AnyReads × NothingAfterStop × NeverRefused × LineTerms × TotalTakesAll × LinesAre × WithinLimit
+All = ByteByByte × AnyReads × NothingAfterStop × NeverRefused × LineTexts × LineTerms × TotalTakesAll × LinesAre × WithinLimit
     × PastLimit × SheetLimits × EmptyInput × TwoBadLines × PrintedExample

@@ -3,7 +3,7 @@ pub mod Bytes
 pub mod Totals
 pub mod LineTexts
 pub mod Limit
-pub mod Example
+pub mod Examples
 pub mod Theorems
 pub mod Lengths
 pub mod Positions

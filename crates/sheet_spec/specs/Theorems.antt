@@ -17,7 +17,7 @@ use Rattle.worksheet_spec.specs.Sheets.{sheetOf}
 use Rattle.worksheet_spec.specs.Filling.{lineWords, filling}
 use Rattle.question_spec.specs.Ascii.{ascii}
 use Rattle.question_spec.specs.Questions.{asked, readQuestion}
-use Rattle.transcript_spec.specs.Texts.{lineRoom, decimal, lineOf, stepText, pairText, badText, totalText, endText}
+use Rattle.transcript_spec.specs.Texts.{lineRoom, decimal, lineOf, stepText, pairText, totalText, endText}
 use Rattle.accumulator_spec.specs.Totals.{zeros, number, Term, ofPattern, FitTotal, exactNumber}
 use Rattle.accumulator_spec.specs.Columns.{column, Accepted, columnSum}
 use Rattle.sheet_spec.specs.Printed.{blank, linesOf, lineText, lineTerms, start, afterLines, mostInputLines, output}
@@ -101,6 +101,7 @@ unfoldable pub withNewlines : List (List ℕ) → List ℕ
 withNewlines [] = []
 withNewlines (l ∷ ls) = l ++ (10 ∷ withNewlines ls)
 
+-- no line has a newline within
 unfoldable pub NoNewline : List (List ℕ) → Type 0
 NoNewline [] = Unit {0}
 NoNewline (l ∷ ls) = (newlines l ≡ 0) × NoNewline ls
@@ -145,11 +146,13 @@ SheetLimits = (mostInputLines ≡ 32768) × (keptBytes ≡ 22) × (lineRoom ≡ 
 
 -- ---- empty input (R9.10)
 abbrev pub EmptyInput : Type 0
-EmptyInput = output [] ≡ totalText 0 0 ++ endText 0 0
+EmptyInput = output [] ≡ ascii "total\t00000000\t00000000\n" ++ ascii "end\t0\t0\n"
 
 -- ---- two bad lines, the last without newline: both are counted and numbered from 1 (R9.1, R9.7, R9.9)
 abbrev pub TwoBadLines : Type 0
-TwoBadLines = output (ascii "x\nx") ≡ badText 1 1 ++ (badText 2 1 ++ (totalText 0 0 ++ endText 0 2))
+TwoBadLines =
+    output (ascii "x\nx")
+    ≡ ascii "bad\t1\t1\n" ++ (ascii "bad\t2\t1\n" ++ (ascii "total\t00000000\t00000000\n" ++ ascii "end\t0\t2\n"))
 
 -- ---- R9.11: a question's input, whose one line may end without a newline (R9.1), and all that it prints
 abbrev pub exampleQuestion : List ℕ

@@ -1,4 +1,4 @@
--- What R9.11's one line prints, by computation.
+-- What some inputs print, by computation: none, two bad lines, and R9.11's one line.
 use mathlib.Core.Path.{refl}
 use lib.Ieee.{size}
 use Rattle.rounding_spec.specs.Round.{keep, lastPlace}
@@ -14,9 +14,20 @@ use Rattle.worksheet_spec.specs.Filling.{linesWords, sheetWords, sheetAnswer, f
 use Rattle.accumulator_spec.specs.Totals.{adding, afterAdding, fit, reading}
 use Rattle.accumulator_spec.specs.Columns.{column}
 use Rattle.question_spec.specs.Questions.{lettersOperation, allDigits, patternFrom, readQuestion, questionText, operationLettersByNumber}
-use Rattle.transcript_spec.specs.Texts.{stepsText, answeredText, askText, decimalUpTo, stepText, stepLettersByNumber, thirdText, pairText, flagsText, totalText, endText}
+use Rattle.transcript_spec.specs.Texts.{stepsText, answeredText, askText, decimalUpTo, stepText, stepLettersByNumber, thirdText, pairText, flagsText, badText, totalText, endText}
 use Rattle.sheet_spec.specs.Printed.{linesFrom, filledText, lineText, afterLine, afterLines, linesText, closingText, output}
-use Rattle.sheet_spec.specs.Theorems.{PrintedExample}
+use Rattle.sheet_spec.specs.Theorems.{EmptyInput, TwoBadLines, PrintedExample}
+
+pub empty-input : EmptyInput
+unfolding output linesFrom linesText afterLines closingText reading fit integer encode pairOf keep lastPlace size totalText endText decimalUpTo
+empty-input = refl
+
+pub two-bad-lines : TwoBadLines
+unfolding
+    output linesFrom linesText lineText afterLines afterLine closingText readQuestion column
+    reading fit integer encode pairOf keep lastPlace size
+    badText totalText endText decimalUpTo
+two-bad-lines = refl
 
 pub printed-example : PrintedExample
 unfolding

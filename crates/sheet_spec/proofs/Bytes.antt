@@ -14,7 +14,7 @@ use Rattle.transcript_spec.specs.Texts.{stopText}
 use Rattle.sheet_spec.specs.Printed.{linesFrom, lineText, Progress, start, afterAnswer, afterLine, closingText, mostInputLines}
 use Rattle.sheet_spec.specs.States.{State, keptBytes, begin, stop, takeByte, byteText, takeBytes, bytesText, closeText}
 use Rattle.sheet_spec.specs.Theorems.{ByteByByte, joined, readsText, AnyReads, NothingAfterStop}
-use Rattle.sheet_spec.proofs.Lines.{ending, output-is, Some, either, has-byte, some-line, first-bytes, take-again}
+use Rattle.sheet_spec.proofs.Lines.{ending, output-is, Some, has-byte, first-line, first-bytes, take-again}
 
 -- everything that is printed from a state on
 abbrev pub printed : State → List ℕ → List ℕ
@@ -80,10 +80,6 @@ stops p b bs h =
 nothing-fits : (p : Progress) (lines : List (List ℕ)) → Some lines → ending p 0 lines ≡ stopText
 unfolding ending
 nothing-fits p lines s = ap (ending p 0) (s .2)
-
-first-line : (b : ℕ) (bs : List ℕ) → Some (linesFrom [] (b ∷ bs))
-unfolding linesFrom
-first-line b bs = either (eqb b newline) [] (linesFrom [] bs) (linesFrom (b ∷ []) bs) (some-line bs b [])
 
 -- room: a newline ends the line, any other byte goes on with it
 module _ (p : Progress) (begun : List ℕ) (b : ℕ) (bs : List ℕ) (room : p .lines < mostInputLines) where

@@ -1,6 +1,9 @@
 pub mod Lines
 pub mod Bytes
 pub mod Totals
+pub mod LineTexts
+pub mod Limit
+pub mod Examples
 pub mod Theorems
 pub mod Lengths
 pub mod Positions

@@ -50,17 +50,21 @@ output-is input = sym (ending-is (linesOf input) start mostInputLines)
 abbrev pub Some : List (List ℕ) → Type 0
 Some lines = (l : List ℕ) × (ls : List (List ℕ)) × (lines ≡ l ∷ ls)
 
-pub either : (e : Bool) (l : List ℕ) (ls rest : List (List ℕ)) → Some rest → Some (cond e (l ∷ ls) rest)
+either : (e : Bool) (l : List ℕ) (ls rest : List (List ℕ)) → Some rest → Some (cond e (l ∷ ls) rest)
 either true l ls rest s = (l, ls, refl)
 either false l ls rest s = s
 
 pub has-byte : (c : ℕ) (begun : List ℕ) → eqb (length (c ∷ begun)) 0 ≡ false
 has-byte c begun = ne-eqb (suc (length begun)) 0 (λ (e : suc (length begun) ≡ 0). omega arith)
 
-pub some-line : (bytes : List ℕ) (c : ℕ) (begun : List ℕ) → Some (linesFrom (c ∷ begun) bytes)
+some-line : (bytes : List ℕ) (c : ℕ) (begun : List ℕ) → Some (linesFrom (c ∷ begun) bytes)
 unfolding linesFrom
 some-line [] c begun = (c ∷ begun, [], rw (has-byte c begun))
 some-line (b ∷ bs) c begun = either (eqb b newline) (c ∷ begun) (linesFrom [] bs) (linesFrom (c ∷ (begun ++ (b ∷ []))) bs) (some-line bs c (begun ++ (b ∷ [])))
+
+pub first-line : (b : ℕ) (bs : List ℕ) → Some (linesFrom [] (b ∷ bs))
+unfolding linesFrom
+first-line b bs = either (eqb b newline) [] (linesFrom [] bs) (linesFrom (b ∷ []) bs) (some-line bs b [])
 
 -- ---- the bytes of a line that are kept are enough
 pub first-bytes : (line : List ℕ) → readQuestion (take keptBytes line) ≡ readQuestion line

@@ -52,7 +52,7 @@ unfolding AllFinite
 finite-append [] ys f g = g
 finite-append (x ∷ xs) ys f g = (f .0, finite-append xs ys (f .1) g)
 
-all-terms : (ls : List (List ℕ)) → AllFinite (termsOf ls) × (length (termsOf ls) ≤ 2 * length ls)
+pub all-terms : (ls : List (List ℕ)) → AllFinite (termsOf ls) × (length (termsOf ls) ≤ 2 * length ls)
 unfolding termsOf AllFinite
 all-terms [] = (tt, omega arith)
 all-terms (l ∷ ls) =
@@ -66,7 +66,7 @@ unfolding column
 column-append [] ys t = refl
 column-append (x ∷ xs) ys t = column-append xs ys (afterAdding t x)
 
-total-is : (ls : List (List ℕ)) (p : Progress) → afterLines p ls .total ≡ column (p .total) (termsOf ls)
+pub total-is : (ls : List (List ℕ)) (p : Progress) → afterLines p ls .total ≡ column (p .total) (termsOf ls)
 unfolding afterLines afterLine termsOf column
 total-is [] p = refl
 total-is (l ∷ ls) p = total-is ls (afterLine p l) ∙ sym (column-append (lineTerms (readQuestion l)) (termsOf ls) (p .total))

@@ -1,20 +1,26 @@
 -- What holds of what is printed. Each name is a statement; proofs/Theorems.antt has its proof.
-use Prim.Native.Nat.{ℕ, _≤_}
+use Prim.Native.Nat.{ℕ, suc, _+_, _≤_, _<_}
 use mathlib.Core.Path.{_≡_}
-use mathlib.Core.Bool.{true, false}
+use mathlib.Core.Logic.{_≢_}
+use mathlib.Core.Bool.{true, false, cond}
 use mathlib.Core.List.{List, [], _∷_, _++_}
+use lib.Dec.{eqb}
 use lib.ListN.{length}
 use Rattle.pattern_spec.specs.Answer.{refused, isDone}
 use Rattle.pattern_spec.specs.Classes.{bothFinite}
 use Rattle.rounding_spec.specs.Format.{binary32}
+use Rattle.rounding_spec.specs.Value.{encode}
+use Rattle.augmented_spec.specs.Pairs.{pairOf}
 use Rattle.augmented_spec.specs.Direct.{directPair, operationOf}
-use Rattle.worksheet_spec.specs.Filling.{filling}
+use Rattle.worksheet_spec.specs.Lines.{Line}
+use Rattle.worksheet_spec.specs.Sheets.{sheetOf}
+use Rattle.worksheet_spec.specs.Filling.{lineWords, filling}
 use Rattle.question_spec.specs.Ascii.{ascii}
 use Rattle.question_spec.specs.Questions.{asked, readQuestion}
-use Rattle.transcript_spec.specs.Texts.{lineRoom, badText, totalText, endText}
-use Rattle.accumulator_spec.specs.Totals.{zeros, number, Term, ofPattern, FitTotal}
+use Rattle.transcript_spec.specs.Texts.{lineRoom, decimal, lineOf, stepText, pairText, totalText, endText}
+use Rattle.accumulator_spec.specs.Totals.{zeros, number, Term, ofPattern, FitTotal, exactNumber}
 use Rattle.accumulator_spec.specs.Columns.{column, Accepted, columnSum}
-use Rattle.sheet_spec.specs.Printed.{blank, lineTerms, start, afterLines, mostInputLines, output}
+use Rattle.sheet_spec.specs.Printed.{blank, linesOf, lineText, lineTerms, start, afterLines, mostInputLines, output}
 use Rattle.sheet_spec.specs.Calls.{lastRoom}
 use Rattle.sheet_spec.specs.States.{keptBytes, State, begin, takeBytes, bytesText, closeText}
 
@@ -43,6 +49,28 @@ NothingAfterStop =
 abbrev pub NeverRefused : Type 0
 NeverRefused = (line : List ℕ) (o x y : ℕ) → readQuestion line ≡ asked o x y → isDone (filling o x y blank) ≡ true
 
+-- ---- what a line prints
+-- a `step` for each line of a sheet, in order, from this number on (R9.5)
+unfoldable pub sheetText : ℕ → List Line → List ℕ
+sheetText number [] = []
+sheetText number (l ∷ ls) = stepText number (lineWords l) ++ sheetText (suc number) ls
+
+-- of a question, its own bytes behind `ask` and the line's number (R9.4), all lines of its sheet, and its direct pair with its flags
+-- (R9.6); of any other line, the refusal (R9.7)
+abbrev pub LineTexts : Type 0
+LineTexts =
+    ((number : ℕ) (line : List ℕ) (o x y : ℕ) → readQuestion line ≡ asked o x y
+    → lineText number (readQuestion line)
+    ≡ lineOf (ascii "ask" ∷ decimal number ∷ line ∷ [])
+    ++ (sheetText 1 (sheetOf (operationOf o) x y .lines) ++ pairText (directPair (operationOf o) binary32 x y)))
+    × ((number : ℕ) (line : List ℕ) (n : ℕ) → readQuestion line ≡ refused n
+    → lineText number (readQuestion line) ≡ lineOf (ascii "bad" ∷ decimal number ∷ decimal n ∷ []))
+
+-- the texts of lines, from this number on
+unfoldable pub textsFrom : ℕ → List (List ℕ) → List ℕ
+textsFrom number [] = []
+textsFrom number (l ∷ ls) = lineText number (readQuestion l) ++ textsFrom (suc number) ls
+
 -- ---- the total (R9.8)
 -- the terms of all lines, in order
 unfoldable pub termsOf : List (List ℕ) → List Term
@@ -63,17 +91,89 @@ TotalTakesAll =
     (lines : List (List ℕ)) → length lines ≤ mostInputLines → let total = afterLines start lines .total in
     Accepted zeros (termsOf lines) × (total ≡ column zeros (termsOf lines)) × (number total ≡ columnSum (termsOf lines)) × FitTotal total
 
+-- ---- lines, told from the input's bytes (R9.1): each newline ends one, and so does the input's last byte
+unfoldable pub newlines : List ℕ → ℕ
+newlines [] = 0
+newlines (b ∷ bs) = cond (eqb b 10) 1 0 + newlines bs
+
+-- lines, each with a newline behind it, make these bytes
+unfoldable pub withNewlines : List (List ℕ) → List ℕ
+withNewlines [] = []
+withNewlines (l ∷ ls) = l ++ (10 ∷ withNewlines ls)
+
+-- no line has a newline within
+unfoldable pub NoNewline : List (List ℕ) → Type 0
+NoNewline [] = Unit {0}
+NoNewline (l ∷ ls) = (newlines l ≡ 0) × NoNewline ls
+
+-- an input that ends in a newline is its lines, none of which has one within; a newline that is missing there makes no difference
+abbrev pub LinesAre : Type 0
+LinesAre =
+    (front : List ℕ)
+    → (withNewlines (linesOf (front ++ (10 ∷ []))) ≡ front ++ (10 ∷ []))
+    × NoNewline (linesOf (front ++ (10 ∷ [])))
+    × ((b : ℕ) → b ≢ 10 → linesOf (front ++ (b ∷ [])) ≡ linesOf (front ++ (b ∷ 10 ∷ [])))
+
+-- ---- how many lines are good, and how many are not (R9.9)
+unfoldable pub goodLines : List (List ℕ) → ℕ
+goodLines [] = 0
+goodLines (l ∷ ls) = cond (isDone (readQuestion l)) 1 0 + goodLines ls
+
+unfoldable pub badLines : List (List ℕ) → ℕ
+badLines [] = 0
+badLines (l ∷ ls) = cond (isDone (readQuestion l)) 0 1 + badLines ls
+
+-- ---- the limit, from both sides (R8.11). An input of up to 32,768 lines: fewer newlines than that stand before its last byte, whatever
+-- this is. It prints the texts of its lines, numbered from 1, the exact sum of their terms, rounded once (R6.5), and both counts.
+abbrev pub WithinLimit : Type 0
+WithinLimit =
+    (front : List ℕ) (b : ℕ) → newlines front < 32768 → let lines = linesOf (front ++ (b ∷ [])) in
+    let total = pairOf binary32 (exactNumber (columnSum (termsOf lines))) in
+    (output (front ++ (b ∷ []))
+    ≡ textsFrom 1 lines
+    ++ (totalText (encode binary32 (total .first)) (encode binary32 (total .second)) ++ endText (goodLines lines) (badLines lines)))
+    × (goodLines lines + badLines lines ≡ newlines front + 1)
+
+-- A byte after the 32,768th newline, any one: the texts of the lines before it, and `stop`, whatever follows.
+abbrev pub PastLimit : Type 0
+PastLimit =
+    (front : List ℕ) (b : ℕ) (after : List ℕ) → newlines front ≡ 32767
+    → output (front ++ (10 ∷ b ∷ after)) ≡ textsFrom 1 (linesOf (front ++ (10 ∷ []))) ++ ascii "stop\t11\n"
+
 -- ---- how many lines are taken (R8.11), bytes of a line are kept, and bytes are room for a line's text and the last two lines
 abbrev pub SheetLimits : Type 0
 SheetLimits = (mostInputLines ≡ 32768) × (keptBytes ≡ 22) × (lineRoom ≡ 680) × (lastRoom ≡ 740)
 
 -- ---- empty input (R9.10)
 abbrev pub EmptyInput : Type 0
-EmptyInput = output [] ≡ totalText 0 0 ++ endText 0 0
+EmptyInput = output [] ≡ ascii "total\t00000000\t00000000\n" ++ ascii "end\t0\t0\n"
 
 -- ---- two bad lines, the last without newline: both are counted and numbered from 1 (R9.1, R9.7, R9.9)
 abbrev pub TwoBadLines : Type 0
-TwoBadLines = output (ascii "x\nx") ≡ badText 1 1 ++ (badText 2 1 ++ (totalText 0 0 ++ endText 0 2))
+TwoBadLines =
+    output (ascii "x\nx")
+    ≡ ascii "bad\t1\t1\n" ++ (ascii "bad\t2\t1\n" ++ (ascii "total\t00000000\t00000000\n" ++ ascii "end\t0\t2\n"))
+
+-- ---- R9.11: a question's input, whose one line may end without a newline (R9.1), and all that it prints
+abbrev pub exampleQuestion : List ℕ
+exampleQuestion = ascii "sum\t3F800001\t33800000"
+
+abbrev pub exampleText : List ℕ
+exampleText =
+    ascii "ask\t1\tsum\t3F800001\t33800000\n"
+    ++ (ascii "step\t1\tadd\t3F800001\t33800000\t-\t3F800002\n"
+    ++ (ascii "step\t2\tsub\t3F800002\t3F800001\t-\t34000000\n"
+    ++ (ascii "step\t3\tsub\t33800000\t34000000\t-\tB3800000\n"
+    ++ (ascii "step\t4\tmul\t3F7FFFFF\t3F800002\t-\t3F800001\n"
+    ++ (ascii "step\t5\tsub\t3F800001\t3F800002\t-\tB4000000\n"
+    ++ (ascii "step\t6\tmul\t40000000\tB3800000\t-\tB4000000\n"
+    ++ (ascii "pair\t3F800001\t33800000\t-\n"
+    ++ (ascii "total\t3F800001\t33800000\n"
+    ++ ascii "end\t1\t0\n"))))))))
+
+abbrev pub PrintedExample : Type 0
+PrintedExample = (output (exampleQuestion ++ ascii "\n") ≡ exampleText) × (output exampleQuestion ≡ exampleText)
 
 abbrev pub All : Type 0
-All = ByteByByte × AnyReads × NothingAfterStop × NeverRefused × LineTerms × TotalTakesAll × SheetLimits × EmptyInput × TwoBadLines
+All = ByteByByte × AnyReads × NothingAfterStop × NeverRefused × LineTexts × LineTerms × TotalTakesAll × LinesAre × WithinLimit
+    × PastLimit × SheetLimits × EmptyInput × TwoBadLines × PrintedExample

@@ -1,7 +1,7 @@
 //! The program compared with the model, shape by shape; and so is the one that it is timed beside.
 use super::files::{Shape, Source, SHAPES};
 use super::program::Process;
-use super::{cases, compare, endings, model};
+use super::{cases, compare, endings, failures, model};
 
 pub use super::planted::tried;
 use crate::processor::Processor;
@@ -53,7 +53,13 @@ pub fn compared(options: &Options) -> (u64, usize) {
         println!("sheet     {what}");
         return (0, 1);
     }
-    compared_with(&program, "sheet", options)
+    let (lines, differences) = compared_with(&program, "sheet", options);
+    (lines, differences + not_said(&program))
+}
+
+/// The trials of calls that fail which the program does not pass. What is said of them is its own.
+fn not_said(program: &Process) -> usize {
+    reported("sheet", "failures", failures::COUNT, &failures::failed(program))
 }
 
 fn compared_with(program: &Process, name: &str, options: &Options) -> (u64, usize) {
@@ -74,10 +80,12 @@ fn compared_with(program: &Process, name: &str, options: &Options) -> (u64, usiz
 
 /// The trials of endings that the program fails.
 fn not_ended(program: &Process, name: &str) -> usize {
-    let failed = endings::failed(program);
+    reported(name, "endings", endings::COUNT, &endings::failed(program))
+}
+
+fn reported(name: &str, kind: &str, trials: usize, failed: &[String]) -> usize {
     println!(
-        "{name:<10}endings     {:>9} trials     {}",
-        endings::COUNT,
+        "{name:<10}{kind:<12}{trials:>9} trials     {}",
         if failed.is_empty() { "no difference" } else { "DIFFERENT" }
     );
     failed.iter().for_each(|what| println!("    {what}"));

@@ -3,13 +3,17 @@ use super::model;
 use std::io::{Read, Write};
 use std::process::ExitCode;
 
-/// One that reads its input to the end before it prints, one that goes on when nobody reads from it, or one that
-/// takes the end of a read for the end of a line.
+/// One that reads its input to the end before it prints, one that goes on when nobody reads from it, one that takes
+/// the end of a read for the end of a line; and of calls that fail, one that says nothing, one that takes a failed
+/// read for the end of the input, and one that goes on after a failed write.
 pub fn run(name: &str) -> Option<ExitCode> {
     match name {
         "hasty" => hasty(),
         "greedy" => greedy(),
         "deaf" => deaf(),
+        "mute" => mute(),
+        "content" => content(),
+        "stubborn" => stubborn(),
         _ => return None,
     }
     Some(ExitCode::SUCCESS)
@@ -53,4 +57,64 @@ fn hasty() {
         }
     }
     let _ = std::io::stdout().write_all(model::printed(&input).as_bytes());
+}
+
+/// It ends at a failed call as it should, and says nothing.
+fn mute() {
+    let (mut input, mut block) = (Vec::new(), vec![0; 65_536]);
+    loop {
+        match std::io::stdin().read(&mut block) {
+            Ok(0) => break,
+            Ok(read) => input.extend_from_slice(&block[..read]),
+            Err(_) => {
+                let whole = input.iter().rposition(|&b| b == b'\n').map_or(0, |at| at + 1);
+                let text = model::printed(&input[..whole]);
+                let lines = text.split_inclusive('\n').take_while(|line| !line.starts_with("total"));
+                let _ = std::io::stdout().write_all(lines.collect::<String>().as_bytes());
+                return;
+            }
+        }
+        if std::io::stdout().write_all(model::printed(&input).as_bytes()).is_err() {
+            return;
+        }
+        let _ = std::io::stdout().flush();
+    }
+}
+
+/// It says that a read failed, and closes its text all the same.
+fn content() {
+    let (mut input, mut block) = (Vec::new(), vec![0; 65_536]);
+    loop {
+        match std::io::stdin().read(&mut block) {
+            Ok(0) => break,
+            Ok(read) => input.extend_from_slice(&block[..read]),
+            Err(what) => {
+                let what = what.to_string();
+                let what = what.split(" (os error").next().unwrap_or_default();
+                eprintln!("sheet: the questions cannot be read: {what}");
+                break;
+            }
+        }
+    }
+    let _ = std::io::stdout().write_all(model::printed(&input).as_bytes());
+}
+
+/// It says that a write failed, once, and reads on.
+fn stubborn() {
+    let (mut block, mut said) = (vec![0; 65_536], false);
+    while let Ok(read) = std::io::stdin().read(&mut block) {
+        if read == 0 {
+            break;
+        }
+        let text = model::printed(&block[..read]);
+        let mut output = std::io::stdout();
+        if let Err(what) = output.write_all(text.as_bytes()).and_then(|()| output.flush()) {
+            let what = what.to_string();
+            let what = what.split(" (os error").next().unwrap_or_default();
+            if !said {
+                eprintln!("sheet: the sheets cannot be written: {what}");
+            }
+            said = true;
+        }
+    }
 }

@@ -9,6 +9,7 @@ pub mod sheet;
 mod cases;
 mod compare;
 mod endings;
+mod failures;
 mod files;
 mod line;
 mod path;

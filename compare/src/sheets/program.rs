@@ -63,6 +63,13 @@ impl Process {
         command
     }
 
+    /// Through the shell, whose words name it `"$0" "$@"`.
+    pub fn through(&self, words: &str) -> Command {
+        let mut command = Command::new("sh");
+        command.arg("-c").arg(words).arg(&self.path).args(&self.arguments);
+        command
+    }
+
     pub fn started(&self) -> Result<Child, String> {
         let mut command = self.command();
         command.stdin(Stdio::piped()).stdout(Stdio::piped());

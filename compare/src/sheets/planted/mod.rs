@@ -6,6 +6,7 @@ mod totals;
 
 use super::compare::{compare, difference};
 use super::endings;
+use super::failures::{self, Call};
 use super::files::branches::{self, Way};
 use super::files::{File, Shape, Source, SHAPES};
 use super::model;
@@ -95,5 +96,23 @@ fn tried_processes(seed: u64) -> Result<Vec<String>, String> {
         }
         found.push(format!("{about} (endings)"));
     }
+    found.extend(tried_failures()?);
     Ok(found)
+}
+
+/// Programs whose fault is in how they meet a call that fails.
+fn tried_failures() -> Result<Vec<String>, String> {
+    let faults = [
+        ("mute", Call::Read, "a failed read that is not said"),
+        ("mute", Call::Write, "a failed write that is not said"),
+        ("content", Call::Read, "a failed read taken for the end of the input"),
+        ("stubborn", Call::Write, "reading on after a failed write"),
+    ];
+    faults
+        .iter()
+        .map(|&(name, call, about)| match failures::not_failed(&Process::own(&["impostor", name]), call) {
+            Some(trial) => Err(format!("{about}: {trial}")),
+            None => Ok(format!("{about} (failures)")),
+        })
+        .collect()
 }

@@ -19,22 +19,26 @@ use Rattle.sheet_spec.specs.Calls.{Ends}
 use Rattle.sheet_spec.specs.declared.Position.{Position}
 use Rattle.sheet_stream.specs.declared.Passed.{Passed}
 use Rattle.sheet_stream.specs.declared.Standing.{Standing}
-use Rattle.sheet_stream.specs.Inner.{TakesAll, Follows, Closes}
+use Rattle.sheet_stream.specs.Inner.{haltedAt, TakesAll, Follows, Closes}
 
 -- ---- a read's answer
-module _ (bytes : List ℕ) (room : ℕ) (s : State) (p : Position) where
-  pub failed : (z : ℤ) → ltZ z (pos 0) ≡ true → Follows z bytes room s (record { position = p; whole = false; more = false }) s
-  failed (pos n) h = absurd (omega (arith, ltb-true n 0 h))
-  failed (negsuc k) h = (refl, refl, refl)
+module _ (bytes : List ℕ) (room : ℕ) (p : Position) (line total : List ℕ) (r : Standing) where
+  -- where nothing is taken the lent arrays stay
+  state-kept : (whole : Bool) → r ≡ haltedAt p whole → (r ≡ haltedAt (r .position) whole) × (stateOf (r .position) line total ≡ stateOf p line total)
+  state-kept whole e = let q : r .position ≡ p = ap (λ (t : Standing). t .position) e in (e ∙ ap (λ (v : Position). haltedAt v whole) (sym q), ap (λ (v : Position). stateOf v line total) q)
 
-  pub ended : (z : ℤ) → z ≡ pos 0 → Follows z bytes room s (record { position = p; whole = true; more = false }) s
-  ended (pos zero) h = (refl, refl, refl)
-  ended (pos (suc k)) h = absurd (omega (arith, ap size h))
+  pub failed-follows : (z : ℤ) → ltZ z (pos 0) ≡ true → r ≡ haltedAt p false → Follows z bytes room (stateOf p line total) r (stateOf (r .position) line total)
+  failed-follows (pos n) h e = absurd (omega (arith, ltb-true n 0 h))
+  failed-follows (negsuc k) h e = state-kept false e
+
+  pub ended-follows : (z : ℤ) → z ≡ pos 0 → r ≡ haltedAt p true → Follows z bytes room (stateOf p line total) r (stateOf (r .position) line total)
+  ended-follows (pos zero) h e = state-kept true e
+  ended-follows (pos (suc k)) h e = absurd (omega (arith, ap size h))
     where
       size : ℤ → ℕ
       size (pos n) = n
       size (negsuc n) = 0
-  ended (negsuc k) h = absurd (true≢false (ap sign h))
+  ended-follows (negsuc k) h e = absurd (true≢false (ap sign h))
     where
       sign : ℤ → Bool
       sign (pos n) = false

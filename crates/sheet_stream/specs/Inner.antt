@@ -2,13 +2,14 @@
 use Prim.Native.Nat.{ℕ, zero, suc, _≤_}
 use mathlib.Core.Path.{_≡_}
 use mathlib.Core.Logic.{_⊎_}
-use mathlib.Core.Bool.{true, false, not}
+use mathlib.Core.Bool.{Bool, true, false, not}
 use mathlib.Core.List.{List}
 use lib.IntN.{ℤ, pos, negsuc}
 use lib.ListN.{take}
 use Rattle.transcript_spec.specs.Texts.{lineRoom}
 use Rattle.sheet_spec.specs.States.{State, takeBytes}
 use Rattle.sheet_spec.specs.Calls.{Ends}
+use Rattle.sheet_spec.specs.declared.Position.{Position}
 use Rattle.sheet_stream.specs.declared.Passed.{Passed}
 use Rattle.sheet_stream.specs.declared.Standing.{Standing}
 
@@ -16,11 +17,15 @@ use Rattle.sheet_stream.specs.declared.Standing.{Standing}
 abbrev pub TakesAll : List ℕ → ℕ → State → Passed → State → Type 0
 TakesAll bytes room s r after = lineRoom ≤ room → r .whole ≡ true → after ≡ takeBytes s bytes
 
+-- where a run stands when no read follows: every call has done its work, or one has failed
+abbrev pub haltedAt : Position → Bool → Standing
+haltedAt p whole = record { position = p; whole = whole; more = false }
+
 -- From a read's answer to what is done next. Below 0 the read failed: nothing is taken, and neither a read nor the last lines follow. At 0
 -- the input has ended. Of any other number so many bytes are taken, and another read follows unless a write failed or the run has stopped.
 abbrev pub Follows : ℤ → List ℕ → ℕ → State → Standing → State → Type 0
-Follows (negsuc k) bytes room s r after = (r .whole ≡ false) × (r .more ≡ false) × (after ≡ s)
-Follows (pos zero) bytes room s r after = (r .whole ≡ true) × (r .more ≡ false) × (after ≡ s)
+Follows (negsuc k) bytes room s r after = (r ≡ haltedAt (r .position) false) × (after ≡ s)
+Follows (pos zero) bytes room s r after = (r ≡ haltedAt (r .position) true) × (after ≡ s)
 Follows (pos (suc k)) bytes room s r after =
     (r .whole ≡ false → r .more ≡ false)
     × (r .whole ≡ true → r .more ≡ not (after .stopped))

@@ -6,9 +6,10 @@ use accumulator_spec::TOTAL_SIZE;
 use sheet_line::position;
 use sheet_spec::KEPT_BYTES;
 use sheet_spec::Position;
+ghost use mathlib.Core.Path.{_≡_};
 ghost use lib.ListN.{length};
 ghost use Rattle.sheet_spec.specs.Positions.{stateOf};
-ghost use Rattle.sheet_stream.specs.Inner.{Closes, Follows, TakesAll};
+ghost use Rattle.sheet_stream.specs.Inner.{haltedAt, Closes, Follows, TakesAll};
 
 // A position, and whether every write on the way to it has done its work.
 pub struct Passed {
@@ -66,18 +67,10 @@ fn pass(
 {
     if got < 0 {
         say_unread();
-        return Standing {
-            position: position,
-            whole: false,
-            more: false,
-        };
+        return halted(position, false);
     }
     if got == 0 {
-        return Standing {
-            position: position,
-            whole: true,
-            more: false,
-        };
+        return halted(position, true);
     }
     let n = io::count(got, bytes);
     let passed = take(output, &bytes[..n], position, line, total, out);
@@ -85,6 +78,17 @@ fn pass(
         position: passed.position,
         whole: passed.whole,
         more: passed.whole && position::goes_on(passed.position),
+    }
+}
+
+// No read follows, and the last lines do where every call has done its work.
+fn halted(position: Position, whole: bool) -> Standing
+    ensures { λ r. ⌜ r ≡ haltedAt position whole ⌝ }
+{
+    Standing {
+        position,
+        whole,
+        more: false,
     }
 }
 

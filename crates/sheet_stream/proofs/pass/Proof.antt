@@ -7,7 +7,7 @@ use Rattle.io.specs.Counts.{clamped}
 use mir.Syntax.{w64}
 use mir.Val.{toZ, ofZ}
 use mir.ValLaws.{toZ-ofZ}
-use Rattle.sheet_stream.proofs.Answers.{failed, ended, taken}
+use Rattle.sheet_stream.proofs.Answers.{failed-follows, ended-follows, taken}
 use borrow.Author.Needs.{needs}
 use Rattle.sheet_stream.proofs.pass.Statement.{statement}
 use Rattle.sheet_stream.proofs.pass.Tie as tie
@@ -15,11 +15,21 @@ use Rattle.sheet_stream.proofs.pass.Tie as tie
 say-unread-requires : tie.Need-say-unread-requires
 say-unread-requires c κs = search needs
 
+halted-requires : tie.Need-halted-requires
+halted-requires c κs = search needs
+
 returns : tie.Need-returns
-returns c = let g = c .before .before .before .before .before in failed _ _ _ _ (g .args .got) (ap (λ (v : ℤ). ltZ v (pos 0)) (sym (toZ-ofZ w64 _ (g .fits .got))) ∙ c .before .if1 .taken)
+returns c =
+    let g = c .before .before .before .before .before .before in
+    failed-follows _ _ _ _ _ _ (g .args .got) (ap (λ (v : ℤ). ltZ v (pos 0)) (sym (toZ-ofZ w64 _ (g .fits .got))) ∙ c .before .before .if1 .taken) (c .halted .ensures)
+
+halted-requires-2 : tie.Need-halted-requires-2
+halted-requires-2 c κs = search needs
 
 returns-2 : tie.Need-returns-2
-returns-2 c = ended _ _ _ _ _ (sym (toZ-ofZ w64 _ (c .before .before .before .before .before .fits .got)) ∙ ap (toZ w64) (c .if2 .taken))
+returns-2 c =
+    let g = c .before .before .before .before .before .before in
+    ended-follows _ _ _ _ _ _ (g .args .got) (sym (toZ-ofZ w64 _ (g .fits .got)) ∙ ap (toZ w64) (c .before .if2 .taken)) (c .halted2 .ensures)
 
 count-requires : tie.Need-count-requires
 count-requires c κs = search needs
@@ -72,7 +82,9 @@ pass-spec =
     tie.close
     (tie.spec
     say-unread-requires
+    halted-requires
     returns
+    halted-requires-2
     returns-2
     count-requires
     slice-aggregate-take

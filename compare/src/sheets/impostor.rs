@@ -61,24 +61,24 @@ fn hasty() {
 
 /// It ends at a failed call as it should, and says nothing.
 fn mute() {
-    let (mut input, mut block) = (Vec::new(), vec![0; 65_536]);
+    let (mut input, mut block, mut printed) = (Vec::new(), vec![0; 65_536], 0);
     loop {
-        match std::io::stdin().read(&mut block) {
-            Ok(0) => break,
-            Ok(read) => input.extend_from_slice(&block[..read]),
-            Err(_) => {
-                let whole = input.iter().rposition(|&b| b == b'\n').map_or(0, |at| at + 1);
-                let text = model::printed(&input[..whole]);
-                let lines = text.split_inclusive('\n').take_while(|line| !line.starts_with("total"));
-                let _ = std::io::stdout().write_all(lines.collect::<String>().as_bytes());
-                return;
-            }
-        }
-        if std::io::stdout().write_all(model::printed(&input).as_bytes()).is_err() {
+        let Ok(read) = std::io::stdin().read(&mut block) else { return };
+        input.extend_from_slice(&block[..read]);
+        let text = if read == 0 { model::printed(&input) } else { answered(&input) };
+        let mut output = std::io::stdout();
+        if output.write_all(&text.as_bytes()[printed..]).and_then(|()| output.flush()).is_err() || read == 0 {
             return;
         }
-        let _ = std::io::stdout().flush();
+        printed = text.len();
     }
+}
+
+/// The text of the lines that have ended, without the last two.
+fn answered(input: &[u8]) -> String {
+    let whole = input.iter().rposition(|&b| b == b'\n').map_or(0, |at| at + 1);
+    let text = model::printed(&input[..whole]);
+    text.split_inclusive('\n').take_while(|line| !line.starts_with("total")).collect()
 }
 
 /// It says that a read failed, and closes its text all the same.

@@ -1,4 +1,4 @@
-//! Reading a question line: three letters, tab, pattern, tab, pattern, without newline.
+//! A question line of the input, as R8.3 and R8.4 have it.
 use crate::pairs::pair::{Operation, OPERATIONS};
 
 /// The bytes that a question line has.

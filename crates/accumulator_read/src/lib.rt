@@ -23,7 +23,7 @@ ghost use Rattle.accumulator_spec.specs.Words.{integer, wordsOfInteger};
 ghost use Rattle.accumulator_spec.specs.Totals.{numberSize, totalSize, exactNumber, pairAnswer, reading};
 ghost use Rattle.accumulator_read.specs.Inner.{replied};
 
-// The refusal's number (R8.8); or 0, and the pair. Free are the halves of a refusal, and which number stands for 6 (`replied`).
+// The refusal's number (R8.8); or 0, and the pair. Free are the halves of a refusal (`replied`).
 pub struct Reply {
     pub refusal: u32,
     pub first: u32,

@@ -1,12 +1,13 @@
 -- What clearing, adding and reading answer, and the words as they end, by the conditions in their order.
-use mathlib.Core.Path.{_≡_, sym}
-use mathlib.Core.Bool.{true, false}
+use mathlib.Core.Path.{_≡_, refl, sym, ap, _∙_}
+use mathlib.Core.Bool.{true≢false, Bool, true, false}
 use mathlib.Core.List.{List}
 use Prim.Native.Nat.{ℕ, suc}
+use native.Mathlib.Decide.{ℕ-discrete}
 use borrow.Author.Tests.{eq-eqb, ne-eqb}
 use lib.ListN.{length, replicate}
 use lib.IntN.{_+ℤ_}
-use Rattle.pattern_spec.specs.Answer.{refused, done}
+use Rattle.pattern_spec.specs.Answer.{refused, done, isDone, refusalOf}
 use Rattle.rounding_spec.specs.Format.{binary32}
 use Rattle.augmented_spec.specs.Pairs.{pairOf}
 use Rattle.accumulator_spec.specs.Theorems.{RefusedTerm, AddingRefused, ReadingRefused, ClearingIs}
@@ -73,6 +74,14 @@ module _ (t : List ℕ) where
   pub reading-pair : length t ≡ totalSize → fit t ≡ true → reading t ≡ pairAnswer (pairOf binary32 (exactNumber (number t)))
   unfolding reading
   reading-pair full f = rw (eq-eqb (length t) totalSize full, f)
+
+  -- 5 and 6 are all the refusals that there are
+  pub reading-other : (n : ℕ) → refused n ≡ reading t → (n ≡ 5 → ⊥) → refused 6 ≡ reading t
+  reading-other n e other = elim (ℕ-discrete (length t) totalSize) [ yes full ↦ by full (fit t) refl | no h ↦ absurd (other (ap refusalOf (e ∙ reading-length h))) ]
+    where
+      by : length t ≡ totalSize → (f : Bool) → fit t ≡ f → refused 6 ≡ reading t
+      by full true f = absurd (true≢false (sym (ap isDone (e ∙ reading-pair full f))))
+      by full false f = sym (reading-unfit full f)
 
 -- ---- as they are stated
 pub refused-term : RefusedTerm

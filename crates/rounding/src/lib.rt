@@ -30,7 +30,7 @@ pub struct WithRest {
     pub up: bool,
 }
 
-// Rounds sig * 2^exp, counted in 2^-298; the rest counts 2^exp of these. The leading zeros give the shift and the result's exponent.
+// Rounds sig * 2^exp, counted in 2^-298; the rest counts 2^exp of these. Shift and exponent are found by R11.9.
 // Where the pattern is infinite, rest and side are those of the number that it would be if exponents had no bound.
 pub fn round_with_rest(ties: Ties, sign: bool, sig: u64, exp: u16) -> WithRest
     ensures { λ r. ⌜ r .pattern ≡ encode binary32 (roundFinite ties binary32 sign (sig * 2 ^ exp)) ⌝ }

@@ -40,7 +40,7 @@ readsText s (r ∷ rs) = bytesText s r ++ readsText (takeBytes s r) rs
 abbrev pub AnyReads : Type 0
 AnyReads = (reads : List (List ℕ)) → readsText begin reads ≡ output (joined reads)
 
--- ---- after `stop` nothing is printed, whatever follows (R8.11). That no more is read is the program's own loop: no definition covers it.
+-- ---- after `stop` nothing is printed, whatever follows (R8.11). That no read follows is said by sheet_stream.
 abbrev pub NothingAfterStop : Type 0
 NothingAfterStop =
     (s : State) (bytes : List ℕ) → s .stopped ≡ true → (takeBytes s bytes ≡ s) × (bytesText s bytes ≡ []) × (closeText s ≡ [])
@@ -124,7 +124,7 @@ badLines [] = 0
 badLines (l ∷ ls) = cond (isDone (readQuestion l)) 0 1 + badLines ls
 
 -- ---- the limit, from both sides (R8.11). An input of up to 32,768 lines: fewer newlines than that stand before its last byte, whatever
--- this is. It prints the texts of its lines, numbered from 1, the exact sum of their terms, rounded once (R6.5), and both counts.
+-- this is. It prints the texts of its lines, numbered from 1, the exact sum of their terms as a total reads (R6.5), and both counts.
 abbrev pub WithinLimit : Type 0
 WithinLimit =
     (front : List ℕ) (b : ℕ) → newlines front < 32768 → let lines = linesOf (front ++ (b ∷ [])) in

@@ -19,7 +19,7 @@ use Rattle.sheet_spec.specs.Calls.{Ends}
 use Rattle.sheet_spec.specs.declared.Position.{Position}
 use Rattle.sheet_stream.specs.declared.Passed.{Passed}
 use Rattle.sheet_stream.specs.declared.Standing.{Standing}
-use Rattle.sheet_stream.specs.Inner.{haltedAt, TakesAll, Follows, Closes}
+use Rattle.sheet_stream.specs.Inner.{haltedAt, TakesAll, AfterRead, Closes}
 
 -- ---- a read's answer
 module _ (bytes : List ℕ) (room : ℕ) (p : Position) (line total : List ℕ) (r : Standing) where
@@ -27,11 +27,11 @@ module _ (bytes : List ℕ) (room : ℕ) (p : Position) (line total : List ℕ) 
   state-kept : (whole : Bool) → r ≡ haltedAt p whole → (r ≡ haltedAt (r .position) whole) × (stateOf (r .position) line total ≡ stateOf p line total)
   state-kept whole e = let q : r .position ≡ p = ap (λ (t : Standing). t .position) e in (e ∙ ap (λ (v : Position). haltedAt v whole) (sym q), ap (λ (v : Position). stateOf v line total) q)
 
-  pub failed-follows : (z : ℤ) → ltZ z (pos 0) ≡ true → r ≡ haltedAt p false → Follows z bytes room (stateOf p line total) r (stateOf (r .position) line total)
+  pub failed-follows : (z : ℤ) → ltZ z (pos 0) ≡ true → r ≡ haltedAt p false → AfterRead z bytes room (stateOf p line total) r (stateOf (r .position) line total)
   failed-follows (pos n) h e = absurd (omega (arith, ltb-true n 0 h))
   failed-follows (negsuc k) h e = state-kept false e
 
-  pub ended-follows : (z : ℤ) → z ≡ pos 0 → r ≡ haltedAt p true → Follows z bytes room (stateOf p line total) r (stateOf (r .position) line total)
+  pub ended-follows : (z : ℤ) → z ≡ pos 0 → r ≡ haltedAt p true → AfterRead z bytes room (stateOf p line total) r (stateOf (r .position) line total)
   ended-follows (pos zero) h e = state-kept true e
   ended-follows (pos (suc k)) h e = absurd (omega (arith, ap size h))
     where
@@ -70,7 +70,7 @@ module _ (bytes : List ℕ) (room : ℕ) (s : State) (r : Passed) (line total : 
   -- bytes that were taken, with all that they print written or not
   pub taken : (z : ℤ) → (ltZ z (pos 0) ≡ false) → (z ≡ pos 0 → ⊥) → (n : ℕ) → n ≡ clamped z (length bytes) → TakesAll (take n bytes) room s r after
       → (m : Bool) → (r .whole ≡ true → m ≡ goesOn (r .position)) → (r .whole ≡ false → m ≡ false)
-      → Follows z bytes room s (record { position = r .position; whole = r .whole; more = m }) after
+      → AfterRead z bytes room s (record { position = r .position; whole = r .whole; more = m }) after
   taken (negsuc k) h z n e t m going stops = absurd (true≢false h)
   taken (pos zero) h z n e t m going stops = absurd (z refl)
   taken (pos (suc k)) h z n e t m going stops = (

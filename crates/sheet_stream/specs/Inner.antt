@@ -22,16 +22,17 @@ abbrev pub haltedAt : Position → Bool → Standing
 haltedAt p whole = record { position = p; whole = whole; more = false }
 
 -- From a read's answer to what is done next. Below 0 the read failed: nothing is taken, and neither a read nor the last lines follow. At 0
--- the input has ended. Of any other number so many bytes are taken, and another read follows unless a write failed or the run has stopped.
-abbrev pub Follows : ℤ → List ℕ → ℕ → State → Standing → State → Type 0
-Follows (negsuc k) bytes room s r after = (r ≡ haltedAt (r .position) false) × (after ≡ s)
-Follows (pos zero) bytes room s r after = (r ≡ haltedAt (r .position) true) × (after ≡ s)
-Follows (pos (suc k)) bytes room s r after =
+-- the input has ended. Of any other number so many bytes are taken, given room for a line's text, and another read follows unless the run
+-- has stopped or is not whole. That a run is not whole where a write failed is the code's: no contract says what was written.
+abbrev pub AfterRead : ℤ → List ℕ → ℕ → State → Standing → State → Type 0
+AfterRead (negsuc k) bytes room s r after = (r ≡ haltedAt (r .position) false) × (after ≡ s)
+AfterRead (pos zero) bytes room s r after = (r ≡ haltedAt (r .position) true) × (after ≡ s)
+AfterRead (pos (suc k)) bytes room s r after =
     (r .whole ≡ false → r .more ≡ false)
     × (r .whole ≡ true → r .more ≡ not (after .stopped))
     × (lineRoom ≤ room → r .whole ≡ true → after ≡ takeBytes s (take (suc k) bytes))
 
--- The last lines are printed where the input has ended, or the run has stopped, and every call has done its work; elsewhere nothing is.
+-- Where no read follows and every call has done its work, what the input's end prints, after `stop` nothing; elsewhere nothing.
 pub record Closes (h : Standing) (s : State) (out : List ℕ) (n : ℕ) (total' out' : List ℕ) : Type 0 where
   pub ends : h .whole ≡ true → h .more ≡ false → Ends s out n total' out'
   pub nothing : (h .whole ≡ false) ⊎ (h .more ≡ true) → (n ≡ 0) × (out' ≡ out) × (total' ≡ s .progress .total)

@@ -1,4 +1,5 @@
-// Reads questions to the input's end and writes their model sheets. Of all crates only this one reads and writes; the text is sheet_feed's.
+// Reads questions to the input's end and writes their model sheets. Below the programs only this crate reads and writes; the text is
+// sheet_feed's.
 // No contract can say what a call read or wrote. What is done next, `pass` says of a read's answer, and `closing` of the input's end.
 // A read or a write that fails is said on standard error, where it failed, and nothing more is printed (R9.12): a text without its last
 // lines is not taken for a whole one.
@@ -9,7 +10,7 @@ use sheet_spec::Position;
 ghost use mathlib.Core.Path.{_≡_};
 ghost use lib.ListN.{length};
 ghost use Rattle.sheet_spec.specs.Positions.{stateOf};
-ghost use Rattle.sheet_stream.specs.Inner.{haltedAt, Closes, Follows, TakesAll};
+ghost use Rattle.sheet_stream.specs.Inner.{haltedAt, Closes, AfterRead, TakesAll};
 
 // A position, and whether every write on the way to it has done its work.
 pub struct Passed {
@@ -62,7 +63,7 @@ fn pass(
     total: &mut [u32],
     out: &mut [u8],
 ) -> Standing
-    ensures { λ r. ⌜ Follows got (now (bytes .entry)) (length (now (out .entry)))
+    ensures { λ r. ⌜ AfterRead got (now (bytes .entry)) (length (now (out .entry)))
         (stateOf position (now (line .entry)) (now (total .entry))) r (stateOf (r .position) (now (line .exit)) (now (total .exit))) ⌝ }
 {
     if got < 0 {

@@ -1,4 +1,4 @@
-// Comparisons and choices of the step sheet on binary32 patterns. They make no line. A comparison with NaN fails, and +0 equals -0.
+// What the rules of a step sheet ask of patterns (R5.3, R5.4): by the values that they stand for, and without a line.
 use choose::choose_sign;
 use pattern::copy_sign;
 use pattern::flipped;
@@ -59,7 +59,7 @@ pub fn overflows(second: u32, a: u32) -> bool
     choose_sign(is_zero(second), false, is_infinite(a))
 }
 
-// z is 2^-102 with the sign opposite to a, and w equals t2.
+// Where a tiny product is lowered (R5.16).
 pub fn tiny_tie(a: u32, z: u32, w: u32, t2: u32) -> bool
     ensures { λ r. ⌜ r ≡ tinyTie a z w t2 ⌝ }
 {

@@ -33,7 +33,7 @@ pub fn recomposition(lines: &mut Rows, n: usize, a: u32, b: u32) -> Foot
     }
 }
 
-// A zero second takes first's sign.
+// A second that is zero gets the sign that first has (R5.6).
 pub fn zero_finish(lines: &mut Rows, n: usize, first: u32, second: u32) -> Foot
     requires { ⌜ n < mostLines ⌝ }
     ensures { λ r. ⌜ Follows (now (lines .entry)) (now (lines .exit)) n (zeroFinish first second) r ⌝ }

@@ -1,4 +1,4 @@
-// The constants of the step sheet (R5.1). Each stands as the first operand of a multiplication, but for u, which is taken away.
+// The constants of the step sheet (R5.1): first factors (R5.2), and u, which is taken away.
 // 1 - 2^-24
 pub const PSI: u32 = 0x3f7f_ffff;
 

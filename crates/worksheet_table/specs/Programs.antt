@@ -1,5 +1,5 @@
 -- Straight-line programs of steps, the tests that choose among them, and what a program writes on a sheet (R5).
--- Of `worksheet_spec`, the other account of R5, only the records of a line and of a sheet are used: no rule, constant or choice of it.
+-- Of `worksheet_spec`, the other account of R5, only what a line and a sheet are is used: no rule, constant or choice of it.
 use Prim.Native.Nat.{ℕ, zero, suc, _+_ as plus}
 use mathlib.Core.Bool.{Bool, true, false, not, cond, _&&_, _||_}
 use mathlib.Core.List.{List, [], _∷_, _++_}
@@ -91,7 +91,7 @@ constantPattern 2^-102 = 0x0c80_0000
 constantPattern 2^-125 = 0x0100_0000
 constantPattern 2^-126 = 0x0080_0000
 
--- the result of line k, given the results of all lines so far
+-- the result of line k, given the results of all lines so far; 0 where there is none, and `WellMade` says that no such line is mentioned
 unfoldable pub resultOf : ℕ → List ℕ → ℕ
 resultOf k [] = 0
 resultOf zero (r ∷ rs) = 0

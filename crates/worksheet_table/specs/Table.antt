@@ -1,6 +1,7 @@
 -- The rules of the step sheet (R5) as a table: for each way through them its tests, its lines and its foot.
 -- The comment behind a line has the line's number and the name that R5 gives its result; a list of lines goes by the numbers of the whole
--- sheet. In the names of ways, Changed is recomposition's (z, -b) and Kept its (a, b); Zero is zero finish; Lowered is R5.8.
+-- sheet. In the names of ways, Changed is recomposition's (z, -b) and Kept its (a, b), and of a tiny product
+-- an a that is not lowered; Zero is zero finish, but for `productZero`, where a is zero; Lowered is R5.8.
 use Prim.Native.Nat.{ℕ}
 use mathlib.Core.Bool.{cond}
 use mathlib.Core.List.{List, [], _∷_, _++_}

@@ -2,6 +2,7 @@ use borrow.Author.Needs.{needs}
 use mathlib.Core.Path.{sym, ap, _∙_}
 use Prim.Native.Nat.{ℕ}
 use borrow.Author.Tests.{ne-eqb}
+use Rattle.accumulator_spec.proofs.Answers.{reading-other}
 use Rattle.accumulator_read.specs.Inner.{replied}
 use Rattle.accumulator.proofs.read.Statement.{statement}
 use Rattle.accumulator.proofs.read.Tie as tie
@@ -19,7 +20,7 @@ returns-3 : tie.Need-returns-3
 returns-3 c =
     let r = c .before .read in
     let n = r .result .refusal in
-    rw (ne-eqb n 0 (c .match .rest .0 .1), ne-eqb n 5 (c .match .rest .1)) at (r .ensures)
+    reading-other _ n (rw (ne-eqb n 0 (c .match .rest .0 .1)) at (r .ensures)) (c .match .rest .1)
 
 pub read-spec : {M : Type 1} → statement M
 read-spec = tie.close (tie.spec read-requires returns returns-2 returns-3)

@@ -5,6 +5,7 @@ pub mod Foots
 pub mod Blocks
 pub mod Sums
 pub mod Products
+pub mod Branches
 pub mod ProductSheet
 pub mod EachLine
 pub mod Derivation

@@ -141,7 +141,8 @@ module _ (x y : ℕ) where
         ∙ ap (λ (steps : List Step). cond (tie x y) (subtract ∷ []) [] ++ steps) (finish-steps (first x y) (corrected x y)))
 
     middle-ordered : 2 ^ 24 ≤ m → m ≤ 2 ^ 47 → let steps = stepsOf (middleProduct x y .lines) in
-        (isZeroPattern (middleProduct x y .second) ≡ true → steps ≡ middleSteps ++ finishStep) × (isZeroPattern (middleProduct x y .second) ≡ false → (steps ≡ middleSteps) ⊎ (steps ≡ middleSteps ++ (subtract ∷ [])))
+        (isZeroPattern (middleProduct x y .second) ≡ true → steps ≡ middleSteps ++ finishStep)
+        × (isZeroPattern (middleProduct x y .second) ≡ false → (steps ≡ middleSteps) ⊎ (steps ≡ middleSteps ++ (subtract ∷ [])))
     unfolding middleProduct scaledDown
     middle-ordered lo hi =
         let f = middle-facts lo hi in

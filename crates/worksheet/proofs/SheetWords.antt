@@ -59,7 +59,7 @@ pub sheet-words : (ls : List Line) → length ls ≤ mostLines → flat (rowsWit
 unfolding flat sheetWords
 sheet-words ls h = rowsWith-words ls [] mostLines h
 
-pub lines-counted : (o : Operation) (x y : ℕ) {rows : Rows} {foot : Foot} → Follows (blank mostLines) rows 0 (sheetOf o x y) foot → foot .next ≤ mostLines
+pub lines-counted : (o : Operation) (x y : ℕ) {given rows : Rows} {foot : Foot} → Follows given rows 0 (sheetOf o x y) foot → foot .next ≤ mostLines
 lines-counted o x y f = omega (arith, f .next, line-count o x y .1)
 
 -- ---- answers

@@ -6,7 +6,7 @@ use mathlib.Core.List.{List, [], _∷_, _++_, append-assoc}
 use Prim.Native.Nat.{ℕ, _+_, _*_, _-_, _≤_, _<_}
 use native.Mathlib.Omega.{arith}
 use borrow.Author.Tests.{lt-ltb, le-ltb, le-leb, lt-leb}
-use lib.Dec.{ltb}
+use lib.Dec.{T, ltb, ltb→lt, nltb→le}
 use lib.ListN.{length, take, drop, replicate, length-append, length-replicate, length-drop}
 use lib.Seq.{take-at, drop-at}
 use Rattle.pattern_spec.specs.Answer.{refused}
@@ -19,11 +19,15 @@ use Rattle.worksheet_spec.specs.Filling.{lineWords, linesWords, sheetWor
 use Rattle.worksheet_spec.specs.Theorems.{FillingRefused, FilledPair}
 use Rattle.worksheet_spec.proofs.FootIsPair.{foot-is-pair}
 
--- ---- one law a case
+-- ---- one law a case, whichever test comes first
 module _ (o x y : ℕ) (words : List ℕ) where
   pub unknown-operation : isOperation o ≡ false → filling o x y words ≡ refused 10
   unfolding filling
-  unknown-operation e = rw e
+  unknown-operation e = go (ltb (length words) sheetSize) refl
+    where
+      go : (short : Bool) → ltb (length words) sheetSize ≡ short → filling o x y words ≡ refused 10
+      go true h = simp (h, e)
+      go false h = simp (h, e)
 
   pub short-words : isOperation o ≡ true → length words < sheetSize → filling o x y words ≡ refused 9
   unfolding filling
@@ -59,13 +63,12 @@ unfolding sheetAnswer
 answer-is o x y = let f = foot-is-pair o x y in rw (f .0, f .1)
 
 pub filled-pair : FilledPair
-unfolding filling
-filled-pair o x y words = go (isOperation o) (ltb (length words) sheetSize)
+filled-pair o x y words = go (isOperation o) (ltb (length words) sheetSize) refl (ltb→lt (length words) sheetSize) (nltb→le (length words) sheetSize)
   where
-    go : (known short : Bool) → HasDirectPair o x y (cond (not known) (refused 10) (cond short (refused 9) (sheetAnswer (operationOf o) x y)))
-    go false short = tt
-    go true true = tt
-    go true false = subst (HasDirectPair o x y) (sym (answer-is (operationOf o) x y)) refl
+    go : (known short : Bool) → isOperation o ≡ known → (T short → length words < sheetSize) → (T (not short) → sheetSize ≤ length words) → HasDirectPair o x y (filling o x y words)
+    go false short e h k = subst (HasDirectPair o x y) (sym (unknown-operation o x y words e)) tt
+    go true true e h k = subst (HasDirectPair o x y) (sym (short-words o x y words e (h tt))) tt
+    go true false e h k = subst (HasDirectPair o x y) (sym (fills o x y words e (k tt) ∙ answer-is (operationOf o) x y)) refl
 
 -- ---- the words
 words-length : (ls : List Line) → length (linesWords ls) ≡ lineSize * length ls

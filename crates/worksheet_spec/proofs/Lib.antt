@@ -7,6 +7,7 @@ pub mod Blocks
 pub mod Sums
 pub mod Products
 pub mod FiniteProduct
+pub mod Branches
 pub mod ProductSheet
 pub mod EachLine
 pub mod Derivation

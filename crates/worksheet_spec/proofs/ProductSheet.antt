@@ -6,8 +6,6 @@ use Prim.Native.Nat.{ℕ, _*_, _^_, _<_}
 use native.Mathlib.Nat.{eq-zero-or-pos}
 use native.Mathlib.Decide.{decLe}
 use native.Mathlib.Omega.{arith}
-use borrow.Author.Tests.{ltb-true, ltb-false, leb-true, leb-false, eqb-true, eqb-false}
-use lib.Dec.{ltb, leb, eqb}
 use lib.Ieee.{unlike}
 use Rattle.rounding_spec.specs.declared.Ties.the-variants.{ToEven}
 use Rattle.rounding_spec.specs.Format.{binary32, limit}
@@ -27,6 +25,7 @@ use Rattle.worksheet_spec.proofs.Patterns.{mul-width, minus-nan}
 use Rattle.worksheet_spec.proofs.Foots.{Foots, foots-infinite, foots-nan}
 use Rattle.worksheet_spec.proofs.Blocks.{recomposed-none, edge-none}
 use Rattle.errorfree_spec.proofs.NoNumber.{not-both, number-of, one-of, both-of, product-none, mul-left, mul-right, fma-nan, mul-kept}
+use Rattle.worksheet_spec.proofs.Branches.{branch-zero, branch-tiny, branch-middle, branch-other}
 use Rattle.worksheet_spec.proofs.Products.{p-value, pi, infinite-foot, zero-foot, tiny-foot, middle-foot, other-foot}
 
 -- ---- finite operands: by the magnitude of a
@@ -44,15 +43,17 @@ module _ (x y : ℕ) (s t : Bool) (a b : ℕ) (xi : value x ≡ finite s a) (yi 
   Ends k = Foots (finite r (a * b)) (productBy k x y p)
 
   fine-foot : A < limit binary32 → Ends (branchOf (finite r A))
-  unfolding branchOf productBy
-  fine-foot fine = by (eqb A 0) refl (ltb A (2 ^ 24)) refl (leb A (2 ^ 47)) refl
-    where
-      by : (i : Bool) → eqb A 0 ≡ i → (j : Bool) → ltb A (2 ^ 24) ≡ j → (k : Bool) → leb A (2 ^ 47) ≡ k
-          → Foots (finite r (a * b)) (productBy (cond i whenZero (cond j whenTiny (cond k whenMiddle otherwise))) x y p)
-      by true e j f k g = zero-foot x y s t a b xi yi xr yr xb yb fine (eqb-true A 0 e)
-      by false e true f k g = tiny-foot x y s t a b xi yi xr yr xb yb fine (elim (eq-zero-or-pos A) [ inl z ↦ absurd (eqb-false A 0 e z) | inr h ↦ h ]) (ltb-true A (2 ^ 24) f)
-      by false e false f true g = middle-foot x y s t a b xi yi xr yr xb yb fine (ltb-false A (2 ^ 24) f) (leb-true A (2 ^ 47) g)
-      by false e false f false g = other-foot x y s t a b xi yi xr yr xb yb fine (leb-false A (2 ^ 47) g)
+  unfolding productBy
+  fine-foot fine = elim (eq-zero-or-pos A) [
+    | inl z ↦ subst Ends (sym (branch-zero r A z)) (zero-foot x y s t a b xi yi xr yr xb yb fine z)
+    | inr h ↦ elim (decLe (2 ^ 24) A) [
+      | no low ↦ let k : A < 2 ^ 24 = omega arith in subst Ends (sym (branch-tiny r A h k)) (tiny-foot x y s t a b xi yi xr yr xb yb fine h k)
+      | yes high ↦ elim (decLe A (2 ^ 47)) [
+        | yes k ↦ subst Ends (sym (branch-middle r A high k)) (middle-foot x y s t a b xi yi xr yr xb yb fine high k)
+        | no over ↦ let k : 2 ^ 47 < A = omega arith in subst Ends (sym (branch-other r A k)) (other-foot x y s t a b xi yi xr yr xb yb fine k)
+      ]
+    ]
+  ]
 
   finite-foot : Ends (branchOf (value p))
   unfolding branchOf productBy

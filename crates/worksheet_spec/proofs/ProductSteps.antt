@@ -6,7 +6,6 @@ use mathlib.Core.List.{List, [], _∷_, _++_}
 use Prim.Native.Nat.{ℕ, _+_, _-_, _^_, _≤_, _<_}
 use native.Mathlib.Nat.{le-refl, mul-one}
 use native.Mathlib.Omega.{arith}
-use borrow.Author.Tests.{eq-eqb, ne-eqb, lt-ltb, le-ltb, le-leb, lt-leb}
 use lib.Dec.{T}
 use Rattle.rounding_spec.specs.Format.{binary32, limit}
 use Rattle.rounding_spec.specs.Nearest.{dist}
@@ -28,6 +27,7 @@ use Rattle.worksheet_spec.specs.Sheets.{middleProduct, otherProduct, bra
 use Rattle.worksheet_spec.specs.Theorems.{stepsOf, recompositionSteps, finishStep, edgeSteps, tinySteps, middleSteps, ProductSteps}
 use Rattle.worksheet_spec.proofs.Patterns.{mul-width, minus-nan, sign-value}
 use Rattle.worksheet_spec.proofs.Constants.{smallest-value}
+use Rattle.worksheet_spec.proofs.Branches.{branch-zero, branch-tiny, branch-middle, branch-other}
 use Rattle.worksheet_spec.proofs.TinyResults as tiny
 use Rattle.worksheet_spec.proofs.Products.{first, β, tie, corrected, corrected-nonzero, first-number}
 use Rattle.worksheet_spec.proofs.FiniteProduct.{factors-of}
@@ -41,24 +41,6 @@ corrected-steps : (c : Bool) (a : ℕ) (ls : List Line) → stepsOf (cond c (low
 unfolding lowering
 corrected-steps true a ls = refl
 corrected-steps false a ls = refl
-
--- ---- which branch
-module _ (s : Bool) (m : ℕ) where
-  branch-zero : m ≡ 0 → branchOf (finite s m) ≡ whenZero
-  unfolding branchOf
-  branch-zero z = rw (eq-eqb m 0 z)
-
-  branch-tiny : 0 < m → m < 2 ^ 24 → branchOf (finite s m) ≡ whenTiny
-  unfolding branchOf
-  branch-tiny h k = rw (ne-eqb m 0 (λ (e : m ≡ 0). omega arith), lt-ltb m (2 ^ 24) k)
-
-  branch-middle : 2 ^ 24 ≤ m → m ≤ 2 ^ 47 → branchOf (finite s m) ≡ whenMiddle
-  unfolding branchOf
-  branch-middle h k = rw (ne-eqb m 0 (λ (e : m ≡ 0). omega arith), le-ltb m (2 ^ 24) h, le-leb m (2 ^ 47) k)
-
-  branch-other : 2 ^ 47 < m → branchOf (finite s m) ≡ otherwise
-  unfolding branchOf
-  branch-other h = rw (ne-eqb m 0 (λ (e : m ≡ 0). omega arith), le-ltb m (2 ^ 24) (omega arith), lt-leb m (2 ^ 47) h)
 
 module _ (x y : ℕ) where
   abbrev p : ℕ

@@ -9,7 +9,7 @@ returns : tie.Need-returns
 returns c = not-an-operation _ _ _ _ (inl (omega arith))
 
 returns-2 : tie.Need-returns-2
-returns-2 c = not-an-operation _ _ _ _ (inr (c .if2 .taken))
+returns-2 c = not-an-operation _ _ _ _ (inr (omega arith))
 
 returns-3 : tie.Need-returns-3
 returns-3 c = too-few-words _ _ _ _ (omega arith) (omega arith) (c .if3 .taken)

@@ -117,21 +117,22 @@ EightLast =
     × (side ≡ onOther → enteringProducts before ≡ 0) × (questions after ≡ 0)
 
 -- 1 and 1 in the operation of this number
-abbrev pub ones : ℕ → List ℕ → Posed
-ones n words = record { operation = n; x = 0x3f80_0000; y = 0x3f80_0000; words = words }
+abbrev pub questionOfOnes : ℕ → List ℕ → Posed
+questionOfOnes n words = record { operation = n; x = 0x3f80_0000; y = 0x3f80_0000; words = words }
 
 -- 1 + 1, 1 - 1 and 1 * 1 enter (R7.8), and so they do in one list, with other calls before, between and after them
 abbrev pub OnesEnter : Type 0
 OnesEnter =
     (words : List ℕ) → sheetSize ≤ length words
-    → (enters (ones 1 words) ≡ true) × (enters (ones 2 words) ≡ true) × (enters (ones 3 words) ≡ true)
-    × (let es = withOtherCalls (ones 1 words ∷ ones 2 words ∷ ones 3 words ∷ []) in (enteringSums es ≡ 2) × (enteringProducts es ≡ 1))
+    → (enters (questionOfOnes 1 words) ≡ true) × (enters (questionOfOnes 2 words) ≡ true) × (enters (questionOfOnes 3 words) ≡ true)
+    × (let es = withOtherCalls (questionOfOnes 1 words ∷ questionOfOnes 2 words ∷ questionOfOnes 3 words ∷ []) in
+    (enteringSums es ≡ 2) × (enteringProducts es ≡ 1))
 
 -- 32,768 times 1 + 1 fill both totals: any finite term may then be added to either, and answers 8; the claim holds of the whole list.
 abbrev pub EightReached : Type 0
 EightReached =
     (a b words : List ℕ) (x : Term) → length a ≡ totalSize → length b ≡ totalSize → sheetSize ≤ length words → finiteOperands x ≡ true
-    → let t = cleared a b in let sums = replicate mostQuestions (asks (ones 1 words)) in
+    → let t = cleared a b in let sums = replicate mostQuestions (asks (questionOfOnes 1 words)) in
     let es = sums ++ (adds onFirst x ∷ adds onOther x ∷ []) in
     Allowed t es × (questions es ≡ mostQuestions) × (enteringSums sums ≡ mostQuestions)
     × ((side : Side) → adding (totalOn side (afterEvents t sums)) x ≡ refused 8)

@@ -1,5 +1,6 @@
 -- What is proved of lists. `All`, at the end, lists the statements, and `proofs/Theorems.antt` proves them.
--- What is said of one sheet, its lines, line count, foot and flags, stands in worksheet_spec's Theorems (`EachLine` to `FilledPair`).
+-- What is said of one sheet, its lines, line count, foot and flags, stands in worksheet_spec's Theorems (`EachLine` to `FilledPair`) and
+-- in worksheet_table's (`Agree`).
 use Prim.Native.Nat.{ℕ, _+_, _^_, _≤_, _<_}
 use mathlib.Core.Path.{_≡_}
 use mathlib.Core.Logic.{_⊎_, _↔_, _≢_}
@@ -68,7 +69,7 @@ AllowedNext =
     × ((side : Side) (x : ℕ) → Then (adds side (ofPattern x)) ↔ (Allowed t es × (Special x ⊎ Full side)))
     × ((side : Side) (x y : ℕ) → Then (adds side (ofProduct x y)) ↔ (Allowed t es × (Special x ⊎ Special y ⊎ Full side)))
 
--- readings, and additions of an infinity and of a product with a NaN, on both totals
+-- readings, and additions of an infinity and of a product with a NaN, on both totals (R7.7)
 abbrev pub otherCalls : List Event
 otherCalls =
     reads onFirst ∷ reads onOther
@@ -86,7 +87,7 @@ OnPatterns [] = Unit {0}
 OnPatterns (q ∷ qs) = (q .x < 2 ^ 32) × (q .y < 2 ^ 32) × OnPatterns qs
 
 -- Whatever the questions, those calls may stand there: the claim holds of such a list, both totals end as by the questions alone, and each
--- of the additions answers 7 and changes nothing.
+-- of the additions answers 7 and changes nothing (R7.7, R8.7).
 abbrev pub AmongOthers : Type 0
 AmongOthers =
     (a b : List ℕ) (qs : List Posed) → length a ≡ totalSize → length b ≡ totalSize → length qs ≤ mostQuestions → OnPatterns qs
@@ -105,7 +106,7 @@ FullWhen =
     (count (t .first) ≡ mostTerms ↔ (enteringSums es + enteringProducts es ≡ mostQuestions))
     × (count (t .other) ≡ mostTerms ↔ (enteringSums es ≡ mostQuestions))
 
--- A finite term that is added in a list answers 8. It stands after 32,768 questions that all entered, on the other total only where no
+-- An addition of a finite term in a list answers 8. It stands after 32,768 questions that all entered, on the other total only where no
 -- product was among them; no question follows.
 abbrev pub EightLast : Type 0
 EightLast =
@@ -128,7 +129,8 @@ OnesEnter =
     × (let es = withOtherCalls (questionOfOnes 1 words ∷ questionOfOnes 2 words ∷ questionOfOnes 3 words ∷ []) in
     (enteringSums es ≡ 2) × (enteringProducts es ≡ 1))
 
--- 32,768 times 1 + 1 fill both totals: any finite term may then be added to either, and answers 8; the claim holds of the whole list.
+-- 32,768 times 1 + 1 fill both totals: an addition of any finite term may then stand, on either, and answers 8; the claim holds of the
+-- whole list (R7.7, R8.7).
 abbrev pub EightReached : Type 0
 EightReached =
     (a b words : List ℕ) (x : Term) → length a ≡ totalSize → length b ≡ totalSize → sheetSize ≤ length words → finiteOperands x ≡ true

@@ -17,12 +17,12 @@ use Rattle.augmented_spec.specs.Direct.{directPair}
 use Rattle.worksheet_spec.specs.Lines.{sheetSize}
 use Rattle.accumulator_spec.specs.Totals.{totalSize, mostTerms, count, Term, finiteOperands, adding}
 use Rattle.conservation_spec.specs.Lists.{mostQuestions, enters, Totals, Side, onFirst, onOther, totalOn}
-use Rattle.conservation_spec.specs.Lists.{Event, asks, reads, adds, afterEvent, afterEvents, questions, enteringSums, enteringProducts}
+use Rattle.conservation_spec.specs.Lists.{Event, asks, adds, afterEvent, afterEvents, questions, enteringSums, enteringProducts}
 use Rattle.conservation_spec.specs.Claim.{BothHold, Met}
 use Rattle.conservation_spec.specs.Theorems.{Allowed, cleared, FullWhen, EightLast, withOtherCalls, questionOfOnes, OnesEnter, EightReached}
 use Rattle.conservation_spec.proofs.Allowed.{asks-allowed, adds-allowed, adds-only, allowed-here, allowed-join, allowed-more}
 use Rattle.conservation_spec.proofs.Claim.{conserved, enters-exactly, entered}
-use Rattle.conservation_spec.proofs.Others.{met-each}
+use Rattle.conservation_spec.proofs.Calls.{met-each, questions-join}
 
 -- ---- when a total is full, by s sums and differences and p products
 first-full : (c s p : ℕ) → c ≡ 2 * (s + p) → (c ≡ mostTerms) ↔ (s + p ≡ mostQuestions)
@@ -40,13 +40,6 @@ full-when a b es la lb few w =
     (first-full (count (t .first)) s p (k .firstCount), other-full (count (t .other)) s p (k .otherCount) (le-trans (entered es) few))
 
 -- ---- where a finite term can stand
-questions-join : (es fs : List Event) → questions (es ++ fs) ≡ questions es + questions fs
-unfolding questions
-questions-join [] fs = omega arith
-questions-join (asks q ∷ es) fs = omega (arith, questions-join es fs)
-questions-join (reads side ∷ es) fs = questions-join es fs
-questions-join (adds side x ∷ es) fs = questions-join es fs
-
 -- what a full total says of the list before: on the first every question entered, on the other no product
 record Filled (side : Side) (es : List Event) : Type 0 where
   pub all : enteringSums es + enteringProducts es ≡ mostQuestions

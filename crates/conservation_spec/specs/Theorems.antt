@@ -10,13 +10,14 @@ use lib.ListN.{length, getD, replicate}
 use Rattle.pattern_spec.specs.Answer.{refused, done}
 use Rattle.rounding_spec.specs.Format.{binary32}
 use Rattle.rounding_spec.specs.Value.{decode, isFinite}
+use Rattle.augmented_spec.specs.Pairs.{pairOf}
 use Rattle.worksheet_spec.specs.Lines.{sheetSize}
 use Rattle.accumulator_spec.specs.Words.{Words}
 use Rattle.accumulator_spec.specs.Totals.{totalSize, mostTerms, zeros, count, afterClearing}
-use Rattle.accumulator_spec.specs.Totals.{Term, ofPattern, ofProduct, finiteOperands, adding}
+use Rattle.accumulator_spec.specs.Totals.{Term, ofPattern, ofProduct, finiteOperands, adding, exactNumber, pairAnswer, reading}
 use Rattle.conservation_spec.specs.Lists.{mostQuestions, Posed, directFor, enters, Totals, Side, onFirst, onOther, totalOn}
 use Rattle.conservation_spec.specs.Lists.{Event, asks, reads, adds, afterEvent, afterEvents, questions}
-use Rattle.conservation_spec.specs.Lists.{enteringSums, enteringProducts}
+use Rattle.conservation_spec.specs.Lists.{book, enteringSums, enteringProducts}
 use Rattle.conservation_spec.specs.Claim.{BothHold, MetNow, Met}
 use Rattle.conservation_spec.specs.Replay.{Asking, Lent, entriesOf, eventsOf, replaying, afterReplaying}
 
@@ -45,6 +46,14 @@ Conserved =
 -- each call was met by the totals that the calls before it left (R7.5)
 abbrev pub MetEach : Type 0
 MetEach = (t : Totals) (before after : List Event) (e : Event) → Met t (before ++ (e ∷ after)) → MetNow (afterEvents t before) e
+
+-- each reading, on either total, answers what R6.5 to R6.8 give for S as the calls before it left it (R7.7)
+abbrev pub ReadEach : Type 0
+ReadEach =
+    (a b : List ℕ) (before after : List Event) (side : Side) → length a ≡ totalSize → length b ≡ totalSize
+    → let es = before ++ (reads side ∷ after) in
+    questions es ≤ mostQuestions → Allowed (cleared a b) es
+    → reading (totalOn side (afterEvents (cleared a b) before)) ≡ pairAnswer (pairOf binary32 (exactNumber (book before)))
 
 -- a question enters exactly under the three conditions of R7.8
 abbrev pub EntersExactly : Type 0
@@ -172,5 +181,5 @@ QuestionLimit = mostQuestions ≡ 32768
 -- ---- all of them
 abbrev pub All : Type 0
 All =
-    QuestionLimit × Conserved × MetEach × EntersExactly × AllowedNext × AmongOthers × FullWhen × EightLast × OnesEnter × EightReached
-    × ReplayConserves × ReplayRefused × ReplayUnchanged
+    QuestionLimit × Conserved × MetEach × ReadEach × EntersExactly × AllowedNext × AmongOthers × FullWhen × EightLast × OnesEnter
+    × EightReached × ReplayConserves × ReplayRefused × ReplayUnchanged

@@ -17,12 +17,12 @@ use Rattle.augmented_spec.specs.Direct.{directPair}
 use Rattle.worksheet_spec.specs.Lines.{sheetSize}
 use Rattle.accumulator_spec.specs.Totals.{totalSize, mostTerms, count, Term, finiteOperands, adding}
 use Rattle.conservation_spec.specs.Lists.{mostQuestions, enters, Totals, Side, onFirst, onOther, totalOn}
-use Rattle.conservation_spec.specs.Lists.{Event, asks, reads, adds, afterEvent, afterEvents, questions, enteringSums, enteringProducts}
+use Rattle.conservation_spec.specs.Lists.{Event, asks, adds, afterEvent, afterEvents, questions, enteringSums, enteringProducts}
 use Rattle.conservation_spec.specs.Claim.{BothHold, Met}
-use Rattle.conservation_spec.specs.Theorems.{Allowed, cleared, FullWhen, EightLast, withOtherCalls, ones, OnesEnter, EightReached}
+use Rattle.conservation_spec.specs.Theorems.{Allowed, cleared, FullWhen, EightLast, withOtherCalls, questionOfOnes, OnesEnter, EightReached}
 use Rattle.conservation_spec.proofs.Allowed.{asks-allowed, adds-allowed, adds-only, allowed-here, allowed-join, allowed-more}
 use Rattle.conservation_spec.proofs.Claim.{conserved, enters-exactly, entered}
-use Rattle.conservation_spec.proofs.Others.{met-each}
+use Rattle.conservation_spec.proofs.Calls.{met-each, questions-join}
 
 -- ---- when a total is full, by s sums and differences and p products
 first-full : (c s p : ℕ) → c ≡ 2 * (s + p) → (c ≡ mostTerms) ↔ (s + p ≡ mostQuestions)
@@ -40,13 +40,6 @@ full-when a b es la lb few w =
     (first-full (count (t .first)) s p (k .firstCount), other-full (count (t .other)) s p (k .otherCount) (le-trans (entered es) few))
 
 -- ---- where a finite term can stand
-questions-join : (es fs : List Event) → questions (es ++ fs) ≡ questions es + questions fs
-unfolding questions
-questions-join [] fs = omega arith
-questions-join (asks q ∷ es) fs = omega (arith, questions-join es fs)
-questions-join (reads side ∷ es) fs = questions-join es fs
-questions-join (adds side x ∷ es) fs = questions-join es fs
-
 -- what a full total says of the list before: on the first every question entered, on the other no product
 record Filled (side : Side) (es : List Event) : Type 0 where
   pub all : enteringSums es + enteringProducts es ≡ mostQuestions
@@ -93,17 +86,17 @@ eight-last a b before after side x la lb few w f =
 
 -- ---- 1 and 1
 module _ (words : List ℕ) (long : sheetSize ≤ length words) where
-  enters-one : enters (ones 1 words) ≡ true
+  enters-one : enters (questionOfOnes 1 words) ≡ true
   unfolding directPair times keep lastPlace size decode
-  enters-one = enters-exactly (ones 1 words) .1 (lit≤ tt, lit≤ tt, long, refl, refl, refl)
+  enters-one = enters-exactly (questionOfOnes 1 words) .1 (lit≤ tt, lit≤ tt, long, refl, refl, refl)
 
-  enters-two : enters (ones 2 words) ≡ true
+  enters-two : enters (questionOfOnes 2 words) ≡ true
   unfolding directPair times keep lastPlace size decode
-  enters-two = enters-exactly (ones 2 words) .1 (lit≤ tt, lit≤ tt, long, refl, refl, refl)
+  enters-two = enters-exactly (questionOfOnes 2 words) .1 (lit≤ tt, lit≤ tt, long, refl, refl, refl)
 
-  enters-three : enters (ones 3 words) ≡ true
+  enters-three : enters (questionOfOnes 3 words) ≡ true
   unfolding directPair times keep lastPlace size decode
-  enters-three = enters-exactly (ones 3 words) .1 (lit≤ tt, lit≤ tt, long, refl, refl, refl)
+  enters-three = enters-exactly (questionOfOnes 3 words) .1 (lit≤ tt, lit≤ tt, long, refl, refl, refl)
 
 pub ones-enter : OnesEnter
 unfolding enteringSums enteringProducts withOtherCalls
@@ -114,7 +107,7 @@ ones-enter words long =
 -- ---- 1 + 1, n times
 module _ (words : List ℕ) (long : sheetSize ≤ length words) where
   abbrev repeated : ℕ → List Event
-  repeated n = replicate n (asks (ones 1 words))
+  repeated n = replicate n (asks (questionOfOnes 1 words))
 
   repeated-sums : (n : ℕ) → enteringSums (repeated n) ≡ n
   unfolding enteringSums
@@ -129,7 +122,7 @@ module _ (words : List ℕ) (long : sheetSize ≤ length words) where
   repeated-allowed : (n : ℕ) (t : Totals) → Allowed t (repeated n)
   unfolding Allowed
   repeated-allowed zero t = tt
-  repeated-allowed (suc n) t = (asks-allowed t (ones 1 words) (lit< tt, lit< tt), repeated-allowed n _)
+  repeated-allowed (suc n) t = (asks-allowed t (questionOfOnes 1 words) (lit< tt, lit< tt), repeated-allowed n _)
 
   module _ (a b : List ℕ) (x : Term) (la : length a ≡ totalSize) (lb : length b ≡ totalSize) (f : finiteOperands x ≡ true) (n : ℕ) (most : n ≡ mostQuestions) where
     few : questions (repeated n) ≤ mostQuestions

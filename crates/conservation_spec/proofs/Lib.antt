@@ -4,6 +4,7 @@ pub mod Allowed
 pub mod Conservation
 pub mod Settled
 pub mod Claim
+pub mod Calls
 pub mod Others
 pub mod Full
 pub mod Events

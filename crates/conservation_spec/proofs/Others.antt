@@ -12,15 +12,11 @@ use Rattle.accumulator_spec.specs.Totals.{Term, ofPattern, ofProduct, finiteOpe
 use Rattle.conservation_spec.specs.Lists.{Posed, operationFor, enters, exactOfPatterns, oneSum, oneProduct, Totals, Side, onFirst, onOther}
 use Rattle.conservation_spec.specs.Lists.{Event, asks, reads, adds, afterEvent, afterEvents, book, questions, enteringSums, enteringProducts}
 use Rattle.conservation_spec.specs.Claim.{BothHold, Met}
-use Rattle.conservation_spec.specs.Theorems.{Allowed, cleared, MetEach, otherCalls, withOtherCalls, OnPatterns, AmongOthers}
+use Rattle.conservation_spec.specs.Theorems.{Allowed, cleared, otherCalls, withOtherCalls, OnPatterns, AmongOthers}
 use Rattle.conservation_spec.proofs.Allowed.{asks-allowed, reads-allowed, adds-allowed, allowed-first}
 use Rattle.conservation_spec.proofs.Conservation.{holding, firstTerms, otherTerms}
 use Rattle.conservation_spec.proofs.Claim.{conserved}
-
-pub met-each : MetEach
-unfolding Met afterEvents
-met-each t [] after e h = h .0
-met-each t (f ∷ before) after e h = met-each (afterEvent t f) before after e (h .1)
+use Rattle.conservation_spec.proofs.Calls.{met-each}
 
 -- ---- their operands
 infinity-special : finiteOperands (ofPattern 0x7f80_0000) ≡ false

@@ -1,9 +1,10 @@
 -- The theorems of `specs/Theorems.antt`.
 use mathlib.Core.Path.{refl}
-use Rattle.conservation_spec.specs.Theorems.{QuestionLimit, Conserved, MetEach, EntersExactly, AllowedNext, AmongOthers, FullWhen, EightLast, OnesEnter, EightReached}
-use Rattle.conservation_spec.specs.Theorems.{ReplayConserves, ReplayRefused, ReplayUnchanged, All}
+use Rattle.conservation_spec.specs.Theorems.{QuestionLimit, Conserved, MetEach, ReadEach, EntersExactly, AllowedNext, AmongOthers, FullWhen, EightLast}
+use Rattle.conservation_spec.specs.Theorems.{OnesEnter, EightReached, ReplayConserves, ReplayRefused, ReplayUnchanged, All}
 use Rattle.conservation_spec.proofs.Allowed as allowed
 use Rattle.conservation_spec.proofs.Claim as claim
+use Rattle.conservation_spec.proofs.Calls as calls
 use Rattle.conservation_spec.proofs.Others as others
 use Rattle.conservation_spec.proofs.Full as full
 use Rattle.conservation_spec.proofs.Outcome as outcome
@@ -16,7 +17,10 @@ pub enters-exactly : EntersExactly
 enters-exactly = claim.enters-exactly
 
 pub met-each : MetEach
-met-each = others.met-each
+met-each = calls.met-each
+
+pub read-each : ReadEach
+read-each = calls.read-each
 
 pub allowed-next : AllowedNext
 allowed-next = allowed.allowed-next
@@ -53,6 +57,7 @@ all = (
   question-limit,
   conserved,
   met-each,
+  read-each,
   enters-exactly,
   allowed-next,
   among-others,

@@ -29,7 +29,8 @@ pub record BothHold (t : Totals) (es : List Event) : Type 0 where
   pub otherRead : reading (t .other) ≡ pairAnswer (pairOf binary32 (exactNumber (book es)))
 
 -- How a call was met. All terms of an entering question were accepted (R7.13). Other adding calls answer 7 or 8, and nothing is changed by
--- them, by a question that does not enter, or by a reading (R7.7, R7.11); what a reading answers is the claim about the list before it.
+-- them, by a question that does not enter, or by a reading (R7.7, R7.11); what a reading answers is stated of the list before it, by
+-- `ReadEach`.
 abbrev pub MetNow : Totals → Event → Type 0
 MetNow t (asks q) =
     (enters q ≡ true

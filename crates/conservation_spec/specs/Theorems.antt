@@ -1,5 +1,6 @@
 -- What is proved of lists. `All`, at the end, lists the statements, and `proofs/Theorems.antt` proves them.
--- What is said of one sheet, its lines, line count, foot and flags, stands in worksheet_spec's Theorems (`EachLine` to `FilledPair`).
+-- What is said of one sheet, its lines, line count, foot and flags, stands in worksheet_spec's Theorems (`EachLine` to `FilledPair`) and
+-- in worksheet_table's (`Agree`).
 use Prim.Native.Nat.{ℕ, _+_, _^_, _≤_, _<_}
 use mathlib.Core.Path.{_≡_}
 use mathlib.Core.Logic.{_⊎_, _↔_, _≢_}
@@ -9,13 +10,14 @@ use lib.ListN.{length, getD, replicate}
 use Rattle.pattern_spec.specs.Answer.{refused, done}
 use Rattle.rounding_spec.specs.Format.{binary32}
 use Rattle.rounding_spec.specs.Value.{decode, isFinite}
+use Rattle.augmented_spec.specs.Pairs.{pairOf}
 use Rattle.worksheet_spec.specs.Lines.{sheetSize}
 use Rattle.accumulator_spec.specs.Words.{Words}
 use Rattle.accumulator_spec.specs.Totals.{totalSize, mostTerms, zeros, count, afterClearing}
-use Rattle.accumulator_spec.specs.Totals.{Term, ofPattern, ofProduct, finiteOperands, adding}
+use Rattle.accumulator_spec.specs.Totals.{Term, ofPattern, ofProduct, finiteOperands, adding, exactNumber, pairAnswer, reading}
 use Rattle.conservation_spec.specs.Lists.{mostQuestions, Posed, directFor, enters, Totals, Side, onFirst, onOther, totalOn}
 use Rattle.conservation_spec.specs.Lists.{Event, asks, reads, adds, afterEvent, afterEvents, questions}
-use Rattle.conservation_spec.specs.Lists.{enteringSums, enteringProducts}
+use Rattle.conservation_spec.specs.Lists.{book, enteringSums, enteringProducts}
 use Rattle.conservation_spec.specs.Claim.{BothHold, MetNow, Met}
 use Rattle.conservation_spec.specs.Replay.{Asking, Lent, entriesOf, eventsOf, replaying, afterReplaying}
 
@@ -45,6 +47,14 @@ Conserved =
 abbrev pub MetEach : Type 0
 MetEach = (t : Totals) (before after : List Event) (e : Event) → Met t (before ++ (e ∷ after)) → MetNow (afterEvents t before) e
 
+-- each reading, on either total, answers what R6.5 to R6.8 give for S as the calls before it left it (R7.7)
+abbrev pub ReadEach : Type 0
+ReadEach =
+    (a b : List ℕ) (before after : List Event) (side : Side) → length a ≡ totalSize → length b ≡ totalSize
+    → let es = before ++ (reads side ∷ after) in
+    questions es ≤ mostQuestions → Allowed (cleared a b) es
+    → reading (totalOn side (afterEvents (cleared a b) before)) ≡ pairAnswer (pairOf binary32 (exactNumber (book before)))
+
 -- a question enters exactly under the three conditions of R7.8
 abbrev pub EntersExactly : Type 0
 EntersExactly =
@@ -68,7 +78,7 @@ AllowedNext =
     × ((side : Side) (x : ℕ) → Then (adds side (ofPattern x)) ↔ (Allowed t es × (Special x ⊎ Full side)))
     × ((side : Side) (x y : ℕ) → Then (adds side (ofProduct x y)) ↔ (Allowed t es × (Special x ⊎ Special y ⊎ Full side)))
 
--- readings, and additions of an infinity and of a product with a NaN, on both totals
+-- readings, and additions of an infinity and of a product with a NaN, on both totals (R7.7)
 abbrev pub otherCalls : List Event
 otherCalls =
     reads onFirst ∷ reads onOther
@@ -86,7 +96,7 @@ OnPatterns [] = Unit {0}
 OnPatterns (q ∷ qs) = (q .x < 2 ^ 32) × (q .y < 2 ^ 32) × OnPatterns qs
 
 -- Whatever the questions, those calls may stand there: the claim holds of such a list, both totals end as by the questions alone, and each
--- of the additions answers 7 and changes nothing.
+-- of the additions answers 7 and changes nothing (R7.7, R8.7).
 abbrev pub AmongOthers : Type 0
 AmongOthers =
     (a b : List ℕ) (qs : List Posed) → length a ≡ totalSize → length b ≡ totalSize → length qs ≤ mostQuestions → OnPatterns qs
@@ -105,7 +115,7 @@ FullWhen =
     (count (t .first) ≡ mostTerms ↔ (enteringSums es + enteringProducts es ≡ mostQuestions))
     × (count (t .other) ≡ mostTerms ↔ (enteringSums es ≡ mostQuestions))
 
--- A finite term that is added in a list answers 8. It stands after 32,768 questions that all entered, on the other total only where no
+-- An addition of a finite term in a list answers 8. It stands after 32,768 questions that all entered, on the other total only where no
 -- product was among them; no question follows.
 abbrev pub EightLast : Type 0
 EightLast =
@@ -117,21 +127,23 @@ EightLast =
     × (side ≡ onOther → enteringProducts before ≡ 0) × (questions after ≡ 0)
 
 -- 1 and 1 in the operation of this number
-abbrev pub ones : ℕ → List ℕ → Posed
-ones n words = record { operation = n; x = 0x3f80_0000; y = 0x3f80_0000; words = words }
+abbrev pub questionOfOnes : ℕ → List ℕ → Posed
+questionOfOnes n words = record { operation = n; x = 0x3f80_0000; y = 0x3f80_0000; words = words }
 
 -- 1 + 1, 1 - 1 and 1 * 1 enter (R7.8), and so they do in one list, with other calls before, between and after them
 abbrev pub OnesEnter : Type 0
 OnesEnter =
     (words : List ℕ) → sheetSize ≤ length words
-    → (enters (ones 1 words) ≡ true) × (enters (ones 2 words) ≡ true) × (enters (ones 3 words) ≡ true)
-    × (let es = withOtherCalls (ones 1 words ∷ ones 2 words ∷ ones 3 words ∷ []) in (enteringSums es ≡ 2) × (enteringProducts es ≡ 1))
+    → (enters (questionOfOnes 1 words) ≡ true) × (enters (questionOfOnes 2 words) ≡ true) × (enters (questionOfOnes 3 words) ≡ true)
+    × (let es = withOtherCalls (questionOfOnes 1 words ∷ questionOfOnes 2 words ∷ questionOfOnes 3 words ∷ []) in
+    (enteringSums es ≡ 2) × (enteringProducts es ≡ 1))
 
--- 32,768 times 1 + 1 fill both totals: any finite term may then be added to either, and answers 8; the claim holds of the whole list.
+-- 32,768 times 1 + 1 fill both totals: an addition of any finite term may then stand, on either, and answers 8; the claim holds of the
+-- whole list (R7.7, R8.7).
 abbrev pub EightReached : Type 0
 EightReached =
     (a b words : List ℕ) (x : Term) → length a ≡ totalSize → length b ≡ totalSize → sheetSize ≤ length words → finiteOperands x ≡ true
-    → let t = cleared a b in let sums = replicate mostQuestions (asks (ones 1 words)) in
+    → let t = cleared a b in let sums = replicate mostQuestions (asks (questionOfOnes 1 words)) in
     let es = sums ++ (adds onFirst x ∷ adds onOther x ∷ []) in
     Allowed t es × (questions es ≡ mostQuestions) × (enteringSums sums ≡ mostQuestions)
     × ((side : Side) → adding (totalOn side (afterEvents t sums)) x ≡ refused 8)
@@ -169,5 +181,5 @@ QuestionLimit = mostQuestions ≡ 32768
 -- ---- all of them
 abbrev pub All : Type 0
 All =
-    QuestionLimit × Conserved × MetEach × EntersExactly × AllowedNext × AmongOthers × FullWhen × EightLast × OnesEnter × EightReached
-    × ReplayConserves × ReplayRefused × ReplayUnchanged
+    QuestionLimit × Conserved × MetEach × ReadEach × EntersExactly × AllowedNext × AmongOthers × FullWhen × EightLast × OnesEnter
+    × EightReached × ReplayConserves × ReplayRefused × ReplayUnchanged

@@ -1,18 +1,19 @@
 -- The ways of a product.
 use Prim.Native.Nat.{ℕ}
 use mathlib.Core.Path.{_≡_, refl, _∙_}
-use mathlib.Core.Bool.{true}
+use mathlib.Core.Bool.{true, false}
 use Rattle.binary32_spec.specs.Steps.{mulStep}
+use Rattle.errorfree_spec.specs.Comparisons.{lessMagnitude}
 use Rattle.worksheet_spec.specs.Lines.{value}
 use Rattle.worksheet_spec.specs.Sheets.{whenInfinite, whenZero, whenTiny, whenMiddle, otherwise, recomposition, zeroFinish, recomposedFinished, atEdge, edgeFinish, infiniteProduct}
 use Rattle.worksheet_spec.specs.Sheets.{lowered, lowering, tinyTie, tinyProduct, restTie, scaledDown, middleProduct, otherProduct, productBy, productSheet}
 use Rattle.worksheet_spec.proofs.Products.{tie}
 use Rattle.worksheet_spec.proofs.ProductSteps.{sheet-by}
-use Rattle.worksheet_table.specs.Programs.{sheetAlong, passes}
+use Rattle.worksheet_table.specs.Programs.{line, _equals_, isZero, sheetAlong, passes, notAbove}
 use Rattle.worksheet_table.specs.Table.{productInfinite, productEdge, productZero, tinyLowered, tinyKept}
-use Rattle.worksheet_table.specs.Table.{middleChanged, middleChangedZero, middleKept, middleKeptZero, middleLowered, otherChanged, otherKept, otherKeptZero}
-use Rattle.worksheet_table.proofs.Told.{Told}
-use Rattle.worksheet_table.proofs.Branches.{infinite-branch, zero-branch, tiny-branch, middle-branch, other-branch}
+use Rattle.worksheet_table.specs.Table.{middleChanged, middleChangedZero, middleKept, middleKeptZero, middleLowered, atRestTie, otherChanged, otherKept, otherKeptZero}
+use Rattle.worksheet_table.proofs.Told.{Told, asked}
+use Rattle.worksheet_table.proofs.Branches.{low, high, infinite-branch, zero-branch, tiny-branch, middle-branch, other-branch}
 use Rattle.worksheet_table.proofs.Excluded.{lowered-nonzero}
 
 module _ (x y : ℕ) where
@@ -55,14 +56,15 @@ module _ (x y : ℕ) where
   unfolding productBy middleProduct recomposition scaledDown restTie lowered lowering zeroFinish sheetAlong passes
   middle-kept-zero k = sheet-by x y whenMiddle (middle-branch (value p) (k .0) (k .1 .0) (k .1 .1 .0)) ∙ rw (k .1 .1 .1 .0, k .1 .1 .1 .1 .0, k .1 .1 .1 .1 .1 .0) refl
 
+  -- a kept pair's lowered rest is not zero
+  pub kept-lowered : lessMagnitude (value p) low ≡ false → notAbove (value p) high ≡ true → asked middleLowered x y (line 7 equals line 6) ≡ false → asked middleLowered x y atRestTie ≡ true
+      → asked middleLowered x y (isZero (line 12)) ≡ false
+  unfolding productBy middleProduct recomposition scaledDown restTie lowered lowering zeroFinish sheetAlong passes
+  kept-lowered l h e t = let tied : tie x y ≡ true = rw e t in rw (e, t) at (lowered-nonzero x y l h tied)
+
   pub middle-lowered : Told middleLowered x y → productSheet x y ≡ sheetAlong middleLowered x y
   unfolding productBy middleProduct recomposition scaledDown restTie lowered lowering zeroFinish sheetAlong passes
-  middle-lowered k =
-      let e = k .1 .1 .1 .0 in
-      let t = k .1 .1 .1 .1 .0 in
-      let tied : tie x y ≡ true = rw e t in
-      let nonzero = rw (e, t) at (lowered-nonzero x y (k .1 .0) (k .1 .1 .0) tied) in
-      sheet-by x y whenMiddle (middle-branch (value p) (k .0) (k .1 .0) (k .1 .1 .0)) ∙ rw (e, t, nonzero)
+  middle-lowered k = sheet-by x y whenMiddle (middle-branch (value p) (k .0) (k .1 .0) (k .1 .1 .0)) ∙ rw (k .1 .1 .1 .0, k .1 .1 .1 .1 .0, k .1 .1 .1 .1 .1 .0) refl
 
   pub other-changed : Told otherChanged x y → productSheet x y ≡ sheetAlong otherChanged x y
   unfolding productBy otherProduct recomposedFinished recomposition zeroFinish sheetAlong passes

@@ -26,16 +26,16 @@ and-false true = refl
 and-false false = refl
 
 module _ (x y : ℕ) where
-  abbrev a : ℕ
+  abbrev pub a : ℕ
   a = addStep x y
 
-  abbrev b : ℕ
+  abbrev pub b : ℕ
   b = subStep y (subStep a x)
 
-  abbrev e=d : Bool
+  abbrev pub e=d : Bool
   e=d = equal (mulStep two b) (subStep (mulStep psi a) a)
 
-  changed-bounded : e=d ≡ true → values.isInfinite (value a) ≡ false
+  pub changed-bounded : e=d ≡ true → values.isInfinite (value a) ≡ false
   changed-bounded h = bounded (value a) e=d h (none-recomposed a b)
 
   zero-bounded : isZeroPattern b ≡ true → values.isInfinite (value a) ≡ false
@@ -43,7 +43,7 @@ module _ (x y : ℕ) where
 
   pub changed : Told sumChanged x y → sumInOrder x y ≡ sheetAlong sumChanged x y
   unfolding sumInOrder recomposedFinished recomposition zeroFinish overflows sheetAlong passes
-  changed k = rw (k .0, k .1 .0, k .1 .0, changed-bounded (k .0)) refl
+  changed k = rw (k .0, k .1 .0, k .1 .0, k .1 .1 .0) refl
 
   pub changed-zero : Told sumChangedZero x y → sumInOrder x y ≡ sheetAlong sumChangedZero x y
   unfolding sumInOrder recomposedFinished recomposition zeroFinish overflows sheetAlong passes

@@ -41,10 +41,11 @@ halvedLines =
 abbrev pub atSumEdge : Test
 atSumEdge = line 9 equals 2^127 withSignOf line 9 and line 11 equals minus (2^102 withSignOf line 9)
 
--- Recomposition gives (z, -b) where e = d (R5.5). An infinite a does not meet this, and leaves no zero second: `EachWay` says so of the
--- ways that do not ask whether a is infinite.
+-- Recomposition gives (z, -b) where e = d (R5.5). No way has a changed pair, a second that is not zero and an infinite a: that this does
+-- not occur, `OneWay` says.
 abbrev pub sumChanged : Way
-sumChanged = way (line 6 equals line 5 ∷ isNot (isZero (minus (line 3))) ∷ []) sumLines (line 4) (minus (line 3))
+sumChanged =
+    way (line 6 equals line 5 ∷ isNot (isZero (minus (line 3))) ∷ isNot (isInfinite (line 1)) ∷ []) sumLines (line 4) (minus (line 3))
 
 -- zero finish (R5.6)
 abbrev pub sumChangedZero : Way
@@ -181,10 +182,10 @@ middleKeptZero =
     way (middle ++ isNot (line 7 equals line 6) ∷ isNot atRestTie ∷ isZero (line 9) ∷ [])
     (middleLines ++ keptLines ++ +0 * line 8 ∷ []) (line 8) (line 12)
 
--- a lowered second is not zero: `EachWay` says so
+-- no way has a lowered second that is zero: `OneWay` says that there is none
 abbrev pub middleLowered : Way
 middleLowered =
-    way (middle ++ isNot (line 7 equals line 6) ∷ atRestTie ∷ [])
+    way (middle ++ isNot (line 7 equals line 6) ∷ atRestTie ∷ isNot (isZero (line 12)) ∷ [])
     (middleLines ++ keptLines ++ line 9 - u withSignOf line 9 ∷ []) (line 8) (line 12)
 
 -- any other product, NaN too (R5.19), and recomposition

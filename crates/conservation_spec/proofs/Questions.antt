@@ -2,7 +2,7 @@
 use mathlib.Core.Path.{_≡_, refl, sym, ap, ap₂, _∙_, subst}
 use mathlib.Core.Logic.{inl, inr}
 use mathlib.Core.Bool.{Bool, true, false, not}
-use mathlib.Core.List.{List, [], _∷_}
+use mathlib.Core.List.{List, [], _∷_, _++_}
 use Prim.Native.Nat.{ℕ, zero, suc, _+_, _≤_, _<_}
 use native.Mathlib.Nat.{le-of-eq}
 use native.Mathlib.Numerals.{add-one}
@@ -38,17 +38,7 @@ module _ (x y : ℕ) (words : List ℕ) where
   filling-length (suc (suc (suc zero))) = known-length product 3 (omega arith) (omega arith) refl
   filling-length (suc (suc (suc (suc o)))) = ap length (filling-refused (suc (suc (suc (suc o)))) x y words .0 (inr (omega arith)) .1)
 
--- ---- entries: as many as operation numbers, the ith of each array, and those of the first i
-entries-length : (os xs ys counts : List ℕ) → length xs ≡ length os → length ys ≡ length os → length counts ≡ length os
-    → length (entries os xs ys counts) ≡ length os
-unfolding entries
-entries-length [] xs ys counts a b c = refl
-entries-length (o ∷ os) [] ys counts a b c = absurd (omega arith)
-entries-length (o ∷ os) (x ∷ xs) [] counts a b c = absurd (omega arith)
-entries-length (o ∷ os) (x ∷ xs) (y ∷ ys) [] a b c = absurd (omega arith)
-entries-length (o ∷ os) (x ∷ xs) (y ∷ ys) (n ∷ counts) a b c = ap suc (entries-length os xs ys counts (omega arith) (omega arith) (omega arith))
-
--- the ith question
+-- ---- entries: the ith of each array, as many as operation numbers, and those of the first i
 abbrev pub entryAt : Asking → ℕ → Entry
 entryAt q i = record { operation = getD (q .operations) i 0; x = getD (q .xs) i 0; y = getD (q .ys) i 0; count = getD (q .counts) i 0 }
 
@@ -62,6 +52,15 @@ entries-at (o ∷ os) (x ∷ xs) (y ∷ ys) [] i e a b c h = absurd (omega arith
 entries-at (o ∷ os) (x ∷ xs) (y ∷ ys) (n ∷ counts) zero e a b c h = refl
 entries-at (o ∷ os) (x ∷ xs) (y ∷ ys) (n ∷ counts) (suc i) e a b c h = entries-at os xs ys counts i e (omega arith) (omega arith) (omega arith) (omega arith)
 
+entries-length : (os xs ys counts : List ℕ) → length xs ≡ length os → length ys ≡ length os → length counts ≡ length os
+    → length (entries os xs ys counts) ≡ length os
+unfolding entries
+entries-length [] xs ys counts a b c = refl
+entries-length (o ∷ os) [] ys counts a b c = absurd (omega arith)
+entries-length (o ∷ os) (x ∷ xs) [] counts a b c = absurd (omega arith)
+entries-length (o ∷ os) (x ∷ xs) (y ∷ ys) [] a b c = absurd (omega arith)
+entries-length (o ∷ os) (x ∷ xs) (y ∷ ys) (n ∷ counts) a b c = ap suc (entries-length os xs ys counts (omega arith) (omega arith) (omega arith))
+
 entries-first : (os xs ys counts : List ℕ) (i : ℕ) → entries (take i os) (take i xs) (take i ys) (take i counts) ≡ take i (entries os xs ys counts)
 unfolding entries
 entries-first os xs ys counts zero = refl
@@ -73,11 +72,6 @@ entries-first (o ∷ os) (x ∷ xs) (y ∷ ys) (n ∷ counts) (suc i) =
     ap (λ (es : List Entry). record { operation = o; x = x; y = y; count = n } ∷ es) (entries-first os xs ys counts i)
 
 -- ---- the questions of entries, and the words that the first i leave
-events-length : (es : List Entry) (words : List ℕ) → length (eventsOf es words) ≡ length es
-unfolding eventsOf
-events-length [] words = refl
-events-length (e ∷ es) words = ap suc (events-length es (wordsAfter words e))
-
 events-at : (es : List Entry) (words : List ℕ) (i : ℕ) (d : Entry) → i < length es
     → getD (eventsOf es words) i (reads onFirst) ≡ asks (posedOn (wordsAfterAll (take i es) words) (getD es i d))
 unfolding eventsOf wordsAfterAll
@@ -86,11 +80,17 @@ events-at (e ∷ es) words zero d h = refl
 events-at (e ∷ es) words (suc i) d h = events-at es (wordsAfter words e) i d (omega arith)
 
 words-next : (es : List Entry) (words : List ℕ) (i : ℕ) (d : Entry) → i < length es
-    → wordsAfterAll (take (suc i) es) words ≡ wordsAfter (wordsAfterAll (take i es) words) (getD es i d)
+    → let before = wordsAfterAll (take i es) words in let e = getD es i d in
+    wordsAfterAll (take (suc i) es) words ≡ afterFilling (e .operation) (e .x) (e .y) (take (e .count) before) ++ drop (e .count) before
 unfolding wordsAfterAll
 words-next [] words i d h = absurd (omega arith)
 words-next (e ∷ es) words zero d h = refl
 words-next (e ∷ es) words (suc i) d h = words-next es (wordsAfter words e) i d (omega arith)
+
+events-length : (es : List Entry) (words : List ℕ) → length (eventsOf es words) ≡ length es
+unfolding eventsOf
+events-length [] words = refl
+events-length (e ∷ es) words = ap suc (events-length es (wordsAfter words e))
 
 after-length : (words : List ℕ) (e : Entry) → length (wordsAfter words e) ≡ length words
 after-length words e =
@@ -123,6 +123,12 @@ module _ (q : Asking) (l : Lent) (carried : replaying q l ≡ done tt) where
   abbrev es : List Entry
   es = entriesOf q
 
+  ith : (i : ℕ) → i < n → getD es i (entryAt q i) ≡ entryAt q i
+  ith i inside = let f = fits q l carried in entries-at (q .operations) (q .xs) (q .ys) (q .counts) i (entryAt q i) (f .sameXs) (f .sameYs) (f .sameCounts) inside
+
+  as-many : length es ≡ n
+  as-many = let f = fits q l carried in entries-length (q .operations) (q .xs) (q .ys) (q .counts) (f .sameXs) (f .sameYs) (f .sameCounts)
+
   first-carried : (i : ℕ) → replaying (firstQuestions i q) l ≡ done tt
   first-carried i =
       let f = fits q l carried in
@@ -139,9 +145,6 @@ module _ (q : Asking) (l : Lent) (carried : replaying q l ≡ done tt) where
   left-length : (i : ℕ) → length (wordsLeft i q l) ≡ length (l .words)
   left-length i = ap length (left-is i) ∙ after-all-length (take i es) (l .words)
 
-  as-many : length es ≡ n
-  as-many = let f = fits q l carried in entries-length (q .operations) (q .xs) (q .ys) (q .counts) (f .sameXs) (f .sameYs) (f .sameCounts)
-
   module _ (i : ℕ) (inside : i < n) where
     abbrev many : ℕ
     many = getD (q .counts) i 0
@@ -152,19 +155,16 @@ module _ (q : Asking) (l : Lent) (carried : replaying q l ≡ done tt) where
     abbrev filled : List ℕ
     filled = afterFilling (getD (q .operations) i 0) (getD (q .xs) i 0) (getD (q .ys) i 0) part
 
-    ith : getD es i (entryAt q i) ≡ entryAt q i
-    ith = let f = fits q l carried in entries-at (q .operations) (q .xs) (q .ys) (q .counts) i (entryAt q i) (f .sameXs) (f .sameYs) (f .sameCounts) inside
-
     asked : getD (eventsOf es (l .words)) i (reads onFirst) ≡ asks (questionAt i q l)
     asked =
         events-at es (l .words) i (entryAt q i) (omega (arith, as-many))
-        ∙ ap₂ (λ (ws : List ℕ) (e : Entry). asks (posedOn ws e)) (sym (left-is i)) ith
+        ∙ ap₂ (λ (ws : List ℕ) (e : Entry). asks (posedOn ws e)) (sym (left-is i)) (ith i inside)
 
     left-next : wordsLeft (i + 1) q l ≡ wordsAfter (wordsLeft i q l) (entryAt q i)
     left-next =
         left-is (i + 1) ∙ ap (λ (k : ℕ). wordsAfterAll (take k es) (l .words)) (add-one i)
         ∙ words-next es (l .words) i (entryAt q i) (omega (arith, as-many))
-        ∙ ap₂ wordsAfter (sym (left-is i)) ith
+        ∙ ap₂ wordsAfter (sym (left-is i)) (ith i inside)
 
     filled-length : length filled ≡ many
     filled-length =

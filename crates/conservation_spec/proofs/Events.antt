@@ -8,10 +8,11 @@ use lib.ListN.{length, drop, getD, drop-of-length-le}
 use lib.Seq.{drop-cons}
 use Rattle.accumulator_spec.specs.Words.{Words}
 use Rattle.conservation_spec.specs.Lists.{Totals, afterQuestion, afterEvents, questions}
-use Rattle.conservation_spec.specs.Replay.{Asking, Lent, Entry, entries, posedOn, wordsAfter, eventsOf, wordsAfterAll, afterAsking}
+use Rattle.conservation_spec.specs.Replay.{Asking, Lent, entries, posedOn, wordsAfter, eventsOf, wordsAfterAll, afterAsking}
 use Rattle.conservation_spec.specs.Inner.{Settles}
 use Rattle.conservation_spec.specs.Theorems.{Allowed}
 use Rattle.conservation_spec.proofs.Allowed.{asks-allowed}
+use Rattle.conservation_spec.proofs.Questions.{entryAt}
 
 -- ---- as many questions as operation numbers
 pub questions-of : (os xs ys counts words : List ℕ) → length xs ≡ length os → length ys ≡ length os → length counts ≡ length os
@@ -44,10 +45,6 @@ module _ (q : Asking) (i : ℕ) where
   -- what it leaves
   abbrev pub leftFrom : Lent → Lent
   leftFrom l = afterAsking rest l
-
-  -- the ith question
-  abbrev pub entryAt : Entry
-  entryAt = record { operation = getD (q .operations) i 0; x = getD (q .xs) i 0; y = getD (q .ys) i 0; count = getD (q .counts) i 0 }
 
   pub nothing-left : (l : Lent) → length (q .operations) ≤ i → leftFrom l ≡ l
   unfolding entries eventsOf wordsAfterAll afterEvents

@@ -7,8 +7,9 @@ pub mod Claim
 pub mod Calls
 pub mod Others
 pub mod Full
-pub mod Events
 pub mod Misfits
 pub mod Refusals
+pub mod Questions
+pub mod Events
 pub mod Outcome
 pub mod Theorems

@@ -55,7 +55,7 @@ module _ (q : Asking) (l : Lent) where
       go true false = refl
       go false c = refl
 
-  equal-lengths : length (q .xs) ≡ n → length (q .ys) ≡ n → length (q .counts) ≡ n → allEqual q ≡ true
+  pub equal-lengths : length (q .xs) ≡ n → length (q .ys) ≡ n → length (q .counts) ≡ n → allEqual q ≡ true
   equal-lengths a b c = rw (eq-eqb (length (q .xs)) n a, eq-eqb (length (q .ys)) n b, eq-eqb (length (q .counts)) n c)
 
   not-both-cleared : (same : allEqual q ≡ true) → n ≤ mostQuestions → (l .totals .first ≢ zeros) ⊎ (l .totals .other ≢ zeros) → replaying q l ≡ refused 103

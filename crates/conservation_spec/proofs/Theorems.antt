@@ -1,13 +1,14 @@
 -- The theorems of `specs/Theorems.antt`.
 use mathlib.Core.Path.{refl}
 use Rattle.conservation_spec.specs.Theorems.{QuestionLimit, Conserved, MetEach, ReadEach, EntersExactly, AllowedNext, AmongOthers, FullWhen, EightLast}
-use Rattle.conservation_spec.specs.Theorems.{OnesEnter, EightReached, ReplayConserves, ReplayRefused, ReplayUnchanged, All}
+use Rattle.conservation_spec.specs.Theorems.{OnesEnter, EightReached, ReplayConserves, ReplayRefused, ReplayUnchanged, ReplayQuestions, ReplayWords, All}
 use Rattle.conservation_spec.proofs.Allowed as allowed
 use Rattle.conservation_spec.proofs.Claim as claim
 use Rattle.conservation_spec.proofs.Calls as calls
 use Rattle.conservation_spec.proofs.Others as others
 use Rattle.conservation_spec.proofs.Full as full
 use Rattle.conservation_spec.proofs.Outcome as outcome
+use Rattle.conservation_spec.proofs.Questions as questions
 use Rattle.conservation_spec.proofs.Refusals as refusals
 
 pub conserved : Conserved
@@ -49,6 +50,12 @@ replay-refused = refusals.replay-refused
 pub replay-unchanged : ReplayUnchanged
 replay-unchanged = refusals.replay-unchanged
 
+pub replay-questions : ReplayQuestions
+replay-questions = questions.replay-questions
+
+pub replay-words : ReplayWords
+replay-words = questions.replay-words
+
 pub question-limit : QuestionLimit
 question-limit = refl
 
@@ -68,4 +75,6 @@ all = (
   replay-conserves,
   replay-refused,
   replay-unchanged,
+  replay-questions,
+  replay-words,
 )

@@ -6,12 +6,13 @@ use mathlib.Core.Path.{_≡_}
 use mathlib.Core.Logic.{_⊎_, _↔_, _≢_}
 use mathlib.Core.Bool.{true, false}
 use mathlib.Core.List.{List, [], _∷_, _++_, map}
-use lib.ListN.{length, getD, replicate}
+use lib.ListN.{length, take, drop, getD, replicate}
 use Rattle.pattern_spec.specs.Answer.{refused, done}
 use Rattle.rounding_spec.specs.Format.{binary32}
 use Rattle.rounding_spec.specs.Value.{decode, isFinite}
 use Rattle.augmented_spec.specs.Pairs.{pairOf}
 use Rattle.worksheet_spec.specs.Lines.{sheetSize}
+use Rattle.worksheet_spec.specs.Filling.{afterFilling}
 use Rattle.accumulator_spec.specs.Words.{Words}
 use Rattle.accumulator_spec.specs.Totals.{totalSize, mostTerms, zeros, count, afterClearing}
 use Rattle.accumulator_spec.specs.Totals.{Term, ofPattern, ofProduct, finiteOperands, adding, exactNumber, pairAnswer, reading}
@@ -174,6 +175,49 @@ ReplayRefused =
 abbrev pub ReplayUnchanged : Type 0
 ReplayUnchanged = (q : Asking) (l : Lent) (m : ℕ) → replaying q l ≡ refused m → afterReplaying q l ≡ l
 
+-- ---- the questions of `replay` and its lent words, one by one (R8.13)
+-- the first i of its questions
+abbrev pub firstQuestions : ℕ → Asking → Asking
+firstQuestions i q =
+    record { operations = take i (q .operations); xs = take i (q .xs); ys = take i (q .ys); counts = take i (q .counts) }
+
+-- the words as a call with these alone leaves them
+abbrev pub wordsLeft : ℕ → Asking → Lent → List ℕ
+wordsLeft i q l = afterReplaying (firstQuestions i q) l .words
+
+-- Question i, counted from 0, has the ith of each array. It is lent as many of the first words as its count says, as the questions before
+-- it left them.
+abbrev pub questionAt : ℕ → Asking → Lent → Posed
+questionAt i q l =
+    record {
+      operation = getD (q .operations) i 0;
+      x = getD (q .xs) i 0;
+      y = getD (q .ys) i 0;
+      words = take (getD (q .counts) i 0) (wordsLeft i q l);
+    }
+
+-- Where `replay` is carried out, its list is these questions in their order, as many as the arrays have, and no other call (R8.12, R8.13).
+abbrev pub ReplayQuestions : Type 0
+ReplayQuestions =
+    (q : Asking) (l : Lent) → replaying q l ≡ done tt
+    → let es = eventsOf (entriesOf q) (l .words) in
+    (length es ≡ length (q .operations))
+    × ((i : ℕ) → i < length (q .operations) → getD es i (reads onFirst) ≡ asks (questionAt i q l))
+
+-- A call with the first i questions alone is carried out too, and leaves as many words as were lent. Without a question they stay as they
+-- were. Each question leaves the words that it is lent as filling leaves them, and those behind them as they were. After the last they are
+-- as the whole call leaves them (R8.13).
+abbrev pub ReplayWords : Type 0
+ReplayWords =
+    (q : Asking) (l : Lent) → replaying q l ≡ done tt
+    → let n = length (q .operations) in
+    ((i : ℕ) → (replaying (firstQuestions i q) l ≡ done tt) × (length (wordsLeft i q l) ≡ length (l .words)))
+    × (wordsLeft 0 q l ≡ l .words)
+    × ((i : ℕ) → i < n → let many = getD (q .counts) i 0 in let p = questionAt i q l in
+    (take many (wordsLeft (i + 1) q l) ≡ afterFilling (p .operation) (p .x) (p .y) (p .words))
+    × (drop many (wordsLeft (i + 1) q l) ≡ drop many (wordsLeft i q l)))
+    × (afterReplaying q l .words ≡ wordsLeft n q l)
+
 -- ---- how many questions a list has at most (R7.6)
 abbrev pub QuestionLimit : Type 0
 QuestionLimit = mostQuestions ≡ 32768
@@ -182,4 +226,4 @@ QuestionLimit = mostQuestions ≡ 32768
 abbrev pub All : Type 0
 All =
     QuestionLimit × Conserved × MetEach × ReadEach × EntersExactly × AllowedNext × AmongOthers × FullWhen × EightLast × OnesEnter
-    × EightReached × ReplayConserves × ReplayRefused × ReplayUnchanged
+    × EightReached × ReplayConserves × ReplayRefused × ReplayUnchanged × ReplayQuestions × ReplayWords

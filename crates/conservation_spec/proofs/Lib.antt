@@ -1,3 +1,4 @@
+pub mod Book
 pub mod Operands
 pub mod Entering
 pub mod Allowed

@@ -1,7 +1,8 @@
 -- The theorems of `specs/Theorems.antt`.
 use mathlib.Core.Path.{refl}
-use Rattle.conservation_spec.specs.Theorems.{QuestionLimit, Conserved, MetEach, ReadEach, EntersExactly, AllowedNext, AmongOthers, FullWhen, EightLast}
+use Rattle.conservation_spec.specs.Theorems.{QuestionLimit, Conserved, BookNext, MetEach, ReadEach, EntersExactly, AllowedNext, AmongOthers, FullWhen, EightLast}
 use Rattle.conservation_spec.specs.Theorems.{OnesEnter, EightReached, ReplayConserves, ReplayRefused, ReplayUnchanged, ReplayQuestions, ReplayWords, All}
+use Rattle.conservation_spec.proofs.Book as books
 use Rattle.conservation_spec.proofs.Allowed as allowed
 use Rattle.conservation_spec.proofs.Claim as claim
 use Rattle.conservation_spec.proofs.Calls as calls
@@ -13,6 +14,9 @@ use Rattle.conservation_spec.proofs.Refusals as refusals
 
 pub conserved : Conserved
 conserved = claim.conserved
+
+pub book-next : BookNext
+book-next = books.book-next
 
 pub enters-exactly : EntersExactly
 enters-exactly = claim.enters-exactly
@@ -63,6 +67,7 @@ pub all : All
 all = (
   question-limit,
   conserved,
+  book-next,
   met-each,
   read-each,
   enters-exactly,

@@ -4,13 +4,16 @@
 use Prim.Native.Nat.{ℕ, _+_, _^_, _≤_, _<_}
 use mathlib.Core.Path.{_≡_}
 use mathlib.Core.Logic.{_⊎_, _↔_, _≢_}
-use mathlib.Core.Bool.{true, false}
+use mathlib.Core.Bool.{Bool, true, false}
 use mathlib.Core.List.{List, [], _∷_, _++_, map}
+use lib.IntN.{pos, _+ℤ_}
 use lib.ListN.{length, take, drop, getD, replicate}
 use Rattle.pattern_spec.specs.Answer.{refused, done}
 use Rattle.rounding_spec.specs.Format.{binary32}
-use Rattle.rounding_spec.specs.Value.{decode, isFinite}
+use Rattle.rounding_spec.specs.Value.{finite, decode, isFinite}
+use Rattle.pattern_spec.specs.Exact.{int}
 use Rattle.augmented_spec.specs.Pairs.{pairOf}
+use Rattle.augmented_spec.specs.Direct.{exactResult, operationOf}
 use Rattle.worksheet_spec.specs.Lines.{sheetSize}
 use Rattle.worksheet_spec.specs.Filling.{afterFilling}
 use Rattle.accumulator_spec.specs.Words.{Words}
@@ -43,6 +46,18 @@ abbrev pub Conserved : Type 0
 Conserved =
     (a b : List ℕ) (es : List Event) → length a ≡ totalSize → length b ≡ totalSize → questions es ≤ mostQuestions
     → Allowed (cleared a b) es → BothHold (afterEvents (cleared a b) es) es × Met (cleared a b) es
+
+-- S (R7.12) is 0 at first; an entering question of finite operands changes it by its exact result, and no other call does. s and a are an
+-- operand's sign and magnitude.
+abbrev pub BookNext : Type 0
+BookNext =
+    (book [] ≡ pos 0)
+    × ((es : List Event) (q : Posed) (s t : Bool) (a b : ℕ) → enters q ≡ true
+    → decode binary32 (q .x) ≡ finite s a → decode binary32 (q .y) ≡ finite t b
+    → book (es ++ (asks q ∷ [])) ≡ book es +ℤ exactResult (operationOf (q .operation)) binary32 (int s a) (int t b))
+    × ((es : List Event) (q : Posed) → enters q ≡ false → book (es ++ (asks q ∷ [])) ≡ book es)
+    × ((es : List Event) (side : Side) → book (es ++ (reads side ∷ [])) ≡ book es)
+    × ((es : List Event) (side : Side) (x : Term) → book (es ++ (adds side x ∷ [])) ≡ book es)
 
 -- each call was met by the totals that the calls before it left (R7.5)
 abbrev pub MetEach : Type 0
@@ -225,5 +240,5 @@ QuestionLimit = mostQuestions ≡ 32768
 -- ---- all of them
 abbrev pub All : Type 0
 All =
-    QuestionLimit × Conserved × MetEach × ReadEach × EntersExactly × AllowedNext × AmongOthers × FullWhen × EightLast × OnesEnter
-    × EightReached × ReplayConserves × ReplayRefused × ReplayUnchanged × ReplayQuestions × ReplayWords
+    QuestionLimit × Conserved × BookNext × MetEach × ReadEach × EntersExactly × AllowedNext × AmongOthers × FullWhen × EightLast
+    × OnesEnter × EightReached × ReplayConserves × ReplayRefused × ReplayUnchanged × ReplayQuestions × ReplayWords

@@ -1,5 +1,5 @@
 -- The refusals of `replay`, as they are stated, and that they change nothing.
-use mathlib.Core.Path.{_≡_, refl, sym, ap}
+use mathlib.Core.Path.{_≡_, refl, sym, ap, _∙_, subst}
 use mathlib.Core.Logic.{_⊎_, _≢_, inl, inr}
 use mathlib.Core.Bool.{Bool, true, false, _&&_}
 use mathlib.Core.List.{List, [], _∷_}
@@ -8,12 +8,13 @@ use native.Mathlib.Omega.{arith}
 use borrow.Author.Tests.{eq-eqb, ne-eqb, le-leb}
 use lib.Dec.{eqb}
 use lib.ListN.{length, getD}
-use Rattle.pattern_spec.specs.Answer.{refused}
+use Rattle.pattern_spec.specs.Answer.{Answer, refused}
 use Rattle.accumulator_spec.specs.Totals.{zeros, isCleared}
 use Rattle.accumulator_spec.proofs.Zeros.{cleared-zeros}
-use Rattle.conservation_spec.specs.Lists.{mostQuestions}
-use Rattle.conservation_spec.specs.Replay.{Asking, Lent, allEqual, allWithin, replaying, afterReplaying}
-use Rattle.conservation_spec.specs.Theorems.{ReplayRefused, ReplayUnchanged}
+use Rattle.conservation_spec.specs.Lists.{mostQuestions, Event}
+use Rattle.conservation_spec.specs.Claim.{Conserves}
+use Rattle.conservation_spec.specs.Replay.{Asking, Lent, entriesOf, eventsOf, allEqual, allWithin, replaying, afterReplaying}
+use Rattle.conservation_spec.specs.Theorems.{ReplayRefused, ReplayUnchanged, ReplaysMeans}
 use Rattle.conservation_spec.proofs.Misfits.{within-at, unequal, too-many, first-not-cleared, other-not-cleared, past-words, nothing-wrong}
 
 -- ---- the conditions as truth values
@@ -82,3 +83,13 @@ replay-refused q l = (
 pub replay-unchanged : ReplayUnchanged
 unfolding afterReplaying
 replay-unchanged q l m e = rw e
+
+-- ---- as the contract has them
+pub replays-means : ReplaysMeans
+replays-means q before after answer r = (
+  λ m e. let n = sym (r .answered) ∙ e in (n, r .left ∙ replay-unchanged q before m n),
+  λ e. let h = subst (λ (a : Answer (Unit {0})). Conserves a es (before .totals) (after .totals)) e (r .conserves) in (sym (r .answered) ∙ e, r .left, h .0, h .1),
+)
+  where
+    es : List Event
+    es = eventsOf (entriesOf q) (before .words)

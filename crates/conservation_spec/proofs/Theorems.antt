@@ -1,7 +1,8 @@
 -- The theorems of `specs/Theorems.antt`.
 use mathlib.Core.Path.{refl}
 use Rattle.conservation_spec.specs.Theorems.{QuestionLimit, Conserved, BookNext, MetEach, ReadEach, EntersExactly, AllowedNext, AmongOthers, FullWhen, EightLast}
-use Rattle.conservation_spec.specs.Theorems.{OnesEnter, EightReached, ReplayConserves, ReplayRefused, ReplayUnchanged, ReplayQuestions, ReplayWords, All}
+use Rattle.conservation_spec.specs.Theorems.{OnesEnter, EightReached, ReplayConserves, ReplayRefused, ReplayUnchanged, ReplayQuestions, ReplayWords}
+use Rattle.conservation_spec.specs.Theorems.{ReplaysMeans, All}
 use Rattle.conservation_spec.proofs.Book as books
 use Rattle.conservation_spec.proofs.Allowed as allowed
 use Rattle.conservation_spec.proofs.Claim as claim
@@ -60,6 +61,9 @@ replay-questions = questions.replay-questions
 pub replay-words : ReplayWords
 replay-words = questions.replay-words
 
+pub replays-means : ReplaysMeans
+replays-means = refusals.replays-means
+
 pub question-limit : QuestionLimit
 question-limit = refl
 
@@ -82,4 +86,5 @@ all = (
   replay-unchanged,
   replay-questions,
   replay-words,
+  replays-means,
 )

@@ -8,7 +8,7 @@ use mathlib.Core.Bool.{Bool, true, false}
 use mathlib.Core.List.{List, [], _∷_, _++_, map}
 use lib.IntN.{pos, _+ℤ_}
 use lib.ListN.{length, take, drop, getD, replicate}
-use Rattle.pattern_spec.specs.Answer.{refused, done}
+use Rattle.pattern_spec.specs.Answer.{Answer, refused, done}
 use Rattle.rounding_spec.specs.Format.{binary32}
 use Rattle.rounding_spec.specs.Value.{finite, decode, isFinite}
 use Rattle.pattern_spec.specs.Exact.{int}
@@ -23,7 +23,7 @@ use Rattle.conservation_spec.specs.Lists.{mostQuestions, Posed, directFo
 use Rattle.conservation_spec.specs.Lists.{Event, asks, reads, adds, afterEvent, afterEvents, questions}
 use Rattle.conservation_spec.specs.Lists.{book, enteringSums, enteringProducts}
 use Rattle.conservation_spec.specs.Claim.{BothHold, MetNow, Met}
-use Rattle.conservation_spec.specs.Replay.{Asking, Lent, entriesOf, eventsOf, replaying, afterReplaying}
+use Rattle.conservation_spec.specs.Replay.{Asking, Lent, entriesOf, eventsOf, replaying, afterReplaying, Replays}
 
 -- ---- every list
 -- which lists: questions on patterns, readings, and adding calls with an operand that is not finite or on a total that is full (R7.7);
@@ -233,6 +233,17 @@ ReplayWords =
     × (drop many (wordsLeft (i + 1) q l) ≡ drop many (wordsLeft i q l)))
     × (afterReplaying q l .words ≡ wordsLeft n q l)
 
+-- what the contract of `replay` says: a refusal is the one that R8.12 gives, and nothing was changed; where it is carried out, everything
+-- ends as the questions leave it, and the claim holds of them (R7.13)
+abbrev pub ReplaysMeans : Type 0
+ReplaysMeans =
+    (q : Asking) (before after : Lent) (answer : Answer (Unit {0})) → Replays q before answer after
+    → let es = eventsOf (entriesOf q) (before .words) in
+    ((m : ℕ) → answer ≡ refused m → (replaying q before ≡ refused m) × (after ≡ before))
+    × (answer ≡ done tt
+    → (replaying q before ≡ done tt) × (after ≡ afterReplaying q before)
+    × BothHold (after .totals) es × Met (before .totals) es)
+
 -- ---- how many questions a list has at most (R7.6)
 abbrev pub QuestionLimit : Type 0
 QuestionLimit = mostQuestions ≡ 32768
@@ -241,4 +252,4 @@ QuestionLimit = mostQuestions ≡ 32768
 abbrev pub All : Type 0
 All =
     QuestionLimit × Conserved × BookNext × MetEach × ReadEach × EntersExactly × AllowedNext × AmongOthers × FullWhen × EightLast
-    × OnesEnter × EightReached × ReplayConserves × ReplayRefused × ReplayUnchanged × ReplayQuestions × ReplayWords
+    × OnesEnter × EightReached × ReplayConserves × ReplayRefused × ReplayUnchanged × ReplayQuestions × ReplayWords × ReplaysMeans

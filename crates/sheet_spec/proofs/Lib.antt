@@ -1,5 +1,6 @@
 pub mod Lines
 pub mod Bytes
+pub mod Runs
 pub mod Totals
 pub mod LineTexts
 pub mod Limit

@@ -1,8 +1,9 @@
 -- Proofs of the statements about what is printed (specs/Theorems.antt).
 use mathlib.Core.Path.{refl}
-use Rattle.sheet_spec.specs.Theorems.{ByteByByte, AnyReads, NothingAfterStop, NeverRefused, LineTexts, LineTerms, TotalTakesAll}
+use Rattle.sheet_spec.specs.Theorems.{ByteByByte, AnyReads, FeedsOn, WholeRun, NothingAfterStop, NeverRefused, LineTexts, LineTerms, TotalTakesAll}
 use Rattle.sheet_spec.specs.Theorems.{LinesAre, WithinLimit, PastLimit, SheetLimits, EmptyInput, TwoBadLines, PrintedExample, All}
 use Rattle.sheet_spec.proofs.Bytes as bytes
+use Rattle.sheet_spec.proofs.Runs as runs
 use Rattle.sheet_spec.proofs.Totals as totals
 use Rattle.sheet_spec.proofs.LineTexts as texts
 use Rattle.sheet_spec.proofs.Limit as limit
@@ -13,6 +14,12 @@ byte-by-byte = bytes.byte-by-byte
 
 pub any-reads : AnyReads
 any-reads = bytes.any-reads
+
+pub feeds-on : FeedsOn
+feeds-on = runs.feeds-on
+
+pub whole-run : WholeRun
+whole-run = runs.whole-run
 
 pub nothing-after-stop : NothingAfterStop
 nothing-after-stop = bytes.nothing-after-stop
@@ -55,6 +62,8 @@ pub all : All
 all = (
   byte-by-byte,
   any-reads,
+  feeds-on,
+  whole-run,
   nothing-after-stop,
   never-refused,
   line-texts,

@@ -5,7 +5,7 @@ use mathlib.Core.Logic.{_≢_}
 use mathlib.Core.Bool.{true, false, cond}
 use mathlib.Core.List.{List, [], _∷_, _++_}
 use lib.Dec.{eqb}
-use lib.ListN.{length}
+use lib.ListN.{length, take, drop}
 use Rattle.pattern_spec.specs.Answer.{refused, isDone}
 use Rattle.pattern_spec.specs.Classes.{bothFinite}
 use Rattle.rounding_spec.specs.Format.{binary32}
@@ -21,7 +21,8 @@ use Rattle.transcript_spec.specs.Texts.{lineRoom, decimal, lineOf, stepText, pa
 use Rattle.accumulator_spec.specs.Totals.{zeros, number, Term, ofPattern, FitTotal, exactNumber}
 use Rattle.accumulator_spec.specs.Columns.{column, Accepted, columnSum}
 use Rattle.sheet_spec.specs.Printed.{blank, linesOf, lineText, lineTerms, start, afterLines, mostInputLines, output}
-use Rattle.sheet_spec.specs.Calls.{lastRoom}
+use Rattle.sheet_spec.specs.Calls.{lastRoom, Feeds, Ends}
+use Rattle.sheet_spec.specs.declared.Progressed.{Progressed}
 use Rattle.sheet_spec.specs.States.{keptBytes, State, begin, takeBytes, bytesText, closeText}
 
 -- carried from byte to byte, the program prints the definition's text
@@ -39,6 +40,47 @@ readsText s (r ∷ rs) = bytesText s r ++ readsText (takeBytes s r) rs
 
 abbrev pub AnyReads : Type 0
 AnyReads = (reads : List (List ℕ)) → readsText begin reads ≡ output (joined reads)
+
+-- ---- what the calls of a run write
+-- A call that feeds takes bytes from the first on, writes their text at the buffer's start, leaves the rest of the buffer, and takes a byte
+-- at least where there is one, room for a line's text, and no `stop`.
+abbrev pub FeedsOn : Type 0
+FeedsOn =
+    (bytes out out' : List ℕ) (s after : State) (r : Progressed) → Feeds bytes s out r after out'
+    → (after ≡ takeBytes s (take (r .taken) bytes))
+    × (take (r .written) out' ≡ bytesText s (take (r .taken) bytes))
+    × (drop (r .written) out' ≡ drop (r .written) out)
+    × (0 < length bytes → s .stopped ≡ false → lineRoom ≤ length out → 0 < r .taken)
+
+-- a call that feeds: the bytes and the buffer that it was lent, what it answered, and the state and the buffer that it left
+pub record Call : Type 0 where
+  pub bytes : List ℕ
+  pub out : List ℕ
+  pub result : Progressed
+  pub after : State
+  pub left : List ℕ
+
+-- each is lent some of the input that is left, from its first byte on, and the next goes on behind what it took
+unfoldable pub Chain : State → List ℕ → List Call → Type 0
+Chain s input [] = input ≡ []
+Chain s input (c ∷ cs) =
+    (more : List ℕ) × (input ≡ c .bytes ++ more) × Feeds (c .bytes) s (c .out) (c .result) (c .after) (c .left)
+    × Chain (c .after) (drop (c .result .taken) (c .bytes) ++ more) cs
+
+unfoldable pub chainText : List Call → List ℕ
+chainText [] = []
+chainText (c ∷ cs) = take (c .result .written) (c .left) ++ chainText cs
+
+unfoldable pub chainState : State → List Call → State
+chainState s [] = s
+chainState s (c ∷ cs) = chainState (c .after) cs
+
+-- whatever is lent to each call, what they write, with what the last one writes at the input's end, is the definition's text
+abbrev pub WholeRun : Type 0
+WholeRun =
+    (cs : List Call) (input : List ℕ) → Chain begin input cs → (n : ℕ) (out total' out' : List ℕ)
+    → Ends (chainState begin cs) out n total' out' → lastRoom ≤ length out
+    → chainText cs ++ take n out' ≡ output input
 
 -- ---- after `stop` nothing is printed, whatever follows (R8.11). That no read follows is said by sheet_stream.
 abbrev pub NothingAfterStop : Type 0
@@ -175,5 +217,6 @@ abbrev pub PrintedExample : Type 0
 PrintedExample = (output (exampleQuestion ++ ascii "\n") ≡ exampleText) × (output exampleQuestion ≡ exampleText)
 
 abbrev pub All : Type 0
-All = ByteByByte × AnyReads × NothingAfterStop × NeverRefused × LineTexts × LineTerms × TotalTakesAll × LinesAre × WithinLimit
-    × PastLimit × SheetLimits × EmptyInput × TwoBadLines × PrintedExample
+All =
+    ByteByByte × AnyReads × FeedsOn × WholeRun × NothingAfterStop × NeverRefused × LineTexts × LineTerms × TotalTakesAll × LinesAre
+    × WithinLimit × PastLimit × SheetLimits × EmptyInput × TwoBadLines × PrintedExample

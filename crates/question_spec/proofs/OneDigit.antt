@@ -8,6 +8,7 @@ use native.Mathlib.Omega.{arith}
 use borrow.Author.Tests.{leb-true, le-leb, lt-leb, ltb-true, ltb-false, lt-ltb, le-ltb}
 use lib.Dec.{leb, ltb}
 use Rattle.question_spec.specs.Questions.{isDigit, digitValue, digit}
+use Rattle.question_spec.specs.Theorems.{Hexadecimal}
 
 pub and-true : (a b : Bool) → (a && b) ≡ true → (a ≡ true) × (b ≡ true)
 and-true true b is = (refl, is)
@@ -19,10 +20,16 @@ or-and true false d e is = inr (and-true d e is)
 or-and false b d e is = inr (and-true d e is)
 
 -- 0-9 or A-F
-digit-range : (c : ℕ) → isDigit c ≡ true → ((code "0" ≤ c) × (c ≤ code "9")) ⊎ ((code "A" ≤ c) × (c ≤ code "F"))
+pub digit-range : (c : ℕ) → isDigit c ≡ true → Hexadecimal c
 digit-range c is =
     ⊎-elim (λ w. inl (leb-true (code "0") c (w .0), leb-true c (code "9") (w .1))) (λ w. inr (leb-true (code "A") c (w .0), leb-true c (code "F") (w .1)))
     (or-and (leb (code "0") c) (leb c (code "9")) (leb (code "A") c) (leb c (code "F")) is)
+
+pub in-range : (c : ℕ) → Hexadecimal c → isDigit c ≡ true
+in-range c =
+    ⊎-elim (λ w. rw (le-leb (code "0") c (w .0), le-leb c (code "9") (w .1)))
+    (λ w. let h : code "9" < c = omega arith in
+    rw (le-leb (code "0") c (omega (arith, w .0)), lt-leb c (code "9") h, le-leb (code "A") c (w .0), le-leb c (code "F") (w .1)))
 
 pub digit-low : (c : ℕ) → isDigit c ≡ true → digitValue c < 16
 digit-low c is =
@@ -45,7 +52,5 @@ module _ (d : ℕ) (low : d < 16) where
 
   pub digit-is : isDigit (digit d) ≡ true
   digit-is =
-      ⊎-elim (λ h. rw (lt-ltb d 10 h, le-leb (code "0") (code "0" + d) (omega arith), le-leb (code "0" + d) (code "9") (omega arith)))
-      (λ h. let c : ℕ = code "A" - 10 + d in
-      rw (le-ltb d 10 h, lt-leb c (code "9") (omega arith), le-leb (code "0") c (omega arith), le-leb (code "A") c (omega arith), le-leb c (code "F") (omega arith)))
-      (small (ltb d 10) (ltb-true d 10) (ltb-false d 10))
+      ⊎-elim (λ h. rw (lt-ltb d 10 h) (in-range (code "0" + d) (inl (omega arith, omega arith))))
+      (λ h. rw (le-ltb d 10 h) (in-range (code "A" - 10 + d) (inr (omega arith, omega arith)))) (small (ltb d 10) (ltb-true d 10) (ltb-false d 10))

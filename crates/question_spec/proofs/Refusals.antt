@@ -1,11 +1,11 @@
 -- The refusals of a question line, each from the facts that lead to it.
 use mathlib.Core.Path.{_≡_, sym, _∙_}
 use mathlib.Core.List.{List}
-use mathlib.Core.Bool.{false, _&&_}
+use mathlib.Core.Bool.{true, false, _&&_}
 use Prim.Native.Nat.{ℕ}
 use borrow.Author.Tests.{eq-eqb, ne-eqb}
 use lib.ListN.{length, getD}
-use Rattle.pattern_spec.specs.Answer.{refused}
+use Rattle.pattern_spec.specs.Answer.{refused, isDone}
 use Rattle.question_spec.specs.Ascii.{tab}
 use Rattle.question_spec.specs.Questions.{questionSize, lettersOperation, allDigits, firstPattern, secondPattern, readQuestion}
 
@@ -32,3 +32,7 @@ module _ (s : List ℕ) (op : ℕ) (full : length s ≡ questionSize) (is : op �
         pub digits-refused : (allDigits (firstPattern s) && allDigits (secondPattern s)) ≡ false → refused 4 ≡ readQuestion s
         unfolding readQuestion
         digits-refused b = rw (eq-eqb (length s) questionSize full, ne-eqb (lettersOperation s) 0 (λ z. known (is ∙ z)), eq-eqb (getD s 3 0) tab first, eq-eqb (getD s 12 0) tab second, b)
+
+        pub not-refused : (allDigits (firstPattern s) && allDigits (secondPattern s)) ≡ true → isDone (readQuestion s) ≡ true
+        unfolding readQuestion
+        not-refused b = rw (eq-eqb (length s) questionSize full, ne-eqb (lettersOperation s) 0 (λ z. known (is ∙ z)), eq-eqb (getD s 3 0) tab first, eq-eqb (getD s 12 0) tab second, b)

@@ -1,3 +1,4 @@
+pub mod Bytes
 pub mod DecimalLaws
 pub mod FieldLaws
 pub mod TextLengths

@@ -1,7 +1,7 @@
 -- The theorems of `specs/Theorems.antt`.
 use mathlib.Core.Path.{refl}
 use Rattle.conservation_spec.specs.Theorems.{QuestionLimit, Conserved, MetEach, ReadEach, EntersExactly, AllowedNext, AmongOthers, FullWhen, EightLast}
-use Rattle.conservation_spec.specs.Theorems.{OnesEnter, EightReached, ReplayConserves, ReplayRefused, ReplayUnchanged, All}
+use Rattle.conservation_spec.specs.Theorems.{OnesEnter, EightReached, ReplayConserves, ReplayRefused, ReplayUnchanged, ReplaysMeans, All}
 use Rattle.conservation_spec.proofs.Allowed as allowed
 use Rattle.conservation_spec.proofs.Claim as claim
 use Rattle.conservation_spec.proofs.Calls as calls
@@ -49,6 +49,9 @@ replay-refused = refusals.replay-refused
 pub replay-unchanged : ReplayUnchanged
 replay-unchanged = refusals.replay-unchanged
 
+pub replays-means : ReplaysMeans
+replays-means = refusals.replays-means
+
 pub question-limit : QuestionLimit
 question-limit = refl
 
@@ -68,4 +71,5 @@ all = (
   replay-conserves,
   replay-refused,
   replay-unchanged,
+  replays-means,
 )

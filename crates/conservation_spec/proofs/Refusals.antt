@@ -12,7 +12,7 @@ use Rattle.pattern_spec.specs.Answer.{refused, done}
 use Rattle.accumulator_spec.specs.Totals.{zeros, isCleared}
 use Rattle.accumulator_spec.proofs.Zeros.{cleared-zeros}
 use Rattle.conservation_spec.specs.Lists.{mostQuestions}
-use Rattle.conservation_spec.specs.Replay.{Asking, Lent, allEqual, allWithin, replaying, afterReplaying}
+use Rattle.conservation_spec.specs.Replay.{Asking, Lent, allEqual, allWithin, afterAsking, replaying, afterReplaying}
 use Rattle.conservation_spec.specs.Theorems.{ReplayBy, AllAsked, ReplayRefused, ReplayUnchanged, ReplaysMeans}
 use Rattle.conservation_spec.proofs.Misfits.{within-at, unequal, too-many, first-not-cleared, other-not-cleared, past-words, nothing-wrong}
 
@@ -96,9 +96,12 @@ replay-by q l refusal carriedOut r d =
       ),
     )
 
-pub replays-means : ReplaysMeans
+pub replay-done : (q : Asking) (l : Lent) → replaying q l ≡ done tt → afterReplaying q l ≡ afterAsking q l
 unfolding afterReplaying
+replay-done q l e = rw e
+
+pub replays-means : ReplaysMeans
 replays-means q before after answer h =
     replay-by q before (λ m. (answer ≡ refused m) × (after ≡ before)) ((answer ≡ done tt) × AllAsked q before after)
     (λ m e. (h .answered ∙ e, h .left ∙ replay-unchanged q before m e))
-    (λ e. let a = h .answered ∙ e in let c = rw a at (h .conserves) in (a, (h .left ∙ rw e, c .0, c .1)))
+    (λ e. let a = h .answered ∙ e in let c = rw a at (h .conserves) in (a, (h .left ∙ replay-done q before e, c .0, c .1)))

@@ -37,8 +37,7 @@ no-sheet-filled n r e = rw e (refl, refl, refl, refl, refl, refl, refl, refl)
 pub fill-numbers : FillNumbers
 fill-numbers n x y words after r h =
     let a = filling n x y words in
-    let c = fills-means n x y words after a (refl, h .1, filled-pair n x y words) in
-    (
+    let c = fills-means n x y words after a (refl, h .1, filled-pair n x y words) in (
       λ outside. let d = c .0 outside in (no-sheet-filled 10 r (h .0 ∙ ap filledNumbers (d .0)), d .1),
       λ low high short. let d = c .1 low high short in (no-sheet-filled 9 r (h .0 ∙ ap filledNumbers (d .0)), d .1),
       λ o k room. let d = c .2 o k room in let e = h .0 ∙ ap filledNumbers (d .0) in (

@@ -17,6 +17,7 @@ pub mod TotalPair
 pub mod Held
 pub mod TermBound
 pub mod Adding
+pub mod Relations
 pub mod Columns
 pub mod ReadTotal
 pub mod Landmarks

@@ -8,6 +8,7 @@ use Rattle.accumulator_spec.proofs.Held.{number-and-count, number-held,
 use Rattle.accumulator_spec.proofs.Landmarks.{total-landmarks, finite-operands-are, pattern-term, product-term, term-landmarks, exact-back}
 use Rattle.accumulator_spec.proofs.Answers.{adding-refused, refused-term, clearing-is, reading-refused}
 use Rattle.accumulator_spec.proofs.Adding.{fit-is, lowest-unfit, accepted-term, exact-adding}
+use Rattle.accumulator_spec.proofs.Relations.{clears-means, adds-means, adds-numbered-means}
 use Rattle.accumulator_spec.proofs.Columns.{column-next, accepted-each, all-finite-is, exact-column, any-order}
 use Rattle.accumulator_spec.proofs.ReadTotal.{read-fit, read-column, read-finite, read-zero, read-rounded-to-zero}
 use Rattle.accumulator_spec.proofs.ReadPairs.{read-overflow, read-sum, read-product}
@@ -39,6 +40,9 @@ all = (
   exact-adding,
   refused-term,
   clearing-is,
+  clears-means,
+  adds-means,
+  adds-numbered-means,
   column-next,
   accepted-each,
   all-finite-is,

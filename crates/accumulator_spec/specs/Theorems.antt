@@ -8,7 +8,7 @@ use mathlib.Core.List.{List, [], _∷_, _++_, Perm}
 use lib.Dec.{ltb}
 use lib.ListN.{length, getD, replicate}
 use lib.IntN.{ℤ, pos, negsuc, natAbs, negℤ, _+ℤ_, _*ℤ_}
-use Rattle.pattern_spec.specs.Answer.{refused, done}
+use Rattle.pattern_spec.specs.Answer.{Answer, refused, done}
 use Rattle.rounding_spec.specs.Format.{binary32, edge}
 use Rattle.rounding_spec.specs.Value.{infinite, finite, decode, encode, RN0}
 use Rattle.pattern_spec.specs.Exact.{whole, int}
@@ -17,6 +17,7 @@ use Rattle.augmented_spec.specs.Pairs.{pairOf, sumPair, productPair}
 use Rattle.accumulator_spec.specs.Words.{Words, natural, integer, wordsOfInteger}
 use Rattle.accumulator_spec.specs.Totals.{zeros, numberSize, totalSize, mostTerms, number, count, totalOf, fit, FitTotal, isCleared}
 use Rattle.accumulator_spec.specs.Totals.{Term, ofPattern, ofProduct, finiteOperands, exactTerm, adding, afterAdding}
+use Rattle.accumulator_spec.specs.Totals.{Adds, AddsNumbered, Clears}
 use Rattle.accumulator_spec.specs.Totals.{clearing, afterClearing, pairRead, exactNumber, pairAnswer, reading}
 use Rattle.accumulator_spec.specs.Columns.{column, Accepted, AllFinite, columnSum}
 
@@ -147,6 +148,41 @@ ClearingIs =
     → (length t ≢ totalSize → (clearing t ≡ refused 5) × (afterClearing t ≡ t))
     × (length t ≡ totalSize → (clearing t ≡ done tt) × (afterClearing t ≡ zeros))
 
+-- ---- what the contracts' relations say, with an answer of any type that has a `refusal` for each number and `carriedOut`
+-- R8.9, R8.1: clearing gives 21 zeros
+abbrev pub ClearedAs : {A : Type 0} → (ℕ → A) → A → List ℕ → A → List ℕ → Type 0
+ClearedAs refusal carriedOut before answer after =
+    (length before ≢ totalSize → (answer ≡ refusal 5) × (after ≡ before))
+    × (length before ≡ totalSize → (answer ≡ carriedOut) × (after ≡ replicate 21 0))
+
+abbrev pub ClearsMeans : Type 0
+ClearsMeans =
+    (before after : List ℕ) (answer : Answer (Unit {0})) → Clears before answer after → ClearedAs refused (done tt) before answer after
+
+-- R8.7, R8.1: the four refusals in their order, which leave the words; else a fit total, whose number is the exact sum, and one term more
+abbrev pub AddedAs : {A : Type 0} → (ℕ → A) → A → List ℕ → Term → A → List ℕ → Type 0
+AddedAs refusal carriedOut before x answer after =
+    (length before ≢ totalSize → (answer ≡ refusal 5) × (after ≡ before))
+    × (length before ≡ totalSize
+    → (fit before ≡ false → (answer ≡ refusal 6) × (after ≡ before))
+    × (fit before ≡ true → finiteOperands x ≡ false → (answer ≡ refusal 7) × (after ≡ before))
+    × (fit before ≡ true → finiteOperands x ≡ true → count before ≡ mostTerms → (answer ≡ refusal 8) × (after ≡ before))
+    × (fit before ≡ true → finiteOperands x ≡ true → count before ≢ mostTerms → Words before
+    → (answer ≡ carriedOut)
+    × FitTotal after
+    × (number after ≡ number before +ℤ whole (exactTerm x))
+    × (count after ≡ suc (count before))))
+
+abbrev pub AddsMeans : Type 0
+AddsMeans =
+    (before after : List ℕ) (x : Term) (answer : Answer (Unit {0})) → Adds before x answer after
+    → AddedAs refused (done tt) before x answer after
+
+-- by numbers: a refusal's own, and 0 (R8.2)
+abbrev pub AddsNumberedMeans : Type 0
+AddsNumberedMeans =
+    (before after : List ℕ) (x : Term) (n : ℕ) → AddsNumbered before x n after → AddedAs (λ k. k) 0 before x n after
+
 -- ---- columns
 -- a column is one adding after the other, each on the words as they then are
 abbrev pub ColumnNext : Type 0
@@ -238,5 +274,6 @@ abbrev pub All : Type 0
 All =
     TotalSizes × WordAt × WordsFormed × NaturalWords × IntegerHeld × WordsUnique × NumberAndCount × NumberHeld × TotalUnique
     × TotalLandmarks × FitIs × LowestUnfit × ClearedZeros × FiniteOperandsAre × PatternTerm × ProductTerm × TermLandmarks × AddingRefused
-    × AcceptedTerm × ExactAdding × RefusedTerm × ClearingIs × ColumnNext × AcceptedEach × AllFiniteIs × ExactColumn × AnyOrder
-    × ReadingRefused × ReadFit × ReadColumn × ExactBack × ReadFinite × ReadOverflow × ReadZero × ReadRoundedToZero × ReadSum × ReadProduct
+    × AcceptedTerm × ExactAdding × RefusedTerm × ClearingIs × ClearsMeans × AddsMeans × AddsNumberedMeans × ColumnNext × AcceptedEach
+    × AllFiniteIs × ExactColumn × AnyOrder × ReadingRefused × ReadFit × ReadColumn × ExactBack × ReadFinite × ReadOverflow × ReadZero
+    × ReadRoundedToZero × ReadSum × ReadProduct

@@ -29,7 +29,7 @@ module _ (x y : ℕ) (words : List ℕ) where
     where
       go : (short : Bool) → (T short → length words < sheetSize) → (T (not short) → sheetSize ≤ length words) → length (afterFilling n x y words) ≡ length words
       go true s r = ap length (filling-refused n x y words .1 h k (s tt) .1)
-      go false s r = subst (λ (m : ℕ). length (afterFilling m x y words) ≡ length words) e (sheet-filled o x y words (r tt) .1)
+      go false s r = subst (λ (m : ℕ). length (afterFilling m x y words) ≡ length words) e (sheet-filled o x y words (r tt) .1 .0)
 
   filling-length : (o : ℕ) → length (afterFilling o x y words) ≡ length words
   filling-length zero = ap length (filling-refused 0 x y words .0 (inl refl) .1)

@@ -1,5 +1,5 @@
--- The refusals of `replay`, as they are stated, and that they change nothing.
-use mathlib.Core.Path.{_≡_, refl, sym, ap, _∙_, subst}
+-- The refusals of `replay`, as they are stated, that they change nothing, and what the contract's relation says.
+use mathlib.Core.Path.{_≡_, refl, sym, ap, _∙_}
 use mathlib.Core.Logic.{_⊎_, _≢_, inl, inr}
 use mathlib.Core.Bool.{Bool, true, false, _&&_}
 use mathlib.Core.List.{List, [], _∷_}
@@ -8,13 +8,12 @@ use native.Mathlib.Omega.{arith}
 use borrow.Author.Tests.{eq-eqb, ne-eqb, le-leb}
 use lib.Dec.{eqb}
 use lib.ListN.{length, getD}
-use Rattle.pattern_spec.specs.Answer.{Answer, refused}
+use Rattle.pattern_spec.specs.Answer.{refused, done}
 use Rattle.accumulator_spec.specs.Totals.{zeros, isCleared}
 use Rattle.accumulator_spec.proofs.Zeros.{cleared-zeros}
-use Rattle.conservation_spec.specs.Lists.{mostQuestions, Event}
-use Rattle.conservation_spec.specs.Claim.{Conserves}
-use Rattle.conservation_spec.specs.Replay.{Asking, Lent, entriesOf, eventsOf, allEqual, allWithin, replaying, afterReplaying}
-use Rattle.conservation_spec.specs.Theorems.{ReplayRefused, ReplayUnchanged, ReplaysMeans}
+use Rattle.conservation_spec.specs.Lists.{mostQuestions}
+use Rattle.conservation_spec.specs.Replay.{Asking, Lent, allEqual, allWithin, afterAsking, replaying, afterReplaying}
+use Rattle.conservation_spec.specs.Theorems.{ReplayBy, AllAsked, ReplayRefused, ReplayUnchanged, ReplaysMeans}
 use Rattle.conservation_spec.proofs.Misfits.{within-at, unequal, too-many, first-not-cleared, other-not-cleared, past-words, nothing-wrong}
 
 -- ---- the conditions as truth values
@@ -84,12 +83,25 @@ pub replay-unchanged : ReplayUnchanged
 unfolding afterReplaying
 replay-unchanged q l m e = rw e
 
--- ---- as the contract has them
+-- what is said of every refusal and of a call that is carried out is said by the conditions
+pub replay-by : (q : Asking) (l : Lent) (refusal : ℕ → Type 0) (carriedOut : Type 0)
+    → ((m : ℕ) → replaying q l ≡ refused m → refusal m) → (replaying q l ≡ done tt → carriedOut) → ReplayBy q l refusal carriedOut
+replay-by q l refusal carriedOut r d =
+    let c = replay-refused q l in (
+      λ h. r 101 (c .0 h),
+      λ x y n. let k = c .1 x y n in (
+        λ h. r 102 (k .0 h),
+        λ few h. r 103 (k .1 few h),
+        λ few f g. let w = k .2 few f g in (λ i h. r 104 (w .0 i h), λ h. d (w .1 h)),
+      ),
+    )
+
+pub replay-done : (q : Asking) (l : Lent) → replaying q l ≡ done tt → afterReplaying q l ≡ afterAsking q l
+unfolding afterReplaying
+replay-done q l e = rw e
+
 pub replays-means : ReplaysMeans
-replays-means q before after answer r = (
-  λ m e. let n = sym (r .answered) ∙ e in (n, r .left ∙ replay-unchanged q before m n),
-  λ e. let h = subst (λ (a : Answer (Unit {0})). Conserves a es (before .totals) (after .totals)) e (r .conserves) in (sym (r .answered) ∙ e, r .left, h .0, h .1),
-)
-  where
-    es : List Event
-    es = eventsOf (entriesOf q) (before .words)
+replays-means q before after answer h =
+    replay-by q before (λ m. (answer ≡ refused m) × (after ≡ before)) ((answer ≡ done tt) × AllAsked q before after)
+    (λ m e. (h .answered ∙ e, h .left ∙ replay-unchanged q before m e))
+    (λ e. let a = h .answered ∙ e in let c = rw a at (h .conserves) in (a, (h .left ∙ replay-done q before e, c .0, c .1)))

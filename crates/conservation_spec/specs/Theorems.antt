@@ -23,7 +23,7 @@ use Rattle.conservation_spec.specs.Lists.{mostQuestions, Posed, directFo
 use Rattle.conservation_spec.specs.Lists.{Event, asks, reads, adds, afterEvent, afterEvents, questions}
 use Rattle.conservation_spec.specs.Lists.{book, enteringSums, enteringProducts}
 use Rattle.conservation_spec.specs.Claim.{BothHold, MetNow, Met}
-use Rattle.conservation_spec.specs.Replay.{Asking, Lent, entriesOf, eventsOf, replaying, afterReplaying, Replays}
+use Rattle.conservation_spec.specs.Replay.{Asking, Lent, entriesOf, eventsOf, afterAsking, replaying, afterReplaying, Replays}
 
 -- ---- every list
 -- which lists: questions on patterns, readings, and adding calls with an operand that is not finite or on a total that is full (R7.7);
@@ -173,18 +173,22 @@ ReplayConserves =
     → let es = eventsOf (entriesOf q) (l .words) in
     BothHold (afterReplaying q l .totals) es × Met (l .totals) es × (questions es ≡ length (q .operations))
 
+-- By R8.12's conditions, in their order: what `refusal` says of each number where it is the first that applies, and `carriedOut` where
+-- none does.
+abbrev pub ReplayBy : Asking → Lent → (ℕ → Type 0) → Type 0 → Type 0
+ReplayBy q l refusal carriedOut =
+    let n = length (q .operations) in
+    ((length (q .xs) ≢ n) ⊎ (length (q .ys) ≢ n) ⊎ (length (q .counts) ≢ n) → refusal 101)
+    × (length (q .xs) ≡ n → length (q .ys) ≡ n → length (q .counts) ≡ n
+    → (mostQuestions < n → refusal 102)
+    × (n ≤ mostQuestions → (l .totals .first ≢ zeros) ⊎ (l .totals .other ≢ zeros) → refusal 103)
+    × (n ≤ mostQuestions → l .totals .first ≡ zeros → l .totals .other ≡ zeros
+    → ((i : ℕ) → length (l .words) < getD (q .counts) i 0 → refusal 104)
+    × (((i : ℕ) → getD (q .counts) i 0 ≤ length (l .words)) → carriedOut)))
+
 -- its refusals, in their order, and no other (R8.12)
 abbrev pub ReplayRefused : Type 0
-ReplayRefused =
-    (q : Asking) (l : Lent)
-    → let n = length (q .operations) in let answer = replaying q l in
-    ((length (q .xs) ≢ n) ⊎ (length (q .ys) ≢ n) ⊎ (length (q .counts) ≢ n) → answer ≡ refused 101)
-    × (length (q .xs) ≡ n → length (q .ys) ≡ n → length (q .counts) ≡ n
-    → (mostQuestions < n → answer ≡ refused 102)
-    × (n ≤ mostQuestions → (l .totals .first ≢ zeros) ⊎ (l .totals .other ≢ zeros) → answer ≡ refused 103)
-    × (n ≤ mostQuestions → l .totals .first ≡ zeros → l .totals .other ≡ zeros
-    → ((i : ℕ) → length (l .words) < getD (q .counts) i 0 → answer ≡ refused 104)
-    × (((i : ℕ) → getD (q .counts) i 0 ≤ length (l .words)) → answer ≡ done tt)))
+ReplayRefused = (q : Asking) (l : Lent) → ReplayBy q l (λ m. replaying q l ≡ refused m) (replaying q l ≡ done tt)
 
 -- a refusal leaves the totals and the words as they were (R8.1)
 abbrev pub ReplayUnchanged : Type 0
@@ -233,16 +237,17 @@ ReplayWords =
     × (drop many (wordsLeft (i + 1) q l) ≡ drop many (wordsLeft i q l)))
     × (afterReplaying q l .words ≡ wordsLeft n q l)
 
--- what the contract of `replay` says: a refusal is the one that R8.12 gives, and nothing was changed; where it is carried out, everything
--- ends as the questions leave it, and the claim holds of them (R7.13)
+-- what a call leaves that is carried out: words and totals as the questions leave them, and the claim about lists (R8.13, R7.13)
+abbrev pub AllAsked : Asking → Lent → Lent → Type 0
+AllAsked q before after =
+    let es = eventsOf (entriesOf q) (before .words) in
+    (after ≡ afterAsking q before) × BothHold (after .totals) es × Met (before .totals) es
+
+-- what the contract's relation says of the answer and of all that is lent
 abbrev pub ReplaysMeans : Type 0
 ReplaysMeans =
     (q : Asking) (before after : Lent) (answer : Answer (Unit {0})) → Replays q before answer after
-    → let es = eventsOf (entriesOf q) (before .words) in
-    ((m : ℕ) → answer ≡ refused m → (replaying q before ≡ refused m) × (after ≡ before))
-    × (answer ≡ done tt
-    → (replaying q before ≡ done tt) × (after ≡ afterReplaying q before)
-    × BothHold (after .totals) es × Met (before .totals) es)
+    → ReplayBy q before (λ m. (answer ≡ refused m) × (after ≡ before)) ((answer ≡ done tt) × AllAsked q before after)
 
 -- ---- how many questions a list has at most (R7.6)
 abbrev pub QuestionLimit : Type 0

@@ -1,5 +1,6 @@
 -- The theorems of `specs/Theorems.antt`.
-use Rattle.pattern_spec.specs.Theorems.{ClassDecodes, ClassBounded, LargerFirst, FlipBits, FlipNegates, PlusExact, TimesExact, All}
+use mathlib.Core.Path.{refl}
+use Rattle.pattern_spec.specs.Theorems.{ClassDecodes, ClassBounded, LargerFirst, FlipBits, FlipNegates, PlusExact, TimesExact, AnswerNumbers, All}
 use Rattle.pattern_spec.proofs.Classified as classified
 use Rattle.pattern_spec.proofs.Ordered as ordered
 use Rattle.pattern_spec.proofs.Integers as integers
@@ -25,5 +26,8 @@ plus-exact = integers.plus-exact
 pub times-exact : TimesExact
 times-exact = integers.times-exact
 
+pub answer-numbers : AnswerNumbers
+answer-numbers A = (λ n. (refl, refl), λ a. (refl, refl))
+
 pub all : All
-all = (class-decodes, class-bounded, larger-first, flip-bits, flip-negates, plus-exact, times-exact)
+all = (class-decodes, class-bounded, larger-first, flip-bits, flip-negates, plus-exact, times-exact, answer-numbers)

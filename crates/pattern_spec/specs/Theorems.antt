@@ -1,13 +1,14 @@
 -- What is proved of classes, flipped signs and exact values. Each name is a statement; `proofs/Theorems.antt` has its proof.
 use mathlib.Core.Path.{_≡_}
 use mathlib.Core.Logic.{_⊎_}
-use mathlib.Core.Bool.{Bool, not, _&&_}
+use mathlib.Core.Bool.{Bool, true, false, not, _&&_}
 use Prim.Native.Nat.{ℕ, _*_, _%_, _^_, _≤_, _<_}
 use lib.Dec.{leb}
 use lib.Ieee.{unlike}
 use lib.IntN.{_+ℤ_, _*ℤ_}
 use Rattle.rounding_spec.specs.Format.{Format, binary32, signBit}
 use Rattle.rounding_spec.specs.Value.{finite, decode}
+use Rattle.pattern_spec.specs.Answer.{refused, done, isDone, refusalOf}
 use Rattle.pattern_spec.specs.Exact.{negate, plusFinite, int}
 use Rattle.pattern_spec.specs.Classes.{classOf, valueOf, flip}
 use Rattle.pattern_spec.specs.Inner.{Operand, Bounded, larger, smaller}
@@ -47,6 +48,13 @@ PlusExact =
 abbrev pub TimesExact : Type 0
 TimesExact = (s : Bool) (a : ℕ) (t : Bool) (b : ℕ) → int (unlike s t) (a * b) ≡ int s a *ℤ int t b
 
+-- ---- answers: a refusal's number is its own, and where a call is carried out it is 0 (R8.2), whatever values it hands back
+abbrev pub AnswerNumbers : Type 1
+AnswerNumbers =
+    (A : Type 0)
+    → ((n : ℕ) → (refusalOf {A = A} (refused n) ≡ n) × (isDone {A = A} (refused n) ≡ false))
+    × ((a : A) → (refusalOf (done a) ≡ 0) × (isDone (done a) ≡ true))
+
 -- ---- all of them: `proofs/Theorems.antt` proves this
-abbrev pub All : Type 0
-All = ClassDecodes × ClassBounded × LargerFirst × FlipBits × FlipNegates × PlusExact × TimesExact
+abbrev pub All : Type 1
+All = ClassDecodes × ClassBounded × LargerFirst × FlipBits × FlipNegates × PlusExact × TimesExact × AnswerNumbers

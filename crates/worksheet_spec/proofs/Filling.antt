@@ -16,7 +16,7 @@ use Rattle.augmented_spec.specs.Direct.{Operation, sum, difference, product, di
 use Rattle.worksheet_spec.specs.Lines.{lineSize, mostLines, sheetSize, Line}
 use Rattle.worksheet_spec.specs.Sheets.{sheetOf}
 use Rattle.worksheet_spec.specs.Filling.{lineWords, linesWords, sheetWords, filled, sheetAnswer, filling, afterFilling, HasDirectPair}
-use Rattle.worksheet_spec.specs.Theorems.{FillingRefused, FilledPair}
+use Rattle.worksheet_spec.specs.Theorems.{FillingRefused, SheetWritten, FilledPair}
 use Rattle.worksheet_spec.proofs.FootIsPair.{foot-is-pair}
 
 -- ---- one law a case, whichever test comes first
@@ -135,9 +135,5 @@ module _ (o : Operation) (x y : ℕ) (words : List ℕ) (room : sheetSize ≤ le
   as-long : length (sheetWords ls ++ drop sheetSize words) ≡ length words
   as-long = length-append (sheetWords ls) (drop sheetSize words) ∙ omega (arith, sheet-words-length ls most, length-drop sheetSize words)
 
-  pub sheet-filled : (filling (operationNumber o) x y words ≡ filled (length ls) (directPair o binary32 x y))
-      × (length words-after ≡ length words)
-      × ((k : ℕ) (earlier later : List Line) (l : Line) → ls ≡ earlier ++ (l ∷ later) → k ≡ length earlier → take lineSize (drop (lineSize * k) words-after) ≡ lineWords l)
-      × (take unused (drop (lineSize * length ls) words-after) ≡ replicate unused 0)
-      × (drop sheetSize words-after ≡ drop sheetSize words)
-  sheet-filled = rw after (answered, as-long, line-at ls (drop sheetSize words) most, unused-zero ls (drop sheetSize words) most, behind ls (drop sheetSize words) most)
+  pub sheet-filled : (filling (operationNumber o) x y words ≡ filled (length ls) (directPair o binary32 x y)) × SheetWritten ls words words-after
+  sheet-filled = rw after (answered, (as-long, line-at ls (drop sheetSize words) most, unused-zero ls (drop sheetSize words) most, behind ls (drop sheetSize words) most))

@@ -1,5 +1,5 @@
 -- The theorems of `specs/Theorems.antt`.
-use mathlib.Core.Path.{_≡_, refl, ap, subst}
+use mathlib.Core.Path.{_≡_, refl, ap, subst, _∙_}
 use mathlib.Core.Logic.{_⊎_, inl, inr}
 use mathlib.Core.Bool.{Bool, true, false, not, cond}
 use mathlib.Core.List.{List, [], _∷_, _++_}
@@ -15,9 +15,10 @@ use Rattle.augmented_spec.specs.Direct.{sum, difference, product}
 use Rattle.worksheet_spec.specs.Constants.{psi, two, half, kappa, twoTo24, twoTo48, twoToMinus24, plusZero, smallest, twoTo127, twoTo102, twoToMinus102, twoToMinus126}
 use Rattle.worksheet_spec.specs.Lines.{mostLines, Step, add, subtract, multiply, fused, Line, line, value, minus, equal, isZeroPattern}
 use Rattle.worksheet_spec.specs.Sheets.{sumInOrder, swaps, sumSheet, productSheet, sheetOf}
+use Rattle.worksheet_spec.specs.Filling.{filling}
 use Rattle.worksheet_spec.specs.Theorems.{positivePattern, ConstantPatterns, StepNumbers, EachLine, Derived, FirstLine, stepsOf, recompositionSteps, finishStep, edgeSteps, openingSteps}
 use Rattle.worksheet_spec.specs.Theorems.{halvedSteps, sumSteps, tinySteps, middleSteps, ProductSteps, InOrder, LineCount}
-use Rattle.worksheet_spec.specs.Theorems.{FootIsPair, PrintedSheet, SheetSizes, FillingRefused, SheetFilled, FilledPair, All}
+use Rattle.worksheet_spec.specs.Theorems.{FootIsPair, PrintedSheet, SheetSizes, FillingRefused, SheetFilled, FillsMeans, FilledPair, All}
 use Rattle.worksheet_spec.proofs.Patterns.{Pattern, pattern-of}
 use Rattle.worksheet_spec.proofs.Computed as computed
 use Rattle.worksheet_spec.proofs.EachLine as lines
@@ -155,8 +156,15 @@ filling-refused = answers.filling-refused
 pub sheet-filled : SheetFilled
 sheet-filled o x y words h = answers.sheet-filled o x y words h (line-count o x y .1)
 
+pub fills-means : FillsMeans
+fills-means n x y words after answer h = (
+  λ outside. let c = filling-refused n x y words .0 outside in (h .0 ∙ c .0, h .1 ∙ c .1),
+  λ low high short. let c = filling-refused n x y words .1 low high short in (h .0 ∙ c .0, h .1 ∙ c .1),
+  λ o k room. let c = sheet-filled o x y words room in rw (h .1, k) (h .0 ∙ ap (λ (i : ℕ). filling i x y words) k ∙ c .0, c .1),
+)
+
 pub filled-pair : FilledPair
 filled-pair = answers.filled-pair
 
 pub all : All
-all = (constant-patterns, step-numbers, each-line, derived, first-line, in-order, line-count, foot-is-pair, printed-sheet, sheet-sizes, filling-refused, sheet-filled, filled-pair)
+all = (constant-patterns, step-numbers, each-line, derived, first-line, in-order, line-count, foot-is-pair, printed-sheet, sheet-sizes, filling-refused, sheet-filled, fills-means, filled-pair)

@@ -5,7 +5,7 @@ use mathlib.Core.Bool.{true, false, cond}
 use mathlib.Core.List.{List, [], _∷_, _++_}
 use Prim.Native.Nat.{ℕ, _-_, _*_, _^_, _≤_, _<_}
 use lib.ListN.{length, take, drop, replicate}
-use Rattle.pattern_spec.specs.Answer.{refused}
+use Rattle.pattern_spec.specs.Answer.{Answer, refused}
 use Rattle.rounding_spec.specs.Format.{binary32}
 use Rattle.rounding_spec.specs.Value.{Value, nan, infinite, finite, isFinite, encode}
 use Rattle.binary32_spec.specs.Steps.{addStep, mulStep}
@@ -16,7 +16,7 @@ use Rattle.worksheet_spec.specs.Constants.{twoTo127, twoTo102, twoToMinu
 use Rattle.worksheet_spec.specs.Lines.{lineSize, mostLines, sheetSize, Step, add, subtract, multiply, fused, stepNumber}
 use Rattle.worksheet_spec.specs.Lines.{Line, line, Gives, before, ends, value, minus, equal, isZeroPattern}
 use Rattle.worksheet_spec.specs.Sheets.{sheetOf}
-use Rattle.worksheet_spec.specs.Filling.{filled, filling, afterFilling, HasDirectPair}
+use Rattle.worksheet_spec.specs.Filling.{FilledSheet, filled, filling, afterFilling, HasDirectPair, Fills}
 
 -- ---- the constants (R5.1): each is the pattern of its number. Magnitudes count u = 2^-149, so 1 is 2 ^ 149 of them.
 abbrev pub positivePattern : ℕ → ℕ
@@ -178,18 +178,32 @@ FillingRefused =
     → ((o ≡ 0) ⊎ (3 < o) → (filling o x y words ≡ refused 10) × (afterFilling o x y words ≡ words))
     × (1 ≤ o → o ≤ 3 → length words < sheetSize → (filling o x y words ≡ refused 9) × (afterFilling o x y words ≡ words))
 
--- the answer and the words where it is carried out (R8.6): each line stands in its own words, unused ones are 0, those after them stay
-abbrev pub SheetFilled : Type 0
-SheetFilled =
-    (o : Operation) (x y : ℕ) (words : List ℕ) → sheetSize ≤ length words
-    → let n = operationNumber o in let ls = sheetOf o x y .lines in let after = afterFilling n x y words in
+-- the words where it is carried out (R8.6): each of the lines stands in its own words, unused ones are 0, those after them stay
+abbrev pub SheetWritten : List Line → List ℕ → List ℕ → Type 0
+SheetWritten ls words after =
     let unused = sheetSize - lineSize * length ls in
-    (filling n x y words ≡ filled (length ls) (directPair o binary32 x y))
-    × (length after ≡ length words)
+    (length after ≡ length words)
     × ((k : ℕ) (earlier later : List Line) (l : Line) → ls ≡ earlier ++ (l ∷ later) → k ≡ length earlier
     → take lineSize (drop (lineSize * k) after) ≡ stepNumber (l .step) ∷ l .x ∷ l .y ∷ l .z ∷ l .result ∷ [])
     × (take unused (drop (lineSize * length ls) after) ≡ replicate unused 0)
     × (drop sheetSize after ≡ drop sheetSize words)
+
+-- and the answer then
+abbrev pub SheetFilled : Type 0
+SheetFilled =
+    (o : Operation) (x y : ℕ) (words : List ℕ) → sheetSize ≤ length words
+    → let n = operationNumber o in let ls = sheetOf o x y .lines in
+    (filling n x y words ≡ filled (length ls) (directPair o binary32 x y)) × SheetWritten ls words (afterFilling n x y words)
+
+-- what the contract's relation says of answer and words: the refusals, in their order, or the sheet
+abbrev pub FillsMeans : Type 0
+FillsMeans =
+    (n x y : ℕ) (words after : List ℕ) (answer : Answer FilledSheet) → Fills n x y words answer after
+    → ((n ≡ 0) ⊎ (3 < n) → (answer ≡ refused 10) × (after ≡ words))
+    × (1 ≤ n → n ≤ 3 → length words < sheetSize → (answer ≡ refused 9) × (after ≡ words))
+    × ((o : Operation) → n ≡ operationNumber o → sheetSize ≤ length words
+    → let ls = sheetOf o x y .lines in
+    (answer ≡ filled (length ls) (directPair o binary32 x y)) × SheetWritten ls words after)
 
 -- the pair that comes back is the direct pair, with its flags (R7.4): of every answer
 abbrev pub FilledPair : Type 0
@@ -199,4 +213,4 @@ FilledPair = (o x y : ℕ) (words : List ℕ) → HasDirectPair o x y (filling o
 abbrev pub All : Type 0
 All =
     ConstantPatterns × StepNumbers × EachLine × Derived × FirstLine × InOrder × LineCount × FootIsPair × PrintedSheet
-    × SheetSizes × FillingRefused × SheetFilled × FilledPair
+    × SheetSizes × FillingRefused × SheetFilled × FillsMeans × FilledPair

@@ -14,7 +14,7 @@ use Rattle.pattern_spec.proofs.Classified.{decode-flip}
 use Rattle.augmented_spec.specs.declared.Pair.{Pair}
 use Rattle.augmented_spec.specs.Pairs.{pairOf, invalid, overflowed, underflowed, answer, exactProduct}
 use Rattle.augmented_spec.specs.Direct.{Operation, sum, difference, product, directPair}
-use Rattle.augmented_spec.specs.Theorems.{finerInt, FiniteOperands, IsFinite, FlagSetFields, InvalidRaised, OverflowRaised, UnderflowRaised, InexactRaised}
+use Rattle.augmented_spec.specs.Theorems.{finerInt, FiniteOperands, FinitePattern, FlagSetFields, InvalidRaised, OverflowRaised, UnderflowRaised, InexactRaised}
 use Rattle.augmented_spec.proofs.Flipped.{nan-negated}
 use Rattle.augmented_spec.proofs.FlagSets.{underflow-none}
 use Rattle.augmented_spec.proofs.Answered.{Operands, product-operands}
@@ -144,7 +144,7 @@ module _ (F : Format) (ok : Proper F) (x y : ℕ) (w : y < 2 * signBit F) where
   abbrev q : Pair
   q = directPair product F x y
 
-  module _ (left : IsFinite F x) (right : IsFinite F y) where
+  module _ (left : FinitePattern F x) (right : FinitePattern F y) where
     abbrev E : ℤ
     E = int (left .0) (left .1) *ℤ int (right .0) (right .1)
 
@@ -168,16 +168,16 @@ module _ (F : Format) (ok : Proper F) (x y : ℕ) (w : y < 2 * signBit F) where
 
   abbrev Differs : Type 0
   Differs =
-      (first : IsFinite F (q .first)) × (second : IsFinite F (q .second)) × (left : IsFinite F x) × (right : IsFinite F y)
+      (first : FinitePattern F (q .first)) × (second : FinitePattern F (q .second)) × (left : FinitePattern F x) × (right : FinitePattern F y)
       × (finerInt F (first .0) (first .1) +ℤ finerInt F (second .0) (second .1) ≢ E left right)
 
   differs : q .flags .underflow ≡ true → Differs
   differs u =
       let n = finite-first (exactProduct F x y) F (sym (underflow-is product F x y) ∙ u) in
       let f = finite-factors (decode F x) (decode F y) (exactProduct F x y) (product-operands (decode F x) (decode F y)) (n .0) in
-      let left : IsFinite F x = number-of (decode F x) (f .0) in
-      let right : IsFinite F y = number-of (decode F y) (f .1) in
-      let first : IsFinite F (q .first) = number-of (decode F (q .first)) (ap isFinite (first-read product F ok x y) ∙ n .1) in
+      let left : FinitePattern F x = number-of (decode F x) (f .0) in
+      let right : FinitePattern F y = number-of (decode F y) (f .1) in
+      let first : FinitePattern F (q .first) = number-of (decode F (q .first)) (ap isFinite (first-read product F ok x y) ∙ n .1) in
       let h = factors left right in
       let k = halved h (first .0) (first .1) (first .2) in
       (first, (_, _, k .second), left, right, λ s. true≢false (sym u ∙ product-underflow h k ∙ ap not (eq-eqb _ 0 (added-up k s))))

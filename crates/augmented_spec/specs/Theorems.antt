@@ -198,21 +198,23 @@ InvalidRaised =
     (p .flags .invalid ≡ true)
     ↔ ((signalling F x ≡ true) ⊎ ((signalling F y ≡ true) ⊎ ((decode F (p .first) ≡ nan) × (decode F x ≢ nan) × (decode F y ≢ nan))))
 
--- O (R4.3): first is infinite, and both operands are finite
-abbrev pub IsFinite : Format → ℕ → Type 0
-IsFinite F x = (s : Bool) × (a : ℕ) × (decode F x ≡ finite s a)
+-- the pattern stands for a finite value
+abbrev pub FinitePattern : Format → ℕ → Type 0
+FinitePattern F x = (s : Bool) × (a : ℕ) × (decode F x ≡ finite s a)
 
+-- O (R4.3): first is infinite, and both operands are finite
 abbrev pub OverflowRaised : Type 0
 OverflowRaised =
     (o : Operation) (F : Format) → Proper F → (x y : ℕ) → y < 2 * signBit F → let p = directPair o F x y in
-    (p .flags .overflow ≡ true) ↔ (((r : Bool) × (decode F (p .first) ≡ infinite r)) × IsFinite F x × IsFinite F y)
+    (p .flags .overflow ≡ true) ↔ (((r : Bool) × (decode F (p .first) ≡ infinite r)) × FinitePattern F x × FinitePattern F y)
 
 -- U (R4.4): it is a product, both halves are finite, and their sum is not the exact product (of operands that are then finite too)
 abbrev pub UnderflowRaised : Type 0
 UnderflowRaised =
     (o : Operation) (F : Format) → Proper F → (x y : ℕ) → y < 2 * signBit F → let p = directPair o F x y in
     (p .flags .underflow ≡ true)
-    ↔ ((o ≡ product) × (first : IsFinite F (p .first)) × (second : IsFinite F (p .second)) × (left : IsFinite F x) × (right : IsFinite F y)
+    ↔ ((o ≡ product) × (first : FinitePattern F (p .first)) × (second : FinitePattern F (p .second))
+    × (left : FinitePattern F x) × (right : FinitePattern F y)
     × (finerInt F (first .0) (first .1) +ℤ finerInt F (second .0) (second .1) ≢ int (left .0) (left .1) *ℤ int (right .0) (right .1)))
 
 -- X (R4.3, R4.4): with O and with U, and never else

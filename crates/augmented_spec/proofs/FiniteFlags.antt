@@ -6,7 +6,7 @@ use Prim.Native.Nat.{ℕ, _*_, _≤_, _<_}
 use lib.IntN.{ℤ, natAbs}
 use Rattle.rounding_spec.specs.declared.Ties.the-variants.{ToZero}
 use Rattle.rounding_spec.specs.Format.{Format, edge, signBit}
-use Rattle.rounding_spec.specs.Value.{Value, infinite, finite, decode, isNaN, isFinite, isInfinite}
+use Rattle.rounding_spec.specs.Value.{Value, nan, infinite, finite, decode, isNaN, isFinite, isInfinite}
 use Rattle.rounding_spec.proofs.RoundValue.{over-edge, zero-at-edge}
 use Rattle.pattern_spec.specs.Exact.{negate}
 use Rattle.pattern_spec.proofs.Classified.{decode-flip}
@@ -19,11 +19,16 @@ use Rattle.augmented_spec.proofs.FlagSets.{finite-flags}
 use Rattle.augmented_spec.proofs.Read.{taken, first, underflow, direct-answer, underflow-finite}
 use Rattle.augmented_spec.proofs.FiniteOperands.{number}
 
-taken-finite : (o : Operation) (F : Format) (y : ℕ) → y < 2 * signBit F → (t : Bool) (b : ℕ) → decode F y ≡ finite t b → isFinite (decode F (taken o F y)) ≡ true
+finite-negated : (v : Value) → isFinite (negate v) ≡ isFinite v
 unfolding negate
-taken-finite sum F y w t b e = ap isFinite e
-taken-finite difference F y w t b e = ap isFinite (decode-flip F y w ∙ ap negate e)
-taken-finite product F y w t b e = ap isFinite e
+finite-negated nan = refl
+finite-negated (infinite s) = refl
+finite-negated (finite s a) = refl
+
+pub taken-finite : (o : Operation) (F : Format) (y : ℕ) → y < 2 * signBit F → isFinite (decode F (taken o F y)) ≡ isFinite (decode F y)
+taken-finite sum F y w = refl
+taken-finite difference F y w = ap isFinite (decode-flip F y w) ∙ finite-negated (decode F y)
+taken-finite product F y w = refl
 
 sum-underflow : (o : Operation) (F : Format) (x y : ℕ) → o ≢ product → underflow o F x y ≡ false
 sum-underflow sum F x y n = refl
@@ -44,7 +49,7 @@ module _ {o : Operation} {F : Format} {E : ℤ} {z : Bool} {p : Pair} (h : Finit
   flags-by v e n =
       let y = taken o F (h .y) in
       ap (λ (k : Pair). k .flags) (h .pair ∙ direct-answer o F (h .x) (h .y)) ∙ ap (λ (w : Value). flagsOf (invalid F (h .x) y w) (overflowed F (h .x) y w) U) e
-      ∙ finite-flags F (h .x) y v U (ap isFinite (h .left)) (taken-finite o F (h .y) (h .width) (h .t) (h .b) (h .right)) n
+      ∙ finite-flags F (h .x) y v U (ap isFinite (h .left)) (taken-finite o F (h .y) (h .width) ∙ ap isFinite (h .right)) n
 
   pub flags-above : edge F < natAbs E → p .flags ≡ OX
   flags-above g =

@@ -14,7 +14,7 @@ use Rattle.pattern_spec.specs.Exact.{negate}
 use Rattle.pattern_spec.specs.Classes.{flip}
 use Rattle.pattern_spec.proofs.Classified.{decode-flip}
 
-nan-negated : (v : Value) → isNaN (negate v) ≡ isNaN v
+pub nan-negated : (v : Value) → isNaN (negate v) ≡ isNaN v
 unfolding negate
 nan-negated nan = refl
 nan-negated (infinite s) = refl

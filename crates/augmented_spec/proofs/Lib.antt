@@ -12,6 +12,7 @@ pub mod Flipped
 pub mod Answered
 pub mod SpecialResults
 pub mod SpecialOperands
+pub mod FlagFields
 pub mod Theorems
 pub mod Patterns
 pub mod Rests

@@ -38,7 +38,7 @@ taken-nan sum F y w e = e
 taken-nan difference F y w e = decode-flip F y w ∙ ap negate e
 taken-nan product F y w e = e
 
-taken-signalling : (o : Operation) (F : Format) → 0 < F .fraction → (y : ℕ) → y < 2 * signBit F → signalling F (taken o F y) ≡ signalling F y
+pub taken-signalling : (o : Operation) (F : Format) → 0 < F .fraction → (y : ℕ) → y < 2 * signBit F → signalling F (taken o F y) ≡ signalling F y
 taken-signalling sum F pos y w = refl
 taken-signalling difference F pos y w = signalling-flipped F pos y w
 taken-signalling product F pos y w = refl

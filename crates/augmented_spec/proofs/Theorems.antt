@@ -18,6 +18,7 @@ use Rattle.augmented_spec.specs.Cases.{Table}
 use Rattle.augmented_spec.specs.Direct.{directPair}
 use Rattle.augmented_spec.specs.Theorems.{EveryFinite, DirectPairs, FirstRounded, FirstNearest, Overflow, SecondRounded, SecondNearest, HalfUnit, SumAddsUp, ProductAddsUp, FlagsOfFinite}
 use Rattle.augmented_spec.specs.Theorems.{OperationNumbers, NaNOperand, OppositeInfinities, ZeroTimesInfinity, InfiniteOperand, FlagSets, InfiniteTwice, NaNTwice, PatternWidth, All}
+use Rattle.augmented_spec.specs.Theorems.{FlagSetFields, InvalidRaised, OverflowRaised, UnderflowRaised, InexactRaised}
 use Rattle.augmented_spec.proofs.Second.{head, tail-le, first-finite, first-infinite}
 use Rattle.augmented_spec.proofs.Read.{exactFor, first, second, first-pattern, second-pattern, first-fits, second-fits, first-read}
 use Rattle.augmented_spec.proofs.Width.{encode-width}
@@ -27,6 +28,7 @@ use Rattle.augmented_spec.proofs.Nearest.{first-near, second-near}
 use Rattle.augmented_spec.proofs.FiniteFlags.{flags-above, sum-flags, product-flags}
 use Rattle.augmented_spec.proofs.SpecialOperands as special
 use Rattle.augmented_spec.proofs.FlagSets as flags
+use Rattle.augmented_spec.proofs.FlagFields as fields
 use Rattle.augmented_spec.proofs.Table as cases
 
 -- ---- of whom
@@ -107,6 +109,21 @@ infinite-operand = special.infinite-operand
 pub flag-sets : FlagSets
 flag-sets = flags.flag-sets
 
+pub flag-set-fields : FlagSetFields
+flag-set-fields = fields.flag-set-fields
+
+pub invalid-raised : InvalidRaised
+invalid-raised = fields.invalid-raised
+
+pub overflow-raised : OverflowRaised
+overflow-raised = fields.overflow-raised
+
+pub underflow-raised : UnderflowRaised
+underflow-raised = fields.underflow-raised
+
+pub inexact-raised : InexactRaised
+inexact-raised = fields.inexact-raised
+
 pub infinite-twice : InfiniteTwice
 unfolding pairOf secondOf
 infinite-twice o F ok x y s e =
@@ -153,6 +170,11 @@ all = (
   zero-times-infinity,
   infinite-operand,
   flag-sets,
+  flag-set-fields,
+  invalid-raised,
+  overflow-raised,
+  underflow-raised,
+  inexact-raised,
   infinite-twice,
   nan-twice,
   pattern-width,

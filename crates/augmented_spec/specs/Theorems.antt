@@ -2,7 +2,7 @@
 -- E counts u * u, so that sums, differences and products read alike; the magnitudes of halves and operands count u. `finerInt` takes the
 -- second unit to the first.
 use mathlib.Core.Path.{_≡_}
-use mathlib.Core.Logic.{_⊎_, _≢_}
+use mathlib.Core.Logic.{_⊎_, _≢_, _↔_}
 use mathlib.Core.Bool.{Bool, true, false, not, cond, _&&_, _||_}
 use mathlib.Core.List.{[], _∷_}
 use Prim.Native.Nat.{ℕ, _*_, _^_, _≤_, _<_}
@@ -182,6 +182,47 @@ FlagSets =
     (o : Operation) (F : Format) (x y : ℕ)
     → let f = directPair o F x y .flags in (f ≡ none) ⊎ ((f ≡ I) ⊎ ((f ≡ OX) ⊎ (f ≡ UX)))
 
+-- these sets by their fields, in the order I, O, U, X (R4.1)
+abbrev pub Fields : Flags → Bool → Bool → Bool → Bool → Type 0
+Fields f i o u x = (f .invalid ≡ i) × (f .overflow ≡ o) × (f .underflow ≡ u) × (f .inexact ≡ x)
+
+abbrev pub FlagSetFields : Type 0
+FlagSetFields =
+    Fields none false false false false × Fields I true false false false
+    × Fields OX false true false true × Fields UX false false true true
+
+-- I (R4.2): an operand is signalling, or first is NaN and no operand is
+abbrev pub InvalidRaised : Type 0
+InvalidRaised =
+    (o : Operation) (F : Format) → Proper F → (x y : ℕ) → y < 2 * signBit F → let p = directPair o F x y in
+    (p .flags .invalid ≡ true)
+    ↔ ((signalling F x ≡ true) ⊎ ((signalling F y ≡ true) ⊎ ((decode F (p .first) ≡ nan) × (decode F x ≢ nan) × (decode F y ≢ nan))))
+
+-- the pattern stands for a finite value
+abbrev pub FinitePattern : Format → ℕ → Type 0
+FinitePattern F x = (s : Bool) × (a : ℕ) × (decode F x ≡ finite s a)
+
+-- O (R4.3): first is infinite, and both operands are finite
+abbrev pub OverflowRaised : Type 0
+OverflowRaised =
+    (o : Operation) (F : Format) → Proper F → (x y : ℕ) → y < 2 * signBit F → let p = directPair o F x y in
+    (p .flags .overflow ≡ true) ↔ (((r : Bool) × (decode F (p .first) ≡ infinite r)) × FinitePattern F x × FinitePattern F y)
+
+-- U (R4.4): it is a product, both halves are finite, and their sum is not the exact product (of operands that are then finite too)
+abbrev pub UnderflowRaised : Type 0
+UnderflowRaised =
+    (o : Operation) (F : Format) → Proper F → (x y : ℕ) → y < 2 * signBit F → let p = directPair o F x y in
+    (p .flags .underflow ≡ true)
+    ↔ ((o ≡ product) × (first : FinitePattern F (p .first)) × (second : FinitePattern F (p .second))
+    × (left : FinitePattern F x) × (right : FinitePattern F y)
+    × (finerInt F (first .0) (first .1) +ℤ finerInt F (second .0) (second .1) ≢ int (left .0) (left .1) *ℤ int (right .0) (right .1)))
+
+-- X (R4.3, R4.4): with O and with U, and never else
+abbrev pub InexactRaised : Type 0
+InexactRaised =
+    (o : Operation) (F : Format) (x y : ℕ) → let f = directPair o F x y .flags in
+    (f .inexact ≡ true) ↔ ((f .overflow ≡ true) ⊎ (f .underflow ≡ true))
+
 -- R3.6
 abbrev pub InfiniteTwice : Type 0
 InfiniteTwice =
@@ -205,4 +246,4 @@ abbrev pub All : Type 0
 All =
     EveryFinite × DirectPairs × OperationNumbers × FirstRounded × FirstNearest × Overflow × SecondRounded × SecondNearest × HalfUnit
     × SumAddsUp × ProductAddsUp × FlagsOfFinite × NaNOperand × OppositeInfinities × ZeroTimesInfinity × InfiniteOperand × FlagSets
-    × InfiniteTwice × NaNTwice × PatternWidth × Table
+    × FlagSetFields × InvalidRaised × OverflowRaised × UnderflowRaised × InexactRaised × InfiniteTwice × NaNTwice × PatternWidth × Table

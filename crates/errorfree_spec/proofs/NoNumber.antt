@@ -10,6 +10,7 @@ use Rattle.rounding_spec.specs.Value.{Value, nan, infinite, finite, isFinite, i
 use Rattle.pattern_spec.specs.Exact.{negate, plus, times, finer}
 use Rattle.binary32_spec.specs.Steps.{addValue, subValue, mulValue, fmaValue}
 use Rattle.pattern_spec.proofs.Exchanged.{plus-comm}
+pub use Rattle.augmented_spec.proofs.FlagFields.{number-of}
 
 -- "is finite" does not hold of a value that is not
 pub not-both : {P : Type 0} → true ≡ false → P
@@ -19,12 +20,6 @@ pub none-zero : (v : Value) → isFinite v ≡ false → isZero v ≡ false
 none-zero nan h = refl
 none-zero (infinite s) h = refl
 none-zero (finite s a) h = not-both h
-
--- a finite value has a sign and a magnitude
-pub number-of : (v : Value) → isFinite v ≡ true → (s : Bool) × (a : ℕ) × (v ≡ finite s a)
-number-of nan h = not-both (sym h)
-number-of (infinite s) h = not-both (sym h)
-number-of (finite s a) h = (s, a, refl)
 
 pub one-of : (i j : Bool) → i && j ≡ false → (i ≡ false) ⊎ (j ≡ false)
 one-of true j e = inr e

@@ -4,7 +4,9 @@ use lib.Ieee.{size}
 use Rattle.rounding_spec.specs.Round.{keep, lastPlace}
 use Rattle.binary32_spec.specs.Steps.{addStep, subStep, mulStep, fmaStep}
 use Rattle.errorfree_spec.specs.Comparisons.{same, lessMagnitude}
-use Rattle.worksheet_table.specs.Programs.{taken, allWellMade}
+use Rattle.worksheet_table.specs.Programs.{taken, sheetBy, allWellMade}
+use Rattle.worksheet_table.specs.Table.{sumByTable, sheetByTable}
+use Rattle.worksheet_table.specs.Sampled.{GivesAll}
 use Rattle.worksheet_table.specs.Theorems.{EachTaken, noneExchanged, eachTaken, WellMade, NaNTaken}
 
 pub well-made : WellMade
@@ -18,3 +20,18 @@ each-taken = (refl, refl, refl)
 pub nan-taken : NaNTaken
 unfolding taken lessMagnitude same addStep subStep mulStep fmaStep
 nan-taken = (refl, refl)
+
+-- ---- the sampled sheets, by the table
+-- the entries of a list of statements
+infixr 20 _&_
+pub _&_ : {A B : Type 0} → A → B → A × B
+a & b = (a, b)
+
+pub samples-by-table : GivesAll sheetByTable
+unfolding sheetByTable sumByTable sheetBy lessMagnitude same addStep subStep mulStep fmaStep keep lastPlace size
+samples-by-table = (
+  refl & refl & refl & refl & refl & refl & tt,
+  refl & refl & refl & refl & refl & refl & tt,
+  refl & refl & refl & refl & refl & refl & tt,
+  refl & refl & refl & refl & refl & refl & refl & refl & refl & refl & refl & refl & refl & tt,
+)

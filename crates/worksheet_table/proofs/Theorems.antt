@@ -10,14 +10,16 @@ use Rattle.rounding_spec.specs.Value.{decode}
 use Rattle.pattern_spec.specs.Classes.{flip}
 use Rattle.augmented_spec.specs.Direct.{sum, difference, product}
 use Rattle.errorfree_spec.specs.Comparisons.{lessMagnitude}
-use Rattle.worksheet_spec.specs.Lines.{Sheet}
+use Rattle.worksheet_spec.specs.Lines.{Sheet, minus}
 use Rattle.worksheet_spec.specs.Sheets.{sheetOf, sumSheet, swaps, sumInOrder, productSheet}
 use Rattle.worksheet_table.specs.Programs.{Way, taken, howManyTaken, sheetAlong, sheetBy}
 use Rattle.worksheet_table.specs.Table.{sumChanged, sumChangedZero, sumKept, sumKeptZero, sumInfinite, sumEdge, sumWays}
 use Rattle.worksheet_table.specs.Table.{productInfinite, productEdge, productZero, tinyLowered, tinyKept, middleChanged, middleChangedZero, middleKept, middleKeptZero, middleLowered}
 use Rattle.worksheet_table.specs.Table.{otherChanged, otherKept, otherKeptZero, productWays, sumByTable, sheetByTable}
+use Rattle.worksheet_table.specs.Sampled.{Sample, sample, sumSamples, productSamples, Shows, SampledSheets}
 use Rattle.worksheet_table.specs.Theorems.{Agree, Every, SumWritten, EachWay, OneWay, EachTaken, WellMade, NaNTaken, All}
 use Rattle.worksheet_table.proofs.Computed as computed
+use Rattle.worksheet_table.proofs.Computed.{_&_}
 use Rattle.worksheet_table.proofs.Told.{Told, told}
 use Rattle.worksheet_table.proofs.Sums as sums
 use Rattle.worksheet_table.proofs.Products as products
@@ -30,12 +32,7 @@ Writes sheet w = (x y : ℕ) → taken w x y ≡ true → sheet x y ≡ sheetAlo
 from-told : (sheet : ℕ → ℕ → Sheet) (w : Way) → ((x y : ℕ) → Told w x y → sheet x y ≡ sheetAlong w x y) → Writes sheet w
 from-told sheet w f x y h = f x y (told w x y h)
 
-infixr 20 _&_
-_&_ : {A B : Type 0} → A → B → A × B
-a & b = (a, b)
-
 sum-ways : Every (Writes sumInOrder) sumWays
-unfolding _&_
 sum-ways =
     from-told sumInOrder sumChanged sums.changed
     & from-told sumInOrder sumChangedZero sums.changed-zero
@@ -46,7 +43,6 @@ sum-ways =
     & tt
 
 product-ways : Every (Writes productSheet) productWays
-unfolding _&_
 product-ways =
     from-told productSheet productInfinite products.infinite-product
     & from-told productSheet productEdge products.edge-product
@@ -102,6 +98,22 @@ agree product x y = first-taken productSheet x y productWays product-ways (one-p
 pub each-taken : EachTaken
 each-taken = computed.each-taken
 
+same-shown : (f g : ℕ → ℕ → Sheet) → ((x y : ℕ) → f x y ≡ g x y) → (qs : List Sample) → Shows g qs → Shows f qs
+same-shown f g e [] k = tt
+same-shown f g e (sample x y ls first second ∷ qs) k = (e x y ∙ k .0, same-shown f g e qs (k .1))
+
+pub sampled-sheets : SampledSheets
+sampled-sheets =
+    let t = computed.samples-by-table in (
+      (
+        same-shown (sheetOf sum) (sheetByTable sum) (agree sum) sumSamples (t .0),
+        same-shown (λ x y. sheetOf sum y x) (λ x y. sheetByTable sum y x) (λ x y. agree sum y x) sumSamples (t .1),
+        same-shown (λ x y. sheetOf difference x (minus y)) (λ x y. sheetByTable difference x (minus y)) (λ x y. agree difference x (minus y)) sumSamples (t .2),
+        same-shown (sheetOf product) (sheetByTable product) (agree product) productSamples (t .3),
+      ),
+      t,
+    )
+
 pub well-made : WellMade
 well-made = computed.well-made
 
@@ -110,4 +122,4 @@ nan-taken = computed.nan-taken
 
 -- ---- all of them
 pub all : All
-all = (agree, each-way, one-way, each-taken, well-made, nan-taken)
+all = (agree, each-way, one-way, each-taken, sampled-sheets, well-made, nan-taken)

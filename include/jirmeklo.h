@@ -40,7 +40,7 @@ struct jirmeklo_filled {
     struct jirmeklo_flags flags;
 };
 
-/* Steps: one rounding to nearest, ties to even. Every NaN result is 7FC00000. fma is x * y + z. No refusal. */
+/* Steps: one rounding to nearest, ties to even. A result that is NaN is 7FC00000. fma is x * y + z. No refusal. */
 uint32_t jirmeklo_add(uint32_t x, uint32_t y);
 uint32_t jirmeklo_sub(uint32_t x, uint32_t y);
 uint32_t jirmeklo_mul(uint32_t x, uint32_t y);

@@ -23,7 +23,7 @@ pub fn enters(sheet: &Filled) -> bool {
 impl Book {
     pub const EMPTY: Book = Book { number: Number::ZERO, sums: 0, products: 0 };
 
-    /// An entering question adds its exact result; all else leaves S alone.
+    /// S and the counts, by one question more (R7.12).
     pub fn note(&mut self, q: Question) {
         let Some(operation) = operation(q.operation).filter(|_| q.lent as usize >= WORDS) else { return };
         let pair = pairs::pair(operation, q.x, q.y);

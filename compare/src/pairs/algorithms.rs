@@ -95,7 +95,7 @@ fn recomposed(a: f32, b: f32) -> (f32, f32) {
     }
 }
 
-/// A zero second takes first's sign.
+/// Where second is zero, its sign is first's.
 #[inline(always)]
 fn zero_finished((first, second): (f32, f32)) -> (f32, f32) {
     if second == 0.0 {

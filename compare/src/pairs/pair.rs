@@ -26,7 +26,7 @@ impl Flags {
     pub const OX: Flags = Flags { overflow: true, inexact: true, ..Flags::NONE };
     pub const UX: Flags = Flags { underflow: true, inexact: true, ..Flags::NONE };
 
-    /// In the order I O U X, or `-` for none.
+    /// As R4.1 writes them.
     pub fn shown(self) -> String {
         let letters = [(self.invalid, 'I'), (self.overflow, 'O'), (self.underflow, 'U'), (self.inexact, 'X')];
         if self == Flags::NONE {

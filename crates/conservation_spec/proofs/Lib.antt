@@ -11,6 +11,7 @@ pub mod Full
 pub mod Misfits
 pub mod Refusals
 pub mod Questions
+pub mod Contract
 pub mod Events
 pub mod Outcome
 pub mod Theorems

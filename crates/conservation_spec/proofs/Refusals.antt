@@ -1,4 +1,4 @@
--- The refusals of `replay`, as they are stated, that they change nothing, and what the contract's relation says.
+-- The refusals of `replay`, as they are stated, and that they change nothing.
 use mathlib.Core.Path.{_≡_, refl, sym, ap, _∙_}
 use mathlib.Core.Logic.{_⊎_, _≢_, inl, inr}
 use mathlib.Core.Bool.{Bool, true, false, _&&_}
@@ -13,7 +13,7 @@ use Rattle.accumulator_spec.specs.Totals.{zeros, isCleared}
 use Rattle.accumulator_spec.proofs.Zeros.{cleared-zeros}
 use Rattle.conservation_spec.specs.Lists.{mostQuestions}
 use Rattle.conservation_spec.specs.Replay.{Asking, Lent, allEqual, allWithin, afterAsking, replaying, afterReplaying}
-use Rattle.conservation_spec.specs.Theorems.{ReplayBy, AllAsked, ReplayRefused, ReplayUnchanged, ReplaysMeans}
+use Rattle.conservation_spec.specs.Theorems.{ReplayBy, ReplayRefused, ReplayUnchanged}
 use Rattle.conservation_spec.proofs.Misfits.{within-at, unequal, too-many, first-not-cleared, other-not-cleared, past-words, nothing-wrong}
 
 -- ---- the conditions as truth values
@@ -99,9 +99,3 @@ replay-by q l refusal carriedOut r d =
 pub replay-done : (q : Asking) (l : Lent) → replaying q l ≡ done tt → afterReplaying q l ≡ afterAsking q l
 unfolding afterReplaying
 replay-done q l e = rw e
-
-pub replays-means : ReplaysMeans
-replays-means q before after answer h =
-    replay-by q before (λ m. (answer ≡ refused m) × (after ≡ before)) ((answer ≡ done tt) × AllAsked q before after)
-    (λ m e. (h .answered ∙ e, h .left ∙ replay-unchanged q before m e))
-    (λ e. let a = h .answered ∙ e in let c = rw a at (h .conserves) in (a, (h .left ∙ replay-done q before e, c .0, c .1)))

@@ -12,6 +12,7 @@ use Rattle.conservation_spec.proofs.Full as full
 use Rattle.conservation_spec.proofs.Outcome as outcome
 use Rattle.conservation_spec.proofs.Questions as questions
 use Rattle.conservation_spec.proofs.Refusals as refusals
+use Rattle.conservation_spec.proofs.Contract as contract
 
 pub conserved : Conserved
 conserved = claim.conserved
@@ -62,7 +63,7 @@ pub replay-words : ReplayWords
 replay-words = questions.replay-words
 
 pub replays-means : ReplaysMeans
-replays-means = refusals.replays-means
+replays-means = contract.replays-means
 
 pub question-limit : QuestionLimit
 question-limit = refl

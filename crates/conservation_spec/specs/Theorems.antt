@@ -23,7 +23,7 @@ use Rattle.conservation_spec.specs.Lists.{mostQuestions, Posed, directFo
 use Rattle.conservation_spec.specs.Lists.{Event, asks, reads, adds, afterEvent, afterEvents, questions}
 use Rattle.conservation_spec.specs.Lists.{book, enteringSums, enteringProducts}
 use Rattle.conservation_spec.specs.Claim.{BothHold, MetNow, Met}
-use Rattle.conservation_spec.specs.Replay.{Asking, Lent, entriesOf, eventsOf, afterAsking, replaying, afterReplaying, Replays}
+use Rattle.conservation_spec.specs.Replay.{Asking, Lent, entriesOf, eventsOf, replaying, afterReplaying, Replays}
 
 -- ---- every list
 -- which lists: questions on patterns, readings, and adding calls with an operand that is not finite or on a total that is full (R7.7);
@@ -154,8 +154,8 @@ OnesEnter =
     × (let es = withOtherCalls (questionOfOnes 1 words ∷ questionOfOnes 2 words ∷ questionOfOnes 3 words ∷ []) in
     (enteringSums es ≡ 2) × (enteringProducts es ≡ 1))
 
--- 32,768 times 1 + 1 fill both totals: an addition of any finite term may then stand, on either, and answers 8; the claim holds of the
--- whole list (R7.7, R8.7).
+-- 32,768 times 1 + 1 bring both counts to 65,536: an addition of any finite term may then stand, on either, and answers 8; the claim holds
+-- of the whole list (R7.7, R8.7).
 abbrev pub EightReached : Type 0
 EightReached =
     (a b words : List ℕ) (x : Term) → length a ≡ totalSize → length b ≡ totalSize → sheetSize ≤ length words → finiteOperands x ≡ true
@@ -237,11 +237,13 @@ ReplayWords =
     × (drop many (wordsLeft (i + 1) q l) ≡ drop many (wordsLeft i q l)))
     × (afterReplaying q l .words ≡ wordsLeft n q l)
 
--- what a call leaves that is carried out: words and totals as the questions leave them, and the claim about lists (R8.13, R7.13)
+-- what a call leaves that is carried out: the words that its questions leave, one after the other, the totals that its list of questions
+-- leaves, and the claim about that list (R8.13, R7.13)
 abbrev pub AllAsked : Asking → Lent → Lent → Type 0
 AllAsked q before after =
     let es = eventsOf (entriesOf q) (before .words) in
-    (after ≡ afterAsking q before) × BothHold (after .totals) es × Met (before .totals) es
+    (after .words ≡ wordsLeft (length (q .operations)) q before) × (after .totals ≡ afterEvents (before .totals) es)
+    × BothHold (after .totals) es × Met (before .totals) es
 
 -- what the contract's relation says of the answer and of all that is lent
 abbrev pub ReplaysMeans : Type 0

@@ -9,7 +9,8 @@ use Rattle.worksheet_spec.specs.Filling.{filling}
 use Rattle.worksheet_spec.proofs.Theorems.{fills-means, filled-pair}
 use Rattle.conservation_spec.specs.Replay.{replaying}
 use Rattle.conservation_spec.specs.Theorems.{AllAsked}
-use Rattle.conservation_spec.proofs.Refusals.{replay-by, replay-unchanged, replay-done}
+use Rattle.conservation_spec.proofs.Refusals.{replay-by, replay-unchanged}
+use Rattle.conservation_spec.proofs.Contract.{all-asked}
 use Rattle.jirmeklo.specs.declared.sheets.FlatFilled.{FlatFilled}
 use Rattle.jirmeklo.specs.declared.totals.FlatReading.{FlatReading}
 use Rattle.jirmeklo.specs.Totals.{noReading, readingNumbers}
@@ -58,7 +59,7 @@ pub replay-numbers : ReplayNumbers
 replay-numbers q before after r h =
     replay-by q before (λ m. (r ≡ m) × (after ≡ before)) ((r ≡ 0) × AllAsked q before after)
     (λ m e. (h .answered ∙ ap refusalOf e, h .left ∙ replay-unchanged q before m e))
-    (λ e. let a = h .answered ∙ ap refusalOf e in let c = rw a at (h .conserves) in (a, (h .left ∙ replay-done q before e, c .0, c .1)))
+    (λ e. let a = h .answered ∙ ap refusalOf e in (a, all-asked q before after e (h .left) (rw a at (h .conserves))))
 
 pub all : All
 all = (clear-numbers, read-numbers, fill-numbers, replay-numbers)

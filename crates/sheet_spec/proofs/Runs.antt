@@ -13,7 +13,7 @@ use Rattle.sheet_spec.specs.States.{State, begin, takeBytes, bytesText, 
 use Rattle.sheet_spec.specs.Calls.{lastRoom, Feeds, Ends}
 use Rattle.sheet_spec.specs.declared.Progressed.{Progressed}
 use Rattle.sheet_spec.specs.Theorems.{FeedsOn, Call, Chain, chainText, chainState, WholeRun}
-use Rattle.sheet_spec.proofs.Bytes.{byte-by-byte, states-join, texts-join}
+use Rattle.sheet_spec.proofs.Bytes.{byte-by-byte, nothing-after-stop, states-join, texts-join}
 
 -- a text put at a buffer's start
 at-start : (out text out' : List ℕ) (n : ℕ) → Put out 0 text n out' → (take n out' ≡ text) × (drop n out' ≡ drop n out)
@@ -48,8 +48,11 @@ feeds-on bytes out out' s after r f = (f .state, w .0, w .1, some)
 from : (cs : List Call) (s : State) (input : List ℕ) → Chain s input cs → (n : ℕ) (out total' out' : List ℕ) → Ends (chainState s cs) out n total' out' → lastRoom ≤ length out
     → chainText cs ++ take n out' ≡ bytesText s input ++ closeText (takeBytes s input)
 unfolding Chain chainText chainState bytesText takeBytes
-from [] s input h n out total' out' e room =
+from [] s input (inl h) n out total' out' e room =
     at-start out (closeText s) out' n (e .text room) .0 ∙ sym (ap (λ (l : List ℕ). bytesText s l ++ closeText (takeBytes s l)) h)
+from [] s input (inr h) n out total' out' e room =
+    let k = nothing-after-stop s input h in
+    at-start out (closeText s) out' n (e .text room) .0 ∙ sym (ap₂ (λ (t : List ℕ) (v : State). t ++ closeText v) (k .1) (k .0))
 from (c ∷ cs) s input h n out total' out' e room =
     let more = h .0 in
     let f = feeds-on (c .bytes) (c .out) (c .left) s (c .after) (c .result) (h .2) in

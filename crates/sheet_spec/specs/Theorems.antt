@@ -1,7 +1,7 @@
 -- What holds of what is printed. Each name is a statement; proofs/Theorems.antt has its proof.
 use Prim.Native.Nat.{ℕ, suc, _+_, _≤_, _<_}
 use mathlib.Core.Path.{_≡_}
-use mathlib.Core.Logic.{_≢_}
+use mathlib.Core.Logic.{_⊎_, _≢_}
 use mathlib.Core.Bool.{true, false, cond}
 use mathlib.Core.List.{List, [], _∷_, _++_}
 use lib.Dec.{eqb}
@@ -60,9 +60,10 @@ pub record Call : Type 0 where
   pub after : State
   pub left : List ℕ
 
--- each is lent some of the input that is left, from its first byte on, and the next goes on behind what it took
+-- Each is lent some of the input that is left, from its first byte on, and the next goes on behind what it took, until all is taken or the
+-- run has stopped.
 unfoldable pub Chain : State → List ℕ → List Call → Type 0
-Chain s input [] = input ≡ []
+Chain s input [] = (input ≡ []) ⊎ (s .stopped ≡ true)
 Chain s input (c ∷ cs) =
     (more : List ℕ) × (input ≡ c .bytes ++ more) × Feeds (c .bytes) s (c .out) (c .result) (c .after) (c .left)
     × Chain (c .after) (drop (c .result .taken) (c .bytes) ++ more) cs
@@ -82,7 +83,7 @@ WholeRun =
     → Ends (chainState begin cs) out n total' out' → lastRoom ≤ length out
     → chainText cs ++ take n out' ≡ output input
 
--- ---- after `stop` nothing is printed, whatever follows (R8.11). That no read follows is said by sheet_stream.
+-- ---- after `stop` nothing is printed, whatever follows (R8.11). That none is asked for then, sheet_stream says.
 abbrev pub NothingAfterStop : Type 0
 NothingAfterStop =
     (s : State) (bytes : List ℕ) → s .stopped ≡ true → (takeBytes s bytes ≡ s) × (bytesText s bytes ≡ []) × (closeText s ≡ [])

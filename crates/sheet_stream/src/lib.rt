@@ -113,7 +113,7 @@ fn take(
         let taken = fed.taken;
         let n = fed.written;
         here = fed.position;
-        if !written(output, &out[..n]) {
+        if !wrote_all(output, &out[..n]) {
             return Passed {
                 position: here,
                 whole: false,
@@ -141,7 +141,7 @@ fn close(
     out: &mut [u8],
 ) {
     let n = closing(standing, line, total, out);
-    written(output, &out[..n]);
+    wrote_all(output, &out[..n]);
 }
 
 // What is left to print: nothing where a call failed, and nothing before the input's end.
@@ -159,7 +159,7 @@ fn closing(standing: Standing, line: &[u8; KEPT_BYTES], total: &mut [u32], out: 
 }
 
 // Whether all of the text was written; where it was not, this is said.
-fn written(output: i32, text: &[u8]) -> bool {
+fn wrote_all(output: i32, text: &[u8]) -> bool {
     if io::write_all(output, text) {
         return true;
     }

@@ -108,19 +108,19 @@ operandPattern x y rs (minus o) = flip binary32 (operandPattern x y rs o)
 operandPattern x y rs (c withSignOf o) = copySign (constantPattern c) (operandPattern x y rs o)
 
 -- the line of an instruction: each result is the step's on the line's own operands (R7.3, R5.22)
-unfoldable pub lineOf : (Operand → ℕ) → Instruction → Line
+unfoldable pub lineBy : (Operand → ℕ) → Instruction → Line
 unfolding constantPattern
-lineOf pattern (o + p) = lineOfTwo add (pattern o) (pattern p) (addStep (pattern o) (pattern p))
-lineOf pattern (o - p) = lineOfTwo subtract (pattern o) (pattern p) (subStep (pattern o) (pattern p))
-lineOf pattern (o · p) = lineOfTwo multiply (pattern o) (pattern p) (mulStep (pattern o) (pattern p))
-lineOf pattern (c * p) = lineOfTwo multiply (constantPattern c) (pattern p) (mulStep (constantPattern c) (pattern p))
-lineOf pattern (fuse o p q) = fusedLine (pattern o) (pattern p) (pattern q) (fmaStep (pattern o) (pattern p) (pattern q))
+lineBy pattern (o + p) = lineOfTwo add (pattern o) (pattern p) (addStep (pattern o) (pattern p))
+lineBy pattern (o - p) = lineOfTwo subtract (pattern o) (pattern p) (subStep (pattern o) (pattern p))
+lineBy pattern (o · p) = lineOfTwo multiply (pattern o) (pattern p) (mulStep (pattern o) (pattern p))
+lineBy pattern (c * p) = lineOfTwo multiply (constantPattern c) (pattern p) (mulStep (constantPattern c) (pattern p))
+lineBy pattern (fuse o p q) = fusedLine (pattern o) (pattern p) (pattern q) (fmaStep (pattern o) (pattern p) (pattern q))
 
 -- the lines of instructions below lines with the results rs
 unfoldable pub linesBelow : ℕ → ℕ → List ℕ → List Instruction → List Line
-unfolding lineOf operandPattern
+unfolding lineBy operandPattern
 linesBelow x y rs [] = []
-linesBelow x y rs (i ∷ is) = let l = lineOf (operandPattern x y rs) i in l ∷ linesBelow x y (rs ++ l .result ∷ []) is
+linesBelow x y rs (i ∷ is) = let l = lineBy (operandPattern x y rs) i in l ∷ linesBelow x y (rs ++ l .result ∷ []) is
 
 unfoldable pub resultsOn : List Line → List ℕ
 resultsOn [] = []
@@ -206,10 +206,10 @@ unfolding linesUsed
 allUsed [] = []
 allUsed (i ∷ is) = linesUsed i ++ allUsed is
 
-unfoldable pub allAsked : List Test → List ℕ
+unfoldable pub allTested : List Test → List ℕ
 unfolding linesAsked
-allAsked [] = []
-allAsked (t ∷ ts) = linesAsked t ++ allAsked ts
+allTested [] = []
+allTested (t ∷ ts) = linesAsked t ++ allTested ts
 
 unfoldable pub member : ℕ → List ℕ → Bool
 member k [] = false
@@ -235,9 +235,9 @@ backward n (i ∷ is) = within n (linesUsed i) && backward (suc n) is
 -- An instruction uses only lines above it; tests and foot mention only lines that stand; and no line is idle: an instruction, a test or the
 -- foot mentions it.
 unfoldable pub wellMade : Way → Bool
-unfolding backward allUsed allAsked within eachIn linesIn
+unfolding backward allUsed allTested within eachIn linesIn
 wellMade (way tests is first second) =
-    let mentioned = allUsed is ++ allAsked tests ++ linesIn first ++ linesIn second in
+    let mentioned = allUsed is ++ allTested tests ++ linesIn first ++ linesIn second in
     backward 0 is && within (length is) mentioned && eachIn (length is) mentioned
 
 unfoldable pub allWellMade : List Way → Bool

@@ -1,7 +1,7 @@
 -- A whole sheet for each way through the rules (R5): the question, every word of every line, and the foot. The words come from
 -- implementations that share nothing with the two accounts of R5: a model in whole numbers, and the processor's floats, which agree.
--- Each sample is named by its row of Table. Operands and results of a sample are chosen to differ, as far as its tests let them, and to
--- have both signs, so that a line with another operand is another line.
+-- Each sample is named by its row of Table. Operands and results of a sample differ where such a question was found, and have both signs,
+-- so that a line with another operand is, most often, another line.
 use Prim.Native.Nat.{ℕ}
 use mathlib.Core.Path.{_≡_}
 use mathlib.Core.List.{List, [], _∷_}
@@ -29,16 +29,16 @@ sumChangedSheet =
 
 abbrev pub sumChangedZeroSheet : Sample
 sumChangedZeroSheet =
-    sample 0x0000_0298 0x8000_00a0
-    (line add 0x0000_0298 0x8000_00a0 0x0000_01f8
-    ∷ line subtract 0x0000_01f8 0x0000_0298 0x8000_00a0
-    ∷ line subtract 0x8000_00a0 0x8000_00a0 0x0000_0000
-    ∷ line multiply 0x3f7f_ffff 0x0000_01f8 0x0000_01f8
-    ∷ line subtract 0x0000_01f8 0x0000_01f8 0x0000_0000
+    sample 0x8000_0298 0x0000_00a0
+    (line add 0x8000_0298 0x0000_00a0 0x8000_01f8
+    ∷ line subtract 0x8000_01f8 0x8000_0298 0x0000_00a0
+    ∷ line subtract 0x0000_00a0 0x0000_00a0 0x0000_0000
+    ∷ line multiply 0x3f7f_ffff 0x8000_01f8 0x8000_01f8
+    ∷ line subtract 0x8000_01f8 0x8000_01f8 0x0000_0000
     ∷ line multiply 0x4000_0000 0x0000_0000 0x0000_0000
-    ∷ line multiply 0x0000_0000 0x0000_01f8 0x0000_0000
+    ∷ line multiply 0x0000_0000 0x8000_01f8 0x8000_0000
     ∷ [])
-    0x0000_01f8 0x0000_0000
+    0x8000_01f8 0x8000_0000
 
 abbrev pub sumKeptSheet : Sample
 sumKeptSheet =
@@ -104,11 +104,11 @@ sumEdgeSheet =
 -- ---- products
 abbrev pub productInfiniteSheet : Sample
 productInfiniteSheet =
-    sample 0xfea5_e800 0x6b48_59c8
-    (line multiply 0xfea5_e800 0x6b48_59c8 0xff80_0000
-    ∷ line multiply 0x3f00_0000 0xfea5_e800 0xfe25_e800
-    ∷ line multiply 0xfe25_e800 0x6b48_59c8 0xff80_0000
-    ∷ fusedLine 0xfe25_e800 0x6b48_59c8 0x7f80_0000 0x7f80_0000
+    sample 0xea10_7b75 0x5516_50d7
+    (line multiply 0xea10_7b75 0x5516_50d7 0xff80_0000
+    ∷ line multiply 0x3f00_0000 0xea10_7b75 0xe990_7b75
+    ∷ line multiply 0xe990_7b75 0x5516_50d7 0xff29_abed
+    ∷ fusedLine 0xe990_7b75 0x5516_50d7 0x7f29_abed 0x7138_17a0
     ∷ [])
     0xff80_0000 0xff80_0000
 
@@ -133,20 +133,20 @@ productZeroSheet =
 
 abbrev pub tinyLoweredSheet : Sample
 tinyLoweredSheet =
-    sample 0x8cb8_0000 0xb096_4a00
-    (line multiply 0x8cb8_0000 0xb096_4a00 0x0003_602a
-    ∷ line multiply 0x4b80_0000 0x8cb8_0000 0x98b8_0000
+    sample 0x0cb8_0000 0xb096_4a00
+    (line multiply 0x0cb8_0000 0xb096_4a00 0x8003_602a
+    ∷ line multiply 0x4b80_0000 0x0cb8_0000 0x18b8_0000
     ∷ line multiply 0x4b80_0000 0xb096_4a00 0xbc96_4a00
-    ∷ line multiply 0x98b8_0000 0xbc96_4a00 0x15d8_0a60
-    ∷ fusedLine 0x98b8_0000 0xbc96_4a00 0x95d8_0a60 0x0000_0000
-    ∷ line multiply 0x5780_0000 0x0003_602a 0x15d8_0a80
-    ∷ line subtract 0x15d8_0a60 0x15d8_0a80 0x8c80_0000
-    ∷ line add 0x0000_0000 0x8c80_0000 0x8c80_0000
-    ∷ line subtract 0x8c80_0000 0x8c80_0000 0x0000_0000
-    ∷ line subtract 0x0003_602a 0x0000_0001 0x0003_6029
-    ∷ line multiply 0x0000_0000 0x0003_6029 0x0000_0000
+    ∷ line multiply 0x18b8_0000 0xbc96_4a00 0x95d8_0a60
+    ∷ fusedLine 0x18b8_0000 0xbc96_4a00 0x15d8_0a60 0x0000_0000
+    ∷ line multiply 0x5780_0000 0x8003_602a 0x95d8_0a80
+    ∷ line subtract 0x95d8_0a60 0x95d8_0a80 0x0c80_0000
+    ∷ line add 0x0000_0000 0x0c80_0000 0x0c80_0000
+    ∷ line subtract 0x0c80_0000 0x0c80_0000 0x0000_0000
+    ∷ line subtract 0x8003_602a 0x8000_0001 0x8003_6029
+    ∷ line multiply 0x0000_0000 0x8003_6029 0x8000_0000
     ∷ [])
-    0x0003_6029 0x0000_0000
+    0x8003_6029 0x8000_0000
 
 abbrev pub tinyKeptSheet : Sample
 tinyKeptSheet =

@@ -8,14 +8,14 @@ use Rattle.sheet_stream.proofs.close.Tie as tie
 closing-requires : tie.Need-closing-requires
 closing-requires c κs = search needs
 
-slice-reshare-prefix-written : tie.Need-slice-reshare-prefix-written
-slice-reshare-prefix-written c = let f = c .before .before .before .before .closing in closing-within _ _ (f .kept .1 .1 .1 .0) _ _ _ _ (f .ensures)
+slice-reshare-prefix-wrote-all : tie.Need-slice-reshare-prefix-wrote-all
+slice-reshare-prefix-wrote-all c = let f = c .before .before .before .before .closing in closing-within _ _ (f .kept .1 .1 .1 .0) _ _ _ _ (f .ensures)
 
-slice-aggregate-written : tie.Need-slice-aggregate-written
-slice-aggregate-written c = let f = c .before .before .before .before .before .closing in sym (length-take-le _ _ (closing-within _ _ (f .kept .1 .1 .1 .0) _ _ _ _ (f .ensures)))
+slice-aggregate-wrote-all : tie.Need-slice-aggregate-wrote-all
+slice-aggregate-wrote-all c = let f = c .before .before .before .before .before .closing in sym (length-take-le _ _ (closing-within _ _ (f .kept .1 .1 .1 .0) _ _ _ _ (f .ensures)))
 
-written-requires : tie.Need-written-requires
-written-requires c κs = search needs
+wrote-all-requires : tie.Need-wrote-all-requires
+wrote-all-requires c κs = search needs
 
 same-length : tie.Need-same-length
 same-length c = search needs
@@ -31,9 +31,9 @@ close-spec =
     tie.close
     (tie.spec
     closing-requires
-    slice-reshare-prefix-written
-    slice-aggregate-written
-    written-requires
+    slice-reshare-prefix-wrote-all
+    slice-aggregate-wrote-all
+    wrote-all-requires
     same-length
     same-length-2
     returns)

@@ -38,14 +38,14 @@ part-feed-end c = search needs
 feed-requires : tie.Need-feed-requires Inv-loop μ-loop
 feed-requires c κs = search needs
 
-slice-reshare-prefix-written : tie.Need-slice-reshare-prefix-written Inv-loop μ-loop
-slice-reshare-prefix-written c = let f = c .before .before .before .before .before .feed in fed-within _ _ (f .kept .1 .1 .1 .1 .0) _ _ _ _ (f .ensures)
+slice-reshare-prefix-wrote-all : tie.Need-slice-reshare-prefix-wrote-all Inv-loop μ-loop
+slice-reshare-prefix-wrote-all c = let f = c .before .before .before .before .before .feed in fed-within _ _ (f .kept .1 .1 .1 .1 .0) _ _ _ _ (f .ensures)
 
-slice-aggregate-written : tie.Need-slice-aggregate-written Inv-loop μ-loop
-slice-aggregate-written c = let f = c .before .before .before .before .before .before .feed in sym (length-take-le _ _ (fed-within _ _ (f .kept .1 .1 .1 .1 .0) _ _ _ _ (f .ensures)))
+slice-aggregate-wrote-all : tie.Need-slice-aggregate-wrote-all Inv-loop μ-loop
+slice-aggregate-wrote-all c = let f = c .before .before .before .before .before .before .feed in sym (length-take-le _ _ (fed-within _ _ (f .kept .1 .1 .1 .1 .0) _ _ _ _ (f .ensures)))
 
-written-requires : tie.Need-written-requires Inv-loop μ-loop
-written-requires c κs = search needs
+wrote-all-requires : tie.Need-wrote-all-requires Inv-loop μ-loop
+wrote-all-requires c κs = search needs
 
 same-length : tie.Need-same-length Inv-loop μ-loop
 same-length c = search needs
@@ -120,9 +120,9 @@ take-spec =
     part-feed-start
     part-feed-end
     feed-requires
-    slice-reshare-prefix-written
-    slice-aggregate-written
-    written-requires
+    slice-reshare-prefix-wrote-all
+    slice-aggregate-wrote-all
+    wrote-all-requires
     same-length
     same-length-2
     returns

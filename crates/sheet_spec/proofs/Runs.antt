@@ -6,9 +6,9 @@ use mathlib.Core.Bool.{true≢false, false}
 use mathlib.Core.List.{List, [], _∷_, _++_, append-assoc}
 use native.Mathlib.Omega.{arith}
 use lib.ListN.{length, take, drop, take-append-drop}
-use lib.Seq.{take-append-seam, drop-append-seam}
 use Rattle.transcript_spec.specs.Texts.{lineRoom}
-use Rattle.transcript_spec.specs.Buffers.{Put, pasted}
+use Rattle.transcript_spec.specs.Buffers.{Put}
+use Rattle.transcript_spec.proofs.Pasted.{put-means}
 use Rattle.sheet_spec.specs.States.{State, begin, takeBytes, bytesText, closeText}
 use Rattle.sheet_spec.specs.Calls.{lastRoom, Feeds, Ends}
 use Rattle.sheet_spec.specs.declared.Progressed.{Progressed}
@@ -17,12 +17,8 @@ use Rattle.sheet_spec.proofs.Bytes.{byte-by-byte, nothing-after-stop, s
 
 -- a text put at a buffer's start
 at-start : (out text out' : List ℕ) (n : ℕ) → Put out 0 text n out' → (take n out' ≡ text) × (drop n out' ≡ drop n out)
-unfolding pasted
 at-start out text out' n p =
-    let e : n ≡ length text = omega (arith, p .ends) in (
-      ap₂ (λ (k : ℕ) (l : List ℕ). take k l) e (p .bytes) ∙ take-append-seam text (drop (length text) out),
-      ap₂ (λ (k : ℕ) (l : List ℕ). drop k l) e (p .bytes) ∙ drop-append-seam text (drop (length text) out) ∙ ap (λ (k : ℕ). drop k out) (sym e),
-    )
+    let m = put-means out text out' 0 n p in let e : n ≡ length text = omega (arith, m .0) in (ap (λ (k : ℕ). take k out') e ∙ m .4, m .5)
 
 pub feeds-on : FeedsOn
 unfolding takeBytes bytesText

@@ -25,7 +25,7 @@ pub struct Standing {
     pub more: bool,
 }
 
-// A loop that is proved has to end: this one counts down from a number of reads that no run uses up.
+// A loop that is proved has to end: this one counts down from a number of reads that no run uses up, and then would close nothing.
 pub fn run(input: i32, output: i32) {
     let mut bytes = io::large_buffer();
     let mut out = io::large_buffer();

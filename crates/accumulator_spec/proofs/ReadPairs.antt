@@ -7,19 +7,21 @@ use Prim.Native.Nat.{ℕ, zero, suc, _*_, _^_, _<_}
 use native.Mathlib.Omega.{arith}
 use lib.Dec.{lit≤}
 use lib.Ieee.{unlike}
-use lib.IntN.{ℤ, pos, _+ℤ_, +ℤ-idr}
+use lib.IntN.{ℤ, pos, negsuc, _+ℤ_, +ℤ-idr}
 use Rattle.rounding_spec.specs.declared.Ties.the-variants.{ToZero}
 use Rattle.rounding_spec.specs.Format.{binary32, edge}
 use Rattle.rounding_spec.specs.Value.{Value, nan, infinite, finite, decode, isFinite, encode}
 use Rattle.rounding_spec.proofs.RoundValue.{over-edge}
+use Rattle.pattern_spec.specs.Answer.{Answer}
 use Rattle.pattern_spec.specs.Exact.{whole, int, plus, times, finer}
 use Rattle.binary32_spec.specs.Steps.{result}
 use Rattle.pattern_spec.proofs.Integers.{plus-exact}
-use Rattle.binary32_spec.proofs.Result.{result-encode}
+use Rattle.binary32_spec.proofs.Result.{result-number}
 use Rattle.pattern_spec.proofs.Sums.{finer-sum}
-use Rattle.augmented_spec.specs.Pairs.{Halves, pairOf, answer, exactSum, exactProduct, sumPair, productPair}
+use Rattle.augmented_spec.specs.Pairs.{pairOf, answer, sumPair, productPair}
+use Rattle.augmented_spec.proofs.Answered.{first-number, second-number}
 use Rattle.augmented_spec.proofs.Second.{first-infinite, second-infinite}
-use Rattle.accumulator_spec.specs.Totals.{ofPattern, ofProduct, pairRead, exactNumber, pairAnswer}
+use Rattle.accumulator_spec.specs.Totals.{ofPattern, ofProduct, TwoPatterns, pairRead, exactNumber, pairAnswer}
 use Rattle.accumulator_spec.specs.Columns.{AllFinite, columnSum}
 use Rattle.accumulator_spec.specs.Theorems.{ReadOverflow, ReadSum, ReadProduct}
 use Rattle.accumulator_spec.proofs.Rest.{exact-int}
@@ -57,16 +59,25 @@ sum-value (finite s a) (finite t b) e f n =
     let z : int s (a * 2 ^ 149) +ℤ (int t (b * 2 ^ 149) +ℤ pos 0) ≡ int (p .0) (p .1) = ap (λ (k : ℤ). int s (a * 2 ^ 149) +ℤ k) (+ℤ-idr (int t (b * 2 ^ 149))) ∙ sym (p .3) in
     ap exactNumber z ∙ exact-some (p .0) (p .1) (λ q. n (z ∙ q)) ∙ sym (p .2) ∙ sym (finer-sum binary32 s a t b)
 
--- the patterns of a pair, as the answer of two operands shows them
-shown : (x y : ℕ) (p : Halves) → pairAnswer p ≡ pairRead (result binary32 (x ∷ y ∷ []) (p .first)) (result binary32 (x ∷ y ∷ []) (p .second))
-shown x y p = ap₂ pairRead (sym (result-encode binary32 (x ∷ y ∷ []) (p .first))) (sym (result-encode binary32 (x ∷ y ∷ []) (p .second)))
+-- the patterns of a number's pair, as the answer of two operands shows them: no half is NaN
+module _ (x y : ℕ) where
+  abbrev shown : Value → Answer TwoPatterns
+  shown v = pairRead (result binary32 (x ∷ y ∷ []) (pairOf binary32 v .first)) (result binary32 (x ∷ y ∷ []) (pairOf binary32 v .second))
+
+  finite-shown : (s : Bool) (N : ℕ) → pairAnswer (pairOf binary32 (finite s N)) ≡ shown (finite s N)
+  finite-shown s N =
+      ap₂ pairRead (sym (result-number binary32 (x ∷ y ∷ []) _ (first-number binary32 s N)))
+      (sym (result-number binary32 (x ∷ y ∷ []) _ (second-number binary32 s N)))
+
+  number-shown : (z : ℤ) → pairAnswer (pairOf binary32 (exactNumber z)) ≡ shown (exactNumber z)
+  number-shown (pos n) = finite-shown false n
+  number-shown (negsuc n) = finite-shown true (suc n)
 
 pub read-sum : ReadSum
 unfolding columnSum AllFinite sumPair answer
 read-sum x y e f n =
     read-column (ofPattern x ∷ ofPattern y ∷ []) (lit≤ tt) (e, (f, tt))
-    ∙ ap (λ v. pairAnswer (pairOf binary32 v)) (sum-value (decode binary32 x) (decode binary32 y) e f n)
-    ∙ shown x y (pairOf binary32 (exactSum binary32 x y))
+    ∙ number-shown x y (columnSum (ofPattern x ∷ ofPattern y ∷ [])) ∙ ap (shown x y) (sum-value (decode binary32 x) (decode binary32 y) e f n)
 
 product-value : (v w : Value) → isFinite v && isFinite w ≡ true → (whole (times v w) +ℤ pos 0 ≢ pos 0) → exactNumber (whole (times v w) +ℤ pos 0) ≡ times v w
 unfolding times
@@ -82,5 +93,4 @@ pub read-product : ReadProduct
 unfolding columnSum AllFinite productPair answer
 read-product x y e n =
     read-column (ofProduct x y ∷ []) (lit≤ tt) (e, tt)
-    ∙ ap (λ v. pairAnswer (pairOf binary32 v)) (product-value (decode binary32 x) (decode binary32 y) e n)
-    ∙ shown x y (pairOf binary32 (exactProduct binary32 x y))
+    ∙ number-shown x y (columnSum (ofProduct x y ∷ [])) ∙ ap (shown x y) (product-value (decode binary32 x) (decode binary32 y) e n)

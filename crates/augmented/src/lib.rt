@@ -6,6 +6,7 @@ pub use augmented_spec::Pair;
 use pattern::flipped;
 use pattern::infinity;
 use pattern::is_finite;
+use pattern::nan_of_two;
 use pattern_spec::Class;
 use pattern_spec::NAN;
 ghost use mathlib.Core.Path.{_≡_};
@@ -52,11 +53,11 @@ pub fn product(x: u32, y: u32) -> Pair
             exp: e,
         } => augmented_product::of_number(s, m, e),
         Class::Infinite(s) => raised::twice(x, y, infinity(s)),
-        Class::NotANumber => raised::twice(x, y, NAN),
+        Class::NotANumber => raised::twice(x, y, nan_of_two(x, y)),
     }
 }
 
-// A product's flags alone.
+// A product's flags alone; which NaN it is does not matter to them.
 pub fn product_flags(x: u32, y: u32) -> Flags
     ensures { λ r. ⌜ r ≡ productPair binary32 x y .flags ⌝ }
 {

@@ -13,10 +13,10 @@ use Rattle.pattern_spec.proofs.Classified.{decode-flip}
 use Rattle.augmented_spec.specs.declared.Pair.{Pair}
 use Rattle.augmented_spec.specs.Pairs.{pairOf, invalid, overflowed, flagsOf, answer}
 use Rattle.augmented_spec.specs.Direct.{Operation, sum, difference, product, none, OX, UX}
-use Rattle.augmented_spec.specs.Theorems.{FiniteOperands}
+use Rattle.augmented_spec.specs.Theorems.{FiniteOperands, secondOperand}
 use Rattle.augmented_spec.proofs.Second.{head, first-finite, first-infinite}
 use Rattle.augmented_spec.proofs.FlagSets.{finite-flags}
-use Rattle.augmented_spec.proofs.Read.{taken, first, underflow, direct-answer, underflow-finite}
+use Rattle.augmented_spec.proofs.Read.{first, underflow, direct-answer, underflow-finite}
 use Rattle.augmented_spec.proofs.FiniteOperands.{number}
 
 finite-negated : (v : Value) → isFinite (negate v) ≡ isFinite v
@@ -25,7 +25,7 @@ finite-negated nan = refl
 finite-negated (infinite s) = refl
 finite-negated (finite s a) = refl
 
-pub taken-finite : (o : Operation) (F : Format) (y : ℕ) → y < 2 * signBit F → isFinite (decode F (taken o F y)) ≡ isFinite (decode F y)
+pub taken-finite : (o : Operation) (F : Format) (y : ℕ) → y < 2 * signBit F → isFinite (decode F (secondOperand o F y)) ≡ isFinite (decode F y)
 taken-finite sum F y w = refl
 taken-finite difference F y w = ap isFinite (decode-flip F y w) ∙ finite-negated (decode F y)
 taken-finite product F y w = refl
@@ -47,7 +47,7 @@ module _ {o : Operation} {F : Format} {E : ℤ} {z : Bool} {p : Pair} (h : Finit
   flags-by : (v : Value) → first o F (h .x) (h .y) ≡ v → isNaN v ≡ false → p .flags ≡ flagsOf false (isInfinite v) U
   unfolding answer
   flags-by v e n =
-      let y = taken o F (h .y) in
+      let y = secondOperand o F (h .y) in
       ap (λ (k : Pair). k .flags) (h .pair ∙ direct-answer o F (h .x) (h .y)) ∙ ap (λ (w : Value). flagsOf (invalid F (h .x) y w) (overflowed F (h .x) y w) U) e
       ∙ finite-flags F (h .x) y v U (ap isFinite (h .left)) (taken-finite o F (h .y) (h .width) ∙ ap isFinite (h .right)) n
 

@@ -9,16 +9,16 @@ use lib.Ieee.{unlike}
 use lib.IntN.{ℤ, _+ℤ_, _*ℤ_}
 use Rattle.rounding_spec.specs.Format.{Format, Proper, signBit}
 use Rattle.rounding_spec.specs.Value.{Value, nan, infinite, finite, decode, isNaN, isInfinite, isFinite, signalling, round}
+use Rattle.rounding_spec.proofs.NaN.{differs, number}
 use Rattle.pattern_spec.specs.Exact.{int}
-use Rattle.pattern_spec.proofs.Classified.{decode-flip}
+use Rattle.pattern_spec.proofs.Classified.{decode-flip, nan-negated}
 use Rattle.augmented_spec.specs.declared.Pair.{Pair}
 use Rattle.augmented_spec.specs.Pairs.{pairOf, invalid, overflowed, underflowed, answer, exactProduct}
 use Rattle.augmented_spec.specs.Direct.{Operation, sum, difference, product, directPair}
-use Rattle.augmented_spec.specs.Theorems.{finerInt, FiniteOperands, FinitePattern, FlagSetFields, InvalidRaised, OverflowRaised, UnderflowRaised, InexactRaised}
-use Rattle.augmented_spec.proofs.Flipped.{nan-negated}
+use Rattle.augmented_spec.specs.Theorems.{finerInt, FiniteOperands, FinitePattern, FlagSetFields, InvalidRaised, OverflowRaised, UnderflowRaised, InexactRaised, secondOperand}
 use Rattle.augmented_spec.proofs.FlagSets.{underflow-none}
 use Rattle.augmented_spec.proofs.Answered.{Operands, product-operands}
-use Rattle.augmented_spec.proofs.Read.{taken, underflow, direct-answer, first-read}
+use Rattle.augmented_spec.proofs.Read.{underflow, direct-answer, first-read}
 use Rattle.augmented_spec.proofs.FiniteOperands.{secondSize, secondSign, halved}
 use Rattle.augmented_spec.proofs.AddsUp.{adds-up, added-up, product-underflow}
 use Rattle.augmented_spec.proofs.FiniteFlags.{taken-finite}
@@ -34,7 +34,7 @@ number-of nan e = absurd (false≢true e)
 number-of (infinite s) e = absurd (false≢true e)
 number-of (finite s a) e = (s, a, refl)
 
-taken-number : (o : Operation) (F : Format) (y : ℕ) → y < 2 * signBit F → isNaN (decode F (taken o F y)) ≡ isNaN (decode F y)
+taken-number : (o : Operation) (F : Format) (y : ℕ) → y < 2 * signBit F → isNaN (decode F (secondOperand o F y)) ≡ isNaN (decode F y)
 taken-number sum F y w = refl
 taken-number difference F y w = ap isNaN (decode-flip F y w) ∙ nan-negated (decode F y)
 taken-number product F y w = refl
@@ -47,14 +47,6 @@ invalid-means : (i j : Bool) (f v w : Value)
     → (invalidBy i j (isNaN f) (isNaN v) (isNaN w) ≡ true) ↔ ((i ≡ true) ⊎ ((j ≡ true) ⊎ ((f ≡ nan) × (v ≢ nan) × (w ≢ nan))))
 invalid-means i j f v w = (to i j f v w, from i j f v w)
   where
-    differs : (v : Value) → isNaN v ≡ false → v ≢ nan
-    differs v e n = true≢false (sym (ap isNaN n) ∙ e)
-
-    number : (v : Value) → v ≢ nan → isNaN v ≡ false
-    number nan n = absurd (n refl)
-    number (infinite s) n = refl
-    number (finite s a) n = refl
-
     new : (v w : Value) (a b : Bool) → isNaN v ≡ a → isNaN w ≡ b → not a && not b ≡ true → (v ≢ nan) × (w ≢ nan)
     new v w true b p q e = absurd (false≢true e)
     new v w false true p q e = absurd (false≢true e)
@@ -83,14 +75,14 @@ module _ (o : Operation) (F : Format) (ok : Proper F) (x y : ℕ) (w : y < 2 * s
   unfolding answer invalid
   invalid-is =
       ap (λ (k : Pair). k .flags .invalid) (direct-answer o F x y)
-      ∙ ap (λ (v : Value). invalid F x (taken o F y) v) (sym (first-read o F ok x y))
+      ∙ ap (λ (v : Value). invalid F x (secondOperand o F y) v) (sym (first-read o F ok x y))
       ∙ ap₂ (λ (j n : Bool). invalidBy (signalling F x) j (isNaN (decode F (p .first))) (isNaN (decode F x)) n) (taken-signalling o F (ok .0) y w) (taken-number o F y w)
 
   overflow-is : p .flags .overflow ≡ isInfinite (decode F (p .first)) && isFinite (decode F x) && isFinite (decode F y)
   unfolding answer overflowed
   overflow-is =
       ap (λ (k : Pair). k .flags .overflow) (direct-answer o F x y)
-      ∙ ap (λ (v : Value). overflowed F x (taken o F y) v) (sym (first-read o F ok x y))
+      ∙ ap (λ (v : Value). overflowed F x (secondOperand o F y) v) (sym (first-read o F ok x y))
       ∙ ap (λ (n : Bool). isInfinite (decode F (p .first)) && isFinite (decode F x) && n) (taken-finite o F y w)
 
 pub invalid-raised : InvalidRaised
@@ -171,8 +163,8 @@ module _ (F : Format) (ok : Proper F) (x y : ℕ) (w : y < 2 * signBit F) where
       (first : FinitePattern F (q .first)) × (second : FinitePattern F (q .second)) × (left : FinitePattern F x) × (right : FinitePattern F y)
       × (finerInt F (first .0) (first .1) +ℤ finerInt F (second .0) (second .1) ≢ E left right)
 
-  differs : q .flags .underflow ≡ true → Differs
-  differs u =
+  unequal : q .flags .underflow ≡ true → Differs
+  unequal u =
       let n = finite-first (exactProduct F x y) F (sym (underflow-is product F x y) ∙ u) in
       let f = finite-factors (decode F x) (decode F y) (exactProduct F x y) (product-operands (decode F x) (decode F y)) (n .0) in
       let left : FinitePattern F x = number-of (decode F x) (f .0) in
@@ -207,7 +199,7 @@ pub underflow-raised : UnderflowRaised
 underflow-raised sum F ok x y w = (λ u. absurd (false≢true (sym (underflow-is sum F x y) ∙ u)), λ k. absurd (sum-alone (k .0)))
 underflow-raised difference F ok x y w = (λ u. absurd (false≢true (sym (underflow-is difference F x y) ∙ u)), λ k. absurd (difference-alone (k .0)))
 underflow-raised product F ok x y w =
-    (λ u. let k = differs F ok x y w u in (refl, k .0, k .1, k .2, k .3, k .4), λ k. raised F ok x y w (k .1, k .2, k .3, k .4, k .5))
+    (λ u. let k = unequal F ok x y w u in (refl, k .0, k .1, k .2, k .3, k .4), λ k. raised F ok x y w (k .1, k .2, k .3, k .4, k .5))
 
 -- ---- X
 pub inexact-raised : InexactRaised

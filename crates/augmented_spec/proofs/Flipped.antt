@@ -1,5 +1,5 @@
 -- A flipped sign bit leaves the class of a pattern as it was: NaN, signalling or not.
-use mathlib.Core.Path.{_≡_, refl, sym, ap, ap₂, _∙_}
+use mathlib.Core.Path.{_≡_, sym, ap, ap₂, _∙_}
 use mathlib.Core.Bool.{_&&_}
 use Prim.Native.Nat.{ℕ, suc, _+_, _-_, _*_, _/_, _%_, _^_, _<_}
 use native.Mathlib.Nat.{add-mul-div-right, mul-assoc, mul-comm, pow-suc, sub-add-cancel}
@@ -9,16 +9,9 @@ use borrow.Author.Tests.{le-leb, lt-leb}
 use lib.Dec.{eqb}
 use lib.Pow.{pow-pos}
 use Rattle.rounding_spec.specs.Format.{Format, ones, signBit}
-use Rattle.rounding_spec.specs.Value.{Value, nan, infinite, finite, decode, isNaN, signalling}
-use Rattle.pattern_spec.specs.Exact.{negate}
+use Rattle.rounding_spec.specs.Value.{decode, isNaN, signalling}
 use Rattle.pattern_spec.specs.Classes.{flip}
-use Rattle.pattern_spec.proofs.Classified.{decode-flip}
-
-pub nan-negated : (v : Value) → isNaN (negate v) ≡ isNaN v
-unfolding negate
-nan-negated nan = refl
-nan-negated (infinite s) = refl
-nan-negated (finite s a) = refl
+use Rattle.pattern_spec.proofs.Classified.{decode-flip, nan-negated}
 
 -- ---- the fraction's highest bit
 module _ (F : Format) (pos : 0 < F .fraction) where

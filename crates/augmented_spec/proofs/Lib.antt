@@ -2,7 +2,6 @@ pub mod Second
 pub mod Table
 pub mod FlagSets
 pub mod Read
-pub mod Width
 pub mod Distance
 pub mod FiniteOperands
 pub mod AddsUp

@@ -1,7 +1,8 @@
 -- Pairs of finite operands as the code makes them, from a rounded number and what it left over.
 use mathlib.Core.Path.{_≡_, refl, sym, ap, ap₂, _∙_}
 use mathlib.Core.Bool.{Bool, true, false, not, cond}
-use Prim.Native.Nat.{ℕ, suc, _+_, _-_, _*_, _%_, _^_, _≤_, _<_}
+use mathlib.Core.List.{List}
+use Prim.Native.Nat.{ℕ, suc, _+_, _-_, _*_, _^_, _≤_, _<_}
 use native.Mathlib.Nat.{le-trans, le-of-eq, le-of-lt, lt-of-le-of-lt, lt-of-lt-of-le, lt-of-mul-lt-mul-right, eq-of-mul-eq-mul-right, mul-one}
 use native.Mathlib.Decide.{decLe}
 use native.Mathlib.Omega.{arith}
@@ -24,11 +25,12 @@ use Rattle.rounding_spec.proofs.RoundValue.{round-below, round-above}
 use Rattle.pattern_spec.specs.Classes.{zeroPattern}
 use Rattle.pattern_spec.proofs.Products.{none, some-left}
 use Rattle.augmented_spec.specs.declared.Pair.{Pair}
+use Rattle.binary32_spec.proofs.Result.{result-number}
 use Rattle.augmented_spec.specs.Pairs.{zeroTakes, pairOf, underflowed, flagsOf}
 use Rattle.augmented_spec.specs.Inner.{join, finiteAnswer, productAnswer, ShortRest}
 use Rattle.augmented_spec.proofs.Second.{head, left, up, tail, tail-le, first-finite, pair-second, first-infinite, second-infinite, underflowed-is}
 use Rattle.augmented_spec.proofs.Patterns.{finite-shows, infinite-shows, zero-pattern}
-use Rattle.augmented_spec.proofs.Answered.{same-pair}
+use Rattle.augmented_spec.proofs.Answered.{same-pair, first-number, second-number}
 use Rattle.augmented_spec.proofs.FlagSets.{underflow-none}
 
 -- ---- a number of u * u, by its magnitude N
@@ -69,8 +71,10 @@ module _ (s : Bool) (N : ℕ) where
   pub halved-pair : {c d : ℕ} {over : Bool} (u : Bool) → Halved c d over → record { first = c; second = d; flags = flagsOf false over u } ≡ finiteAnswer (pairOf binary32 (finite s N)) u
   halved-pair u h = same-pair (h .first) (h .second) (ap (λ (o : Bool). flagsOf false o u) (h .infinite))
 
-  pub halved-word : {c d : ℕ} {over : Bool} → Halved c d over → c + d * 2 ^ 32 ≡ join (pairOf binary32 (finite s N))
-  halved-word h = ap₂ (λ (a b : ℕ). a + b * 2 ^ 32) (h .first) (h .second)
+  pub halved-word : {c d : ℕ} {over : Bool} → Halved c d over → (operands : List ℕ) → c + d * 2 ^ 32 ≡ join operands (pairOf binary32 (finite s N))
+  halved-word h operands =
+      ap₂ (λ (a b : ℕ). a + b * 2 ^ 32) (h .first ∙ sym (result-number binary32 operands _ (first-number binary32 s N)))
+      (h .second ∙ sym (result-number binary32 operands _ (second-number binary32 s N)))
 
   pub infinite-loses-nothing : limit binary32 ≤ head binary32 s N → underflowed binary32 (finite s N) (pairOf binary32 (finite s N)) ≡ false
   infinite-loses-nothing h = underflow-none binary32 (finite s N) (pairOf binary32 (finite s N)) (ap isFinite (first-infinite binary32 s N h))

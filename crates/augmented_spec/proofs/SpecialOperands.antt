@@ -2,20 +2,22 @@
 use mathlib.Core.Path.{_≡_, refl, ap, ap₂, _∙_}
 use mathlib.Core.Logic.{_⊎_, _≢_, inl, inr}
 use mathlib.Core.Bool.{Bool, true, false, not, cond, _||_, Bool·not-not}
+use mathlib.Core.List.{[], _∷_}
 use Prim.Native.Nat.{ℕ, _*_, _<_}
 use borrow.Author.Tests.{ne-eqb}
 use lib.Ieee.{unlike}
-use Rattle.rounding_spec.specs.Format.{Format, signBit}
-use Rattle.rounding_spec.specs.Value.{Value, nan, infinite, finite, decode, isNaN, signalling}
+use Rattle.rounding_spec.specs.Format.{Format, Proper, signBit}
+use Rattle.rounding_spec.specs.Value.{Value, nan, infinite, finite, decode, isNaN, signalling, defaultNaN, nanOf}
+use Rattle.rounding_spec.proofs.NaN.{differs, number, nan-first, nan-later, none-nan}
 use Rattle.pattern_spec.specs.Exact.{negate, plus, times, finer}
 use Rattle.pattern_spec.proofs.Classified.{decode-flip}
 use Rattle.pattern_spec.proofs.Exchanged.{plus-comm}
 use Rattle.augmented_spec.specs.Pairs.{flagsOf}
-use Rattle.augmented_spec.specs.Direct.{Operation, sum, difference, product, none, I}
-use Rattle.augmented_spec.specs.Theorems.{NaNOperand, OppositeInfinities, ZeroTimesInfinity, InfiniteOperand}
+use Rattle.augmented_spec.specs.Direct.{Operation, sum, difference, product, directPair, none, I}
+use Rattle.augmented_spec.specs.Theorems.{Twice, secondOperand, NaNOperand, OppositeInfinities, ZeroTimesInfinity, InfiniteOperand}
+use Rattle.augmented_spec.proofs.Read.{exactFor}
 use Rattle.augmented_spec.proofs.FlagSets.{times-nan}
 use Rattle.augmented_spec.proofs.Answered.{same-pair}
-use Rattle.augmented_spec.proofs.Read.{taken}
 use Rattle.augmented_spec.proofs.Flipped.{signalling-flipped}
 use Rattle.augmented_spec.proofs.SpecialResults.{onValues, exact-is, nan-pair, infinite-pair, invalid-operand, invalid-new}
 
@@ -32,13 +34,13 @@ nan-right sum F v = ap (finer F) (plus-comm nan v)
 nan-right difference F v = ap (finer F) (plus-comm nan v)
 nan-right product F v = times-nan v
 
-taken-nan : (o : Operation) (F : Format) (y : ℕ) → y < 2 * signBit F → decode F y ≡ nan → decode F (taken o F y) ≡ nan
+taken-nan : (o : Operation) (F : Format) (y : ℕ) → y < 2 * signBit F → decode F y ≡ nan → decode F (secondOperand o F y) ≡ nan
 unfolding negate
 taken-nan sum F y w e = e
 taken-nan difference F y w e = decode-flip F y w ∙ ap negate e
 taken-nan product F y w e = e
 
-pub taken-signalling : (o : Operation) (F : Format) → 0 < F .fraction → (y : ℕ) → y < 2 * signBit F → signalling F (taken o F y) ≡ signalling F y
+pub taken-signalling : (o : Operation) (F : Format) → 0 < F .fraction → (y : ℕ) → y < 2 * signBit F → signalling F (secondOperand o F y) ≡ signalling F y
 taken-signalling sum F pos y w = refl
 taken-signalling difference F pos y w = signalling-flipped F pos y w
 taken-signalling product F pos y w = refl
@@ -47,14 +49,26 @@ flags-nan : (b : Bool) → flagsOf b false false ≡ cond b I none
 flags-nan true = refl
 flags-nan false = refl
 
-pub nan-operand : NaNOperand
-nan-operand o F ok x y w c =
-    let d : (decode F x ≡ nan) ⊎ (decode F (taken o F y) ≡ nan) = elim c [ inl e ↦ inl e | inr e ↦ inr (taken-nan o F y w e) ] in
-    let v = decode F (taken o F y) in
+nan-twice : (o : Operation) (F : Format) → Proper F → (x y : ℕ) → y < 2 * signBit F → (decode F x ≡ nan) ⊎ (decode F y ≡ nan)
+    → Twice (directPair o F x y) (nanOf F (x ∷ secondOperand o F y ∷ [])) (cond (signalling F x || signalling F y) I none)
+nan-twice o F ok x y w c =
+    let d : (decode F x ≡ nan) ⊎ (decode F (secondOperand o F y) ≡ nan) = elim c [ inl e ↦ inl e | inr e ↦ inr (taken-nan o F y w e) ] in
+    let v = decode F (secondOperand o F y) in
     let n : onValues o F (decode F x) v ≡ nan =
     elim d [ inl e ↦ ap (λ (k : Value). onValues o F k v) e ∙ nan-left o F v | inr e ↦ ap (onValues o F (decode F x)) e ∙ nan-right o F (decode F x) ] in
-    let i = invalid-operand F x (taken o F y) d ∙ ap (λ (b : Bool). signalling F x || b) (taken-signalling o F (ok .0) y w) in
+    let i = invalid-operand F x (secondOperand o F y) d ∙ ap (λ (b : Bool). signalling F x || b) (taken-signalling o F (ok .0) y w) in
     nan-pair o F x y _ (exact-is o F x y ∙ n) i ∙ same-pair refl refl (flags-nan (signalling F x || signalling F y))
+
+pub nan-operand : NaNOperand
+nan-operand o F ok x y w = (
+  λ e. nan-twice o F ok x y w (inl e) ∙ same-pair (nan-first F x (z ∷ []) (ap isNaN e)) (nan-first F x (z ∷ []) (ap isNaN e)) refl,
+  λ n e.
+      let is = nan-later F x (z ∷ []) (number (decode F x) n) ∙ nan-first F z [] (ap isNaN (taken-nan o F y w e)) in
+      nan-twice o F ok x y w (inr e) ∙ same-pair is is refl,
+)
+  where
+    z : ℕ
+    z = secondOperand o F y
 
 -- ---- NaN from infinities
 opposite-sum : (s : Bool) → plus (infinite s) (infinite (not s)) ≡ nan
@@ -62,20 +76,27 @@ unfolding plus
 opposite-sum true = refl
 opposite-sum false = refl
 
+-- of operands x and y that are not NaN
+nan-from-others : (o : Operation) (F : Format) (x y : ℕ) → exactFor o F x y ≡ nan → isNaN (decode F x) ≡ false → isNaN (decode F (secondOperand o F y)) ≡ false
+    → Twice (directPair o F x y) (defaultNaN F) I
+nan-from-others o F x y e m n =
+    let is = none-nan F (x ∷ secondOperand o F y ∷ []) (differs (decode F x) m, (differs (decode F (secondOperand o F y)) n, tt)) in
+    nan-pair o F x y true e (invalid-new F x (secondOperand o F y) m n) ∙ same-pair is is refl
+
 pub opposite-infinities : OppositeInfinities
 unfolding finer negate
 opposite-infinities F x y w s e = (
-  λ f. nan-pair sum F x y true (ap (finer F) (ap₂ plus e f ∙ opposite-sum s)) (invalid-new F x y (ap isNaN e) (ap isNaN f)),
+  λ f. nan-from-others sum F x y (ap (finer F) (ap₂ plus e f ∙ opposite-sum s)) (ap isNaN e) (ap isNaN f),
   λ f.
       let g = decode-flip F y w ∙ ap negate f in
-      nan-pair difference F x y true (ap (finer F) (ap₂ plus e g ∙ opposite-sum s)) (invalid-new F x (taken difference F y) (ap isNaN e) (ap isNaN g)),
+      nan-from-others difference F x y (ap (finer F) (ap₂ plus e g ∙ opposite-sum s)) (ap isNaN e) (ap isNaN g),
 )
 
 pub zero-times-infinity : ZeroTimesInfinity
 unfolding times
 zero-times-infinity F x y s t e f = (
-  nan-pair product F x y true (ap₂ times e f) (invalid-new F x y (ap isNaN e) (ap isNaN f)),
-  nan-pair product F y x true (ap₂ times f e) (invalid-new F y x (ap isNaN f) (ap isNaN e)),
+  nan-from-others product F x y (ap₂ times e f) (ap isNaN e) (ap isNaN f),
+  nan-from-others product F y x (ap₂ times f e) (ap isNaN f) (ap isNaN e),
 )
 
 -- ---- an infinity

@@ -10,10 +10,10 @@ use Rattle.pattern_spec.specs.Exact.{plus, times, finer}
 use Rattle.binary32_spec.specs.Steps.{result}
 use Rattle.augmented_spec.specs.Pairs.{secondOf, pairOf, invalid, overflowed, flagsOf, answer}
 use Rattle.augmented_spec.specs.Direct.{Operation, sum, difference, product, directPair, none}
-use Rattle.augmented_spec.specs.Theorems.{Twice}
+use Rattle.augmented_spec.specs.Theorems.{Twice, secondOperand}
 use Rattle.augmented_spec.proofs.FlagSets.{invalid-none}
 use Rattle.augmented_spec.proofs.Answered.{Operands, same-pair, sum-operands, product-operands}
-use Rattle.augmented_spec.proofs.Read.{exactFor, taken, direct-answer, underflow-finite}
+use Rattle.augmented_spec.proofs.Read.{exactFor, direct-answer, underflow-finite}
 
 -- ---- the exact result, on values
 abbrev pub onValues : Operation → Format → Value → Value → Value
@@ -21,7 +21,7 @@ onValues sum F v w = finer F (plus v w)
 onValues difference F v w = finer F (plus v w)
 onValues product F v w = times v w
 
-pub exact-is : (o : Operation) (F : Format) (x y : ℕ) → exactFor o F x y ≡ onValues o F (decode F x) (decode F (taken o F y))
+pub exact-is : (o : Operation) (F : Format) (x y : ℕ) → exactFor o F x y ≡ onValues o F (decode F x) (decode F (secondOperand o F y))
 exact-is sum F x y = refl
 exact-is difference F x y = refl
 exact-is product F x y = refl
@@ -33,20 +33,20 @@ operands product F v w = product-operands v w
 
 -- ---- the pair of an exact result that is NaN or infinite
 module _ (o : Operation) (F : Format) (x y : ℕ) where
-  special-answer : (v : Value) → exactFor o F x y ≡ v → isFinite (pairOf F v .first) ≡ false → directPair o F x y ≡ answer F x (taken o F y) (pairOf F v) false
+  special-answer : (v : Value) → exactFor o F x y ≡ v → isFinite (pairOf F v .first) ≡ false → directPair o F x y ≡ answer F x (secondOperand o F y) (pairOf F v) false
   special-answer v e n =
-      direct-answer o F x y ∙ ap₂ (λ (w : Value) (u : Bool). answer F x (taken o F y) (pairOf F w) u) e
+      direct-answer o F x y ∙ ap₂ (λ (w : Value) (u : Bool). answer F x (secondOperand o F y) (pairOf F w) u) e
       (underflow-finite o F x y (ap (λ (w : Value). isFinite (pairOf F w .first)) e ∙ n))
 
-  pub nan-pair : (i : Bool) → exactFor o F x y ≡ nan → invalid F x (taken o F y) nan ≡ i → Twice (directPair o F x y) (nanOf F (x ∷ y ∷ [])) (flagsOf i false false)
+  pub nan-pair : (i : Bool) → exactFor o F x y ≡ nan → invalid F x (secondOperand o F y) nan ≡ i → Twice (directPair o F x y) (nanOf F (x ∷ secondOperand o F y ∷ [])) (flagsOf i false false)
   unfolding answer pairOf secondOf round result overflowed
   nan-pair i e h = special-answer nan e refl ∙ same-pair refl refl (rw h)
 
   pub infinite-pair : (s : Bool) → exactFor o F x y ≡ infinite s → Twice (directPair o F x y) (signed F s (infinity F)) none
   unfolding answer pairOf secondOf round result encode overflowed
   infinite-pair s e =
-      let k = rw (sym (exact-is o F x y) ∙ e) at (operands o F (decode F x) (decode F (taken o F y))) in
-      special-answer (infinite s) e refl ∙ same-pair refl refl (rw (invalid-none F x (taken o F y) (infinite s) (k .0) (k .1) refl, k .2))
+      let k = rw (sym (exact-is o F x y) ∙ e) at (operands o F (decode F x) (decode F (secondOperand o F y))) in
+      special-answer (infinite s) e refl ∙ same-pair refl refl (rw (invalid-none F x (secondOperand o F y) (infinite s) (k .0) (k .1) refl, k .2))
 
 -- ---- I of a NaN result
 module _ (F : Format) (x y : ℕ) where

@@ -1,6 +1,7 @@
 -- The theorems of `specs/Theorems.antt`, and the table of `specs/Cases.antt`.
 use mathlib.Core.Path.{_≡_, refl, sym, ap, _∙_}
 use mathlib.Core.Bool.{true, false, not}
+use mathlib.Core.List.{[], _∷_}
 use Prim.Native.Nat.{ℕ}
 use native.Mathlib.Nat.{lt-of-le-of-lt}
 use native.Mathlib.Omega.{arith}
@@ -8,20 +9,23 @@ use borrow.Author.Tests.{eqb-true, eq-eqb, not-false}
 use lib.Dec.{eqb}
 use lib.IntN.{natAbs}
 use Rattle.rounding_spec.specs.declared.Ties.the-variants.{ToZero}
-use Rattle.rounding_spec.specs.Format.{binary32, low}
-use Rattle.rounding_spec.specs.Value.{nan, infinite, encode, round}
+use Rattle.rounding_spec.specs.Format.{Format, low}
+use Rattle.rounding_spec.specs.Value.{Value, nan, infinite, round}
 use Rattle.rounding_spec.proofs.Codec.{pattern-rep}
 use Rattle.rounding_spec.proofs.HalfPlace.{left-half}
 use Rattle.rounding_spec.proofs.RoundValue.{round-below, over-edge, zero-at-edge}
-use Rattle.augmented_spec.specs.Pairs.{secondOf, pairOf}
+use Rattle.pattern_spec.specs.Exact.{times}
+use Rattle.binary32_spec.specs.Steps.{result}
+use Rattle.binary32_spec.proofs.Result.{result-nan, result-width}
+use Rattle.augmented_spec.specs.Pairs.{secondOf, pairOf, sumPair, differencePair, productPair}
 use Rattle.augmented_spec.specs.Cases.{Table}
-use Rattle.augmented_spec.specs.Direct.{directPair}
+use Rattle.augmented_spec.specs.Direct.{Operation, directPair}
 use Rattle.augmented_spec.specs.Theorems.{EveryFinite, DirectPairs, FirstRounded, FirstNearest, Overflow, SecondRounded, SecondNearest, HalfUnit, SumAddsUp, ProductAddsUp, FlagsOfFinite}
-use Rattle.augmented_spec.specs.Theorems.{OperationNumbers, NaNOperand, OppositeInfinities, ZeroTimesInfinity, InfiniteOperand, FlagSets, InfiniteTwice, NaNTwice, PatternWidth, All}
+use Rattle.augmented_spec.specs.Theorems.{OperationNumbers, secondOperand, NaNOperand, OppositeInfinities, ZeroTimesInfinity, NaNLandmarks, InfiniteOperand, FlagSets, InfiniteTwice, NaNTwice}
+use Rattle.augmented_spec.specs.Theorems.{DifferenceIsSum, PatternWidth, All}
 use Rattle.augmented_spec.specs.Theorems.{FlagSetFields, InvalidRaised, OverflowRaised, UnderflowRaised, InexactRaised}
 use Rattle.augmented_spec.proofs.Second.{head, tail-le, first-finite, first-infinite}
 use Rattle.augmented_spec.proofs.Read.{exactFor, first, second, first-pattern, second-pattern, first-fits, second-fits, first-read}
-use Rattle.augmented_spec.proofs.Width.{encode-width}
 use Rattle.augmented_spec.proofs.FiniteOperands.{number, first-is, rest, side, secondSize, secondSign, lost, halved}
 use Rattle.augmented_spec.proofs.AddsUp.{rest-exact, adds-up, added-up, sum-lost, product-underflow, product-inexact}
 use Rattle.augmented_spec.proofs.Nearest.{first-near, second-near}
@@ -39,6 +43,10 @@ every-finite o x y s a t b w p q =
 pub direct-pairs : DirectPairs
 unfolding directPair
 direct-pairs = (refl, refl, refl)
+
+pub difference-is-sum : DifferenceIsSum
+unfolding differencePair
+difference-is-sum F x y = refl
 
 -- ---- first
 pub first-rounded : FirstRounded
@@ -124,25 +132,36 @@ underflow-raised = fields.underflow-raised
 pub inexact-raised : InexactRaised
 inexact-raised = fields.inexact-raised
 
+-- both halves show one value, which is not finite
+same-halves : (o : Operation) (F : Format) (x y : ℕ) (v : Value) → first o F x y ≡ v → second o F x y ≡ v → directPair o F x y .second ≡ directPair o F x y .first
+same-halves o F x y v e g =
+    second-pattern o F x y ∙ ap (result F (x ∷ secondOperand o F y ∷ [])) (g ∙ sym e) ∙ sym (first-pattern o F x y)
+
 pub infinite-twice : InfiniteTwice
 unfolding pairOf secondOf
 infinite-twice o F ok x y s e =
     let is : first o F x y ≡ infinite s = sym (first-read o F ok x y) ∙ e in
-    second-pattern o F x y ∙ ap (encode F) (ap (secondOf F (exactFor o F x y)) is ∙ sym is) ∙ sym (first-pattern o F x y)
+    same-halves o F x y (infinite s) is (ap (secondOf F (exactFor o F x y)) is)
 
 pub nan-twice : NaNTwice
-unfolding pairOf secondOf encode
-nan-twice o x y e =
-    let is : first o binary32 x y ≡ nan = sym (first-read o binary32 (omega arith) x y) ∙ e in (
-      first-pattern o binary32 x y ∙ ap (encode binary32) is,
-      second-pattern o binary32 x y ∙ ap (encode binary32) (ap (secondOf binary32 (exactFor o binary32 x y)) is),
+unfolding pairOf secondOf
+nan-twice o F ok x y e =
+    let is : first o F x y ≡ nan = sym (first-read o F ok x y) ∙ e in
+    let operands = x ∷ secondOperand o F y ∷ [] in (
+      first-pattern o F x y ∙ ap (result F operands) is ∙ result-nan F operands,
+      same-halves o F x y nan is (ap (secondOf F (exactFor o F x y)) is),
     )
 
+pub nan-landmarks : NaNLandmarks
+unfolding sumPair differencePair productPair times
+nan-landmarks = (refl, refl, refl, refl, refl, refl, refl)
+
 pub pattern-width : PatternWidth
-pattern-width o F ok x y = (
-  rw (first-pattern o F x y) (encode-width F (ok .0) (first o F x y) (first-fits o F x y)),
-  rw (second-pattern o F x y) (encode-width F (ok .0) (second o F x y) (second-fits o F x y)),
-)
+pattern-width o F ok x y =
+    let operands = x ∷ secondOperand o F y ∷ [] in (
+      rw (first-pattern o F x y) (result-width F operands ok (first o F x y) (first-fits o F x y)),
+      rw (second-pattern o F x y) (result-width F operands ok (second o F x y) (second-fits o F x y)),
+    )
 
 pub operation-numbers : OperationNumbers
 operation-numbers = (refl, refl, refl, refl, refl, refl)
@@ -155,6 +174,7 @@ pub all : All
 all = (
   every-finite,
   direct-pairs,
+  difference-is-sum,
   operation-numbers,
   first-rounded,
   first-nearest,
@@ -168,6 +188,7 @@ all = (
   nan-operand,
   opposite-infinities,
   zero-times-infinity,
+  nan-landmarks,
   infinite-operand,
   flag-sets,
   flag-set-fields,

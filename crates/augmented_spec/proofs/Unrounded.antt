@@ -2,6 +2,7 @@
 use mathlib.Core.Path.{_≡_, refl, sym, ap, ap₂, _∙_}
 use mathlib.Core.Logic.{inl, inr}
 use mathlib.Core.Bool.{Bool, true, false, not, Bool·beq, cond, _&&_}
+use mathlib.Core.List.{List, [], _∷_}
 use Prim.Native.Nat.{ℕ, suc, _+_, _-_, _*_, _%_, _^_, _≤_, _<_}
 use native.Mathlib.Nat.{le-trans, le-of-eq, zero-mul, mul-lt-mul-of-pos-right, eq-of-mul-eq-mul-right, mod-eq-of-lt}
 use native.Mathlib.Decide.{decLe}
@@ -28,6 +29,7 @@ use Rattle.pattern_spec.proofs.Classified.{class-value, class-operand}
 use Rattle.pattern_spec.proofs.Exacts.{Sum, near-exact}
 use Rattle.pattern_spec.proofs.Far.{far-below, far-sum}
 use Rattle.pattern_spec.proofs.Sums.{like?, like-eq, sum-same, sum-left, finer-sum}
+use Rattle.binary32_spec.specs.Steps.{result}
 use Rattle.augmented_spec.specs.Pairs.{zeroTakes, secondOf, pairOf, exactSum}
 use Rattle.augmented_spec.specs.Inner.{join, Apart}
 use Rattle.augmented_spec.proofs.Patterns.{zero-pattern}
@@ -97,8 +99,8 @@ sign-shows x s a e =
 finite-encodes : (x : ℕ) (s : Bool) (a : ℕ) → x < 2 ^ 32 → decode binary32 x ≡ finite s a → encode binary32 (finite s a) ≡ x
 finite-encodes x s a h e = ap (encode binary32) (sym e) ∙ encode-decode binary32 x h (λ n. let k : _≡_ {A = ℕ} 0 1 = cc in omega arith)
 
-pub apart-word : (p q : ℕ) → p < 2 ^ 32 → q < 2 ^ 32 → Apart p q → p + zeroPattern (leb (2 ^ 31) p) q * 2 ^ 32 ≡ join (pairOf binary32 (exactSum binary32 p q))
-unfolding pairOf Fits
+pub apart-word : (p q : ℕ) → p < 2 ^ 32 → q < 2 ^ 32 → Apart p q → p + zeroPattern (leb (2 ^ 31) p) q * 2 ^ 32 ≡ join (p ∷ q ∷ []) (pairOf binary32 (exactSum binary32 p q))
+unfolding pairOf Fits result zeroTakes
 apart-word p q hp hq k =
     let a = k .m * 2 ^ k .e in
     let b = k .n * 2 ^ k .d in
@@ -111,16 +113,17 @@ apart-word p q hp hq k =
     ap₂ (secondOf binary32) same first
     ∙ apart-second binary32 (k .s) a (k .t) b (far-below (k .m) (k .e) (k .n) (k .d) (k .operands .0) (k .operands .1) (k .far)) (pattern-rep binary32 (omega arith) q (k .t) b (k .right)) (fits .1)
     in
-    sym (ap₂ (λ (c d : ℕ). c + d * 2 ^ 32) (ap (encode binary32) first ∙ finite-encodes p (k .s) a hp (k .left))
-    (ap (encode binary32) second ∙ sym (zero-pattern (k .s) (k .t) b (fits .0) (fits .1))
+    sym (ap₂ (λ (c d : ℕ). c + d * 2 ^ 32) (ap (result binary32 (p ∷ q ∷ [])) first ∙ finite-encodes p (k .s) a hp (k .left))
+    (ap (result binary32 (p ∷ q ∷ [])) second ∙ sym (zero-pattern (k .s) (k .t) b (fits .0) (fits .1))
     ∙ ap₂ zeroPattern (sign-shows p (k .s) a (k .left)) (finite-encodes q (k .t) b hq (k .right))))
 
 -- ---- an infinite or NaN sum is that of the step
-pub special-word : (v : Value) → isFinite v ≡ false → (r : ℕ) → r ≡ encode binary32 (round ToEven binary32 v) → r + r * 2 ^ 32 ≡ join (pairOf binary32 v)
+pub special-word : (operands : List ℕ) (v : Value) → isFinite v ≡ false → (r : ℕ) → r ≡ result binary32 operands (round ToEven binary32 v)
+    → r + r * 2 ^ 32 ≡ join operands (pairOf binary32 v)
 unfolding pairOf secondOf round
-special-word nan h r e = rw e
-special-word (infinite s) h r e = rw e
-special-word (finite s N) h r e = absurd (let k : _≡_ {A = ℕ} 0 1 = ap (λ (b : Bool). cond b 0 1) h in omega arith)
+special-word operands nan h r e = rw e
+special-word operands (infinite s) h r e = rw e
+special-word operands (finite s N) h r e = absurd (let k : _≡_ {A = ℕ} 0 1 = ap (λ (b : Bool). cond b 0 1) h in omega arith)
 
 pub infinite-sum : (v w : Value) → isFinite v && isFinite w ≡ false → isFinite (finer binary32 (plus v w)) ≡ false
 unfolding plus finer

@@ -2,18 +2,20 @@
 use Prim.Native.Nat.{ℕ, _+_, _*_, _^_, _≤_, _<_}
 use mathlib.Core.Path.{_≡_}
 use mathlib.Core.Bool.{Bool, false}
+use mathlib.Core.List.{List}
 use Rattle.rounding_spec.specs.declared.Ties.the-variants.{ToZero}
 use Rattle.rounding_spec.specs.Format.{binary32}
 use Rattle.rounding_spec.specs.Round.{leftOver}
 use Rattle.rounding_spec.specs.Value.{finite, decode, encode, isInfinite}
 use Rattle.pattern_spec.specs.Inner.{Operand}
+use Rattle.binary32_spec.specs.Steps.{result}
 use Rattle.augmented_spec.specs.declared.Flags.{Flags}
 use Rattle.augmented_spec.specs.declared.Pair.{Pair}
 use Rattle.augmented_spec.specs.Pairs.{Halves, pairOf, invalid, overflowed, underflowed, flagsOf}
 
--- both patterns in one word
-abbrev pub join : Halves → ℕ
-join p = encode binary32 (p .first) + encode binary32 (p .second) * 2 ^ 32
+-- both patterns in one word; only a NaN's goes by the operands
+abbrev pub join : List ℕ → Halves → ℕ
+join operands p = result binary32 operands (p .first) + result binary32 operands (p .second) * 2 ^ 32
 
 -- ---- answers
 -- the flags of two operands whose first has the pattern c, but for U

@@ -75,7 +75,7 @@ flagsOf isInvalid isOverflow isUnderflow =
     }
 
 -- ---- of two patterns
--- the patterns of a pair, with the flags; `underflow` says whether U is raised
+-- the patterns of a pair, a NaN's by the operands (R3.7), with the flags; `underflow` says whether U is raised
 unfoldable pub answer : Format → ℕ → ℕ → Halves → Bool → Pair
 unfolding result invalid overflowed
 answer F x y p underflow =

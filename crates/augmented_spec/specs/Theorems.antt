@@ -12,8 +12,9 @@ use lib.IntN.{ℤ, pos, natAbs, _+ℤ_, _-ℤ_, _*ℤ_}
 use Rattle.rounding_spec.specs.declared.Ties.the-variants.{ToZero}
 use Rattle.rounding_spec.specs.Format.{Format, binary32, Proper, low, edge, infinity, signBit}
 use Rattle.rounding_spec.specs.Round.{lastPlace}
-use Rattle.rounding_spec.specs.Value.{nan, infinite, finite, decode, nanOf, signalling, signed, roundFinite}
+use Rattle.rounding_spec.specs.Value.{nan, infinite, finite, decode, signalling, signed, defaultNaN, quieted, nanOf, roundFinite}
 use Rattle.pattern_spec.specs.Exact.{int}
+use Rattle.pattern_spec.specs.Classes.{flip}
 use Rattle.augmented_spec.specs.declared.Flags.{Flags}
 use Rattle.augmented_spec.specs.declared.Pair.{Pair}
 use Rattle.augmented_spec.specs.Pairs.{sumPair, differencePair, productPair}
@@ -59,6 +60,10 @@ EveryFinite =
 -- and their pairs are those of the contracts
 abbrev pub DirectPairs : Type 0
 DirectPairs = (directPair sum ≡ sumPair) × (directPair difference ≡ differencePair) × (directPair product ≡ productPair)
+
+-- a difference is the sum of x and the flipped y, NaN and flags included, in every format (R3.5)
+abbrev pub DifferenceIsSum : Type 0
+DifferenceIsSum = (F : Format) (x y : ℕ) → differencePair F x y ≡ sumPair F x (flip F y)
 
 -- the numbers of operations (R8.5)
 abbrev pub OperationNumbers : Type 0
@@ -144,24 +149,43 @@ FlagsOfFinite =
 abbrev pub Twice : Pair → ℕ → Flags → Type 0
 Twice p a f = p ≡ record { first = a; second = a; flags = f }
 
--- NaN twice (R3.7), and I where an operand is signalling or none is NaN (R4.2): of a NaN operand, of opposite infinities, of zero times
--- infinity
+-- y as the operation takes it: with its sign flipped in a difference (R3.5)
+abbrev pub secondOperand : Operation → Format → ℕ → ℕ
+secondOperand sum F y = y
+secondOperand difference F y = flip F y
+secondOperand product F y = y
+
+-- R3.7, R4.2: a NaN operand gives the first NaN twice, with its highest fraction bit set, and I where an operand is signalling
 abbrev pub NaNOperand : Type 0
 NaNOperand =
-    (o : Operation) (F : Format) → Proper F → (x y : ℕ) → y < 2 * signBit F → (decode F x ≡ nan) ⊎ (decode F y ≡ nan)
-    → Twice (directPair o F x y) (nanOf F (x ∷ y ∷ [])) (cond (signalling F x || signalling F y) I none)
+    (o : Operation) (F : Format) → Proper F → (x y : ℕ) → y < 2 * signBit F
+    → let flags = cond (signalling F x || signalling F y) I none in
+    (decode F x ≡ nan → Twice (directPair o F x y) (quieted F x) flags)
+    × (decode F x ≢ nan → decode F y ≡ nan → Twice (directPair o F x y) (quieted F (secondOperand o F y)) flags)
 
+-- opposite infinities, and zero times infinity, in both orders: NaN twice (7FC00000 in binary32), and I
 abbrev pub OppositeInfinities : Type 0
 OppositeInfinities =
     (F : Format) (x y : ℕ) → y < 2 * signBit F → (s : Bool) → decode F x ≡ infinite s
-    → (decode F y ≡ infinite (not s) → Twice (directPair sum F x y) (nanOf F (x ∷ y ∷ [])) I)
-    × (decode F y ≡ infinite s → Twice (directPair difference F x y) (nanOf F (x ∷ y ∷ [])) I)
+    → (decode F y ≡ infinite (not s) → Twice (directPair sum F x y) (defaultNaN F) I)
+    × (decode F y ≡ infinite s → Twice (directPair difference F x y) (defaultNaN F) I)
 
--- in both orders
 abbrev pub ZeroTimesInfinity : Type 0
 ZeroTimesInfinity =
     (F : Format) (x y : ℕ) (s t : Bool) → decode F x ≡ finite s 0 → decode F y ≡ infinite t
-    → Twice (directPair product F x y) (nanOf F (x ∷ y ∷ [])) I × Twice (directPair product F y x) (nanOf F (y ∷ x ∷ [])) I
+    → Twice (directPair product F x y) (defaultNaN F) I × Twice (directPair product F y x) (defaultNaN F) I
+
+-- landmarks: a quiet NaN and zero; a signalling operand; two NaN, the second of them signalling; flipped ones of both kinds; one that is
+-- first of two; a product
+abbrev pub NaNLandmarks : Type 0
+NaNLandmarks =
+    Twice (sumPair binary32 0x7fc0_0001 0x0000_0000) 0x7fc0_0001 none
+    × Twice (sumPair binary32 0x3f80_0000 0xff80_0001) 0xffc0_0001 I
+    × Twice (sumPair binary32 0xffc0_0002 0x7f80_0001) 0xffc0_0002 I
+    × Twice (differencePair binary32 0x3f80_0000 0x7fc0_0001) 0xffc0_0001 none
+    × Twice (differencePair binary32 0x3f80_0000 0x7f80_0001) 0xffc0_0001 I
+    × Twice (differencePair binary32 0x7fc0_0003 0x7fc0_0001) 0x7fc0_0003 none
+    × Twice (productPair binary32 0x0000_0000 0x7f81_2345) 0x7fc1_2345 I
 
 -- R3.6, R3.8, R4.3: every other infinite operand x, on either side. An infinite addend gives its sign, flipped on the right
 -- of a difference; an infinite factor, times an infinity or a number that is not zero, the product of signs.
@@ -229,11 +253,11 @@ InfiniteTwice =
     (o : Operation) (F : Format) → Proper F → (x y : ℕ) (s : Bool) → decode F (directPair o F x y .first) ≡ infinite s
     → directPair o F x y .second ≡ directPair o F x y .first
 
--- R3.7
+-- R3.7: a NaN first is the operands', and stands in second again
 abbrev pub NaNTwice : Type 0
 NaNTwice =
-    (o : Operation) (x y : ℕ) → let p = directPair o binary32 x y in
-    decode binary32 (p .first) ≡ nan → (p .first ≡ 0x7fc0_0000) × (p .second ≡ 0x7fc0_0000)
+    (o : Operation) (F : Format) → Proper F → (x y : ℕ) → let p = directPair o F x y in
+    decode F (p .first) ≡ nan → (p .first ≡ nanOf F (x ∷ secondOperand o F y ∷ [])) × (p .second ≡ p .first)
 
 -- both halves are patterns of the format: 32 bits wide in binary32
 abbrev pub PatternWidth : Type 0
@@ -244,6 +268,7 @@ PatternWidth =
 -- ---- all of them, and the table of cases: `proofs/Theorems.antt` proves this
 abbrev pub All : Type 0
 All =
-    EveryFinite × DirectPairs × OperationNumbers × FirstRounded × FirstNearest × Overflow × SecondRounded × SecondNearest × HalfUnit
-    × SumAddsUp × ProductAddsUp × FlagsOfFinite × NaNOperand × OppositeInfinities × ZeroTimesInfinity × InfiniteOperand × FlagSets
-    × FlagSetFields × InvalidRaised × OverflowRaised × UnderflowRaised × InexactRaised × InfiniteTwice × NaNTwice × PatternWidth × Table
+    EveryFinite × DirectPairs × DifferenceIsSum × OperationNumbers × FirstRounded × FirstNearest × Overflow × SecondRounded × SecondNearest
+    × HalfUnit × SumAddsUp × ProductAddsUp × FlagsOfFinite × NaNOperand × OppositeInfinities × ZeroTimesInfinity × NaNLandmarks
+    × InfiniteOperand × FlagSets × FlagSetFields × InvalidRaised × OverflowRaised × UnderflowRaised × InexactRaised × InfiniteTwice
+    × NaNTwice × PatternWidth × Table

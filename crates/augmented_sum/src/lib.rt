@@ -12,7 +12,8 @@ use rounding::round_with_rest;
 use rounding_spec::Ties;
 ghost use mathlib.Core.Path.{_≡_};
 ghost use mathlib.Core.Bool.{false};
-ghost use Prim.Native.Nat.{_+_, _*_, _/_, _%_, _^_};
+ghost use mathlib.Core.List.{List, [], _∷_};
+ghost use Prim.Native.Nat.{ℕ, _+_, _*_, _/_, _%_, _^_};
 ghost use Rattle.rounding_spec.specs.Format.{binary32};
 ghost use Rattle.rounding_spec.specs.Value.{finite, decode, isFinite};
 ghost use Rattle.pattern_spec.specs.Classes.{classOf};
@@ -20,9 +21,9 @@ ghost use Rattle.pattern_spec.specs.Inner.{Operand, Below};
 ghost use Rattle.augmented_spec.specs.Pairs.{pairOf, exactSum};
 ghost use Rattle.augmented_spec.specs.Inner.{join, Apart, ShortRest};
 
-// The larger magnitude comes first, whose exponent then is not below the other's.
+// The larger magnitude comes first, whose exponent then is not below the other's. A NaN goes by the operands as they stand.
 pub fn of_patterns(x: u32, y: u32) -> u64
-    ensures { λ r. ⌜ r ≡ join (pairOf binary32 (exactSum binary32 x y)) ⌝ }
+    ensures { λ r. ⌜ r ≡ join (x ∷ y ∷ []) (pairOf binary32 (exactSum binary32 x y)) ⌝ }
 {
     let p = larger(x, y);
     let q = smaller(x, y);
@@ -33,8 +34,8 @@ pub fn of_patterns(x: u32, y: u32) -> u64
             sig: m,
             exp: e,
         } => finite_plus(s, m, e, p, q),
-        Class::Infinite(_) => special(p, q),
-        Class::NotANumber => special(p, q),
+        Class::Infinite(_) => special(x, y),
+        Class::NotANumber => special(x, y),
     }
 }
 
@@ -55,7 +56,7 @@ fn finite_plus(s: bool, m: u64, e: u16, p: u32, q: u32) -> u64
     requires { ⌜ Operand m e ⌝ }
     requires { ⌜ decode binary32 p ≡ finite s (m * 2 ^ e) ⌝ }
     requires { ⌜ Below e (classOf q) ⌝ }
-    ensures { λ r. ⌜ r ≡ join (pairOf binary32 (exactSum binary32 p q)) ⌝ }
+    ensures { λ r. ⌜ r ≡ join (p ∷ q ∷ []) (pairOf binary32 (exactSum binary32 p q)) ⌝ }
 {
     let b = classify(q);
     match b {
@@ -77,26 +78,26 @@ fn finite_plus(s: bool, m: u64, e: u16, p: u32, q: u32) -> u64
 }
 
 // An infinite or NaN sum needs no rounding, so that it is the step's.
-fn special(p: u32, q: u32) -> u64
-    requires { ⌜ isFinite (exactSum binary32 p q) ≡ false ⌝ }
-    ensures { λ r. ⌜ r ≡ join (pairOf binary32 (exactSum binary32 p q)) ⌝ }
+fn special(x: u32, y: u32) -> u64
+    requires { ⌜ isFinite (exactSum binary32 x y) ≡ false ⌝ }
+    ensures { λ r. ⌜ r ≡ join (x ∷ y ∷ []) (pairOf binary32 (exactSum binary32 x y)) ⌝ }
 {
-    let r = binary32::add(p, q);
+    let r = binary32::add(x, y);
     joined(r, r)
 }
 
 // Two operands so far apart that they are their own pair, but for the sign of a zero.
 fn apart(p: u32, q: u32) -> u64
     requires { ⌜ Apart p q ⌝ }
-    ensures { λ r. ⌜ r ≡ join (pairOf binary32 (exactSum binary32 p q)) ⌝ }
+    ensures { λ r. ⌜ r ≡ join (p ∷ q ∷ []) (pairOf binary32 (exactSum binary32 p q)) ⌝ }
 {
     joined(p, zero_takes(p >= 0x8000_0000, q))
 }
 
-// The rest of a sum has at most 24 digits, and none below u: it is a number of the format itself.
+// The rest of a sum has at most 24 digits, and none below u: it is a number of the format itself. No half is NaN, whatever the operands.
 fn near(sign: bool, sig: u64, exp: u16) -> u64
     requires { ⌜ ShortRest sig exp ⌝ }
-    ensures { λ r. ⌜ r ≡ join (pairOf binary32 (finite sign (sig * 2 ^ exp))) ⌝ }
+    ensures { λ r. ⌜ ((operands : List ℕ) → r ≡ join operands (pairOf binary32 (finite sign (sig * 2 ^ exp)))) ⌝ }
 {
     let first = round_with_rest(Ties::ToZero, sign, sig, exp);
     let over = is_infinite(first.pattern);

@@ -3,6 +3,7 @@ use exact::signed_sum;
 use pattern::classify;
 use pattern::infinity;
 use pattern::larger;
+use pattern::nan_of_two;
 use pattern::smaller;
 use pattern_spec::Class;
 use pattern_spec::NAN;
@@ -11,32 +12,26 @@ ghost use mathlib.Core.Path.{_≡_};
 ghost use Prim.Native.Nat.{_+_, _*_, _^_, _≤_, _<_};
 ghost use Rattle.rounding_spec.specs.declared.Ties.the-variants.{ToEven};
 ghost use Rattle.rounding_spec.specs.Format.{binary32};
-ghost use Rattle.rounding_spec.specs.Value.{infinite, finite, decode, encode, round};
+ghost use Rattle.rounding_spec.specs.Value.{infinite, finite, encode, round};
 ghost use Rattle.pattern_spec.specs.Exact.{plusFinite, plus};
-ghost use Rattle.binary32_spec.specs.Steps.{addValue};
+ghost use Rattle.binary32_spec.specs.Steps.{addValue, addStep};
 ghost use Rattle.pattern_spec.specs.Classes.{valueOf};
-ghost use Rattle.pattern_spec.specs.Inner.{Operand, Below, Descending, Bounded};
+ghost use Rattle.pattern_spec.specs.Inner.{Operand, Below, Bounded};
 
+// A NaN is larger than every number, so that behind the first arm no operand is NaN.
 pub fn of_patterns(x: u32, y: u32) -> u32
-    ensures { λ r. ⌜ r ≡ encode binary32 (addValue binary32 (decode binary32 x) (decode binary32 y)) ⌝ }
+    ensures { λ r. ⌜ r ≡ addStep x y ⌝ }
 {
-    plus(classify(larger(x, y)), classify(smaller(x, y)))
-}
-
-fn plus(a: Class, b: Class) -> u32
-    requires { ⌜ Bounded Operand a ⌝ }
-    requires { ⌜ Bounded Operand b ⌝ }
-    requires { ⌜ Descending a b ⌝ }
-    ensures { λ r. ⌜ r ≡ encode binary32 (addValue binary32 (valueOf a) (valueOf b)) ⌝ }
-{
+    let q = smaller(x, y);
+    let a = classify(larger(x, y));
     match a {
-        Class::NotANumber => NAN,
-        Class::Infinite(s) => infinite_plus(s, b),
+        Class::NotANumber => nan_of_two(x, y),
+        Class::Infinite(s) => infinite_plus(s, classify(q)),
         Class::Finite {
             sign: s,
             sig: m,
             exp: e,
-        } => finite_plus(s, m, e, b),
+        } => finite_plus(s, m, e, classify(q)),
     }
 }
 

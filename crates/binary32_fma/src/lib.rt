@@ -6,35 +6,30 @@ use choose::choose_exponent;
 use choose::choose_sign;
 use pattern::classify;
 use pattern::infinity;
+use pattern::is_nan;
+use pattern::nan_of_three;
+use pattern::quieted;
 use pattern_spec::Class;
-use pattern_spec::NAN;
 ghost use mathlib.Core.Path.{_≡_};
+ghost use mathlib.Core.List.{[], _∷_};
 ghost use Prim.Native.Nat.{_+_, _-_, _*_, _^_, _≤_, _<_};
 ghost use Rattle.rounding_spec.specs.declared.Ties.the-variants.{ToEven};
 ghost use Rattle.rounding_spec.specs.Format.{binary32};
-ghost use Rattle.rounding_spec.specs.Value.{finite, encode, round};
+ghost use Rattle.rounding_spec.specs.Value.{infinite, finite, decode, encode, round};
 ghost use Rattle.pattern_spec.specs.Exact.{plusFinite, plus, finer};
-ghost use Rattle.binary32_spec.specs.Steps.{fmaStep};
-ghost use Rattle.pattern_spec.specs.Classes.{valueOf};
-ghost use Rattle.pattern_spec.specs.Inner.{Operand, Product, Bounded, Jammed};
+ghost use Rattle.binary32_spec.specs.Steps.{result, fmaStep};
+ghost use Rattle.pattern_spec.specs.Inner.{Product, Jammed};
 ghost use Rattle.binary32_spec.specs.Inner.{Normal, Reaches};
 ghost use Rattle.binary32_fma.specs.Inner.{Ordered};
 
+// A product, which counts 2^-298, and a third operand, which counts 2^-149.
 pub fn of_patterns(x: u32, y: u32, z: u32) -> u32
     ensures { λ r. ⌜ r ≡ fmaStep x y z ⌝ }
 {
-    product_plus(exact::product(x, y), classify(z))
-}
-
-// A product, which counts 2^-298, and a third operand, which counts 2^-149.
-fn product_plus(p: Class, z: Class) -> u32
-    requires { ⌜ Bounded Product p ⌝ }
-    requires { ⌜ Bounded Operand z ⌝ }
-    ensures { λ r. ⌜ r ≡ encode binary32 (round ToEven binary32 (plus (valueOf p) (finer binary32 (valueOf z)))) ⌝ }
-{
+    let p = exact::product(x, y);
     match p {
-        Class::NotANumber => NAN,
-        Class::Infinite(s) => infinite_plus(s, z),
+        Class::NotANumber => nan_of_three(x, y, z),
+        Class::Infinite(s) => infinite_product_plus(s, z),
         Class::Finite {
             sign: s,
             sig: m,
@@ -43,13 +38,23 @@ fn product_plus(p: Class, z: Class) -> u32
     }
 }
 
-fn finite_product_plus(s: bool, m: u64, e: u16, z: Class) -> u32
-    requires { ⌜ Product m e ⌝ }
-    requires { ⌜ Bounded Operand z ⌝ }
-    ensures { λ r. ⌜ r ≡ encode binary32 (round ToEven binary32 (plus (finite s (m * 2 ^ e)) (finer binary32 (valueOf z)))) ⌝ }
+fn infinite_product_plus(s: bool, z: u32) -> u32
+    ensures { λ r. ⌜ r ≡ result binary32 (z ∷ []) (plus (infinite s) (decode binary32 z)) ⌝ }
 {
-    match z {
-        Class::NotANumber => NAN,
+    if is_nan(z) {
+        return quieted(z);
+    }
+    infinite_plus(s, classify(z))
+}
+
+fn finite_product_plus(s: bool, m: u64, e: u16, z: u32) -> u32
+    requires { ⌜ Product m e ⌝ }
+    ensures { λ r. ⌜ r ≡ result binary32 (z ∷ [])
+        (round ToEven binary32 (plus (finite s (m * 2 ^ e)) (finer binary32 (decode binary32 z)))) ⌝ }
+{
+    let c = classify(z);
+    match c {
+        Class::NotANumber => quieted(z),
         Class::Infinite(t) => infinity(t),
         Class::Finite {
             sign: t,

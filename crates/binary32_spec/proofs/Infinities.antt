@@ -1,18 +1,20 @@
 -- Steps with NaN and infinities: the pattern that they give.
-use mathlib.Core.Path.{_≡_, refl, ap, ap₂, _∙_}
-use mathlib.Core.Logic.{_⊎_, inl, inr}
+use mathlib.Core.Path.{_≡_, refl, sym, ap, ap₂, _∙_}
+use mathlib.Core.Logic.{_≢_, inl, inr}
 use mathlib.Core.Bool.{Bool, true, false, not}
+use mathlib.Core.List.{List, [], _∷_}
 use Prim.Native.Nat.{ℕ}
 use native.Mathlib.Omega.{arith}
 use borrow.Author.Tests.{ne-eqb}
 use lib.Ieee.{unlike}
 use Rattle.rounding_spec.specs.declared.Ties.the-variants.{ToEven}
 use Rattle.rounding_spec.specs.Format.{binary32}
-use Rattle.rounding_spec.specs.Value.{Value, nan, infinite, finite, decode, encode, round}
+use Rattle.rounding_spec.specs.Value.{Value, nan, infinite, finite, decode, isNaN, encode, nanOf, round}
+use Rattle.rounding_spec.proofs.NaN.{differs, number, nan-first, nan-later, none-nan}
 use Rattle.pattern_spec.specs.Exact.{negate, plus, times, finer}
-use Rattle.binary32_spec.specs.Steps.{addValue, subValue, mulValue, fmaValue, addStep, subStep, mulStep, fmaStep}
+use Rattle.binary32_spec.specs.Steps.{addValue, subValue, fmaValue, result, addStep, subStep, mulStep, fmaStep}
 use Rattle.binary32_spec.specs.Theorems.{InfiniteFactors, StepNaN, StepInvalid, StepInfinite}
-use Rattle.binary32_spec.proofs.Result.{add-step, sub-step, mul-step, fma-step}
+use Rattle.binary32_spec.proofs.Result.{add-step, sub-step, mul-once, fma-step}
 
 -- ---- sums and products of values
 plus-nan : (v : Value) → plus v nan ≡ nan
@@ -53,70 +55,108 @@ times-infinite x s y t f =
     ]
 
 -- ---- a step whose exact result is NaN or infinite is not rounded
-abbrev once : Value → ℕ
-once v = encode binary32 (round ToEven binary32 v)
+-- the pattern of the exact result v of operands
+abbrev once : List ℕ → Value → ℕ
+once operands v = result binary32 operands (round ToEven binary32 v)
 
 module _ (x y : ℕ) (u v w : Value) (p : decode binary32 x ≡ u) (q : decode binary32 y ≡ v) where
-  add-gives : finer binary32 (plus u v) ≡ w → addStep x y ≡ once w
+  add-gives : finer binary32 (plus u v) ≡ w → addStep x y ≡ once (x ∷ y ∷ []) w
   unfolding addValue
-  add-gives e = add-step x y ∙ ap (encode binary32) (ap₂ (addValue binary32) p q) ∙ ap once e
+  add-gives e = add-step x y ∙ ap (result binary32 (x ∷ y ∷ [])) (ap₂ (addValue binary32) p q) ∙ ap (once (x ∷ y ∷ [])) e
 
-  sub-gives : finer binary32 (plus u (negate v)) ≡ w → subStep x y ≡ once w
+  sub-gives : finer binary32 (plus u (negate v)) ≡ w → subStep x y ≡ once (x ∷ y ∷ []) w
   unfolding subValue addValue
-  sub-gives e = sub-step x y ∙ ap (encode binary32) (ap₂ (subValue binary32) p q) ∙ ap once e
+  sub-gives e = sub-step x y ∙ ap (result binary32 (x ∷ y ∷ [])) (ap₂ (subValue binary32) p q) ∙ ap (once (x ∷ y ∷ [])) e
 
-  mul-gives : times u v ≡ w → mulStep x y ≡ once w
-  unfolding mulValue
-  mul-gives e = mul-step x y ∙ ap (encode binary32) (ap₂ (mulValue binary32) p q) ∙ ap once e
+  mul-gives : times u v ≡ w → mulStep x y ≡ once (x ∷ y ∷ []) w
+  mul-gives e = mul-once x y w (ap₂ times p q ∙ e)
 
-fma-gives : (x y z : ℕ) (u v w : Value) → times (decode binary32 x) (decode binary32 y) ≡ u → decode binary32 z ≡ v → plus u (finer binary32 v) ≡ w → fmaStep x y z ≡ once w
+fma-gives : (x y z : ℕ) (u v w : Value) → times (decode binary32 x) (decode binary32 y) ≡ u → decode binary32 z ≡ v → plus u (finer binary32 v) ≡ w
+    → fmaStep x y z ≡ once (x ∷ y ∷ z ∷ []) w
 unfolding fmaValue
-fma-gives x y z u v w p q e = fma-step x y z ∙ ap once (ap₂ (λ (a b : Value). plus a (finer binary32 b)) p q ∙ e)
+fma-gives x y z u v w p q e = fma-step x y z ∙ ap (once (x ∷ y ∷ z ∷ [])) (ap₂ (λ (a b : Value). plus a (finer binary32 b)) p q ∙ e)
 
 -- ---- a NaN operand
-pub step-nan : StepNaN
-unfolding encode round finer plus times negate
-step-nan = (two, three)
-  where
-    two : (x y : ℕ) → (decode binary32 x ≡ nan) ⊎ (decode binary32 y ≡ nan) → (addStep x y ≡ 0x7fc0_0000) × (subStep x y ≡ 0x7fc0_0000) × (mulStep x y ≡ 0x7fc0_0000)
-    two x y o =
-        let u = decode binary32 x in
-        let v = decode binary32 y in
-        elim o [
-          | inl e ↦ (add-gives x y nan v nan e refl refl, sub-gives x y nan v nan e refl refl, mul-gives x y nan v nan e refl refl)
-          | inr e ↦ (
-            add-gives x y u nan nan refl e (ap (finer binary32) (plus-nan u)),
-            sub-gives x y u nan nan refl e (ap (finer binary32) (plus-nan u)),
-            mul-gives x y u nan nan refl e (times-nan u),
-          )
-        ]
+-- of two, each in the other's company
+abbrev AllGive : ℕ → ℕ → ℕ → Type 0
+AllGive x y r = (addStep x y ≡ r) × (subStep x y ≡ r) × (mulStep x y ≡ r)
 
-    three : (x y z : ℕ) → (decode binary32 x ≡ nan) ⊎ ((decode binary32 y ≡ nan) ⊎ (decode binary32 z ≡ nan)) → fmaStep x y z ≡ 0x7fc0_0000
-    three x y z o =
-        let v = decode binary32 y in
-        let w = decode binary32 z in
-        elim o [
-          | inl e ↦ fma-gives x y z nan w nan (ap (λ (u : Value). times u v) e) refl refl
-          | inr p ↦ elim p [
-            | inl e ↦ fma-gives x y z nan w nan (ap (times (decode binary32 x)) e ∙ times-nan (decode binary32 x)) refl refl
-            | inr e ↦ fma-gives x y z (times (decode binary32 x) v) nan nan refl e (plus-nan (times (decode binary32 x) v))
-          ]
-        ]
+left-nan : (x y : ℕ) → decode binary32 x ≡ nan → AllGive x y (nanOf binary32 (x ∷ y ∷ []))
+unfolding result round finer plus times
+left-nan x y e =
+    let v = decode binary32 y in
+    (add-gives x y nan v nan e refl refl, sub-gives x y nan v nan e refl refl, mul-gives x y nan v nan e refl refl)
+
+pub right-nan : (x y : ℕ) → decode binary32 y ≡ nan → AllGive x y (nanOf binary32 (x ∷ y ∷ []))
+unfolding result round finer negate
+right-nan x y e =
+    let u = decode binary32 x in (
+      add-gives x y u nan nan refl e (ap (finer binary32) (plus-nan u)),
+      sub-gives x y u nan nan refl e (ap (finer binary32) (plus-nan u)),
+      mul-gives x y u nan nan refl e (times-nan u),
+    )
+
+-- a NaN product, or a NaN third operand
+pub product-nan : (x y z : ℕ) → times (decode binary32 x) (decode binary32 y) ≡ nan → fmaStep x y z ≡ nanOf binary32 (x ∷ y ∷ z ∷ [])
+unfolding result round plus
+product-nan x y z e = fma-gives x y z nan (decode binary32 z) nan e refl refl
+
+third-nan : (x y z : ℕ) → decode binary32 z ≡ nan → fmaStep x y z ≡ nanOf binary32 (x ∷ y ∷ z ∷ [])
+unfolding result round finer
+third-nan x y z e =
+    let p = times (decode binary32 x) (decode binary32 y) in fma-gives x y z p nan nan refl e (plus-nan p)
+
+-- which NaN that is
+all-give : (x y : ℕ) {r q : ℕ} → r ≡ q → AllGive x y r → AllGive x y q
+all-give x y e g = (g .0 ∙ e, g .1 ∙ e, g .2 ∙ e)
+
+pub step-nan : StepNaN
+unfolding times
+step-nan = (
+  λ x y e. all-give x y (nan-first binary32 x (y ∷ []) (ap isNaN e)) (left-nan x y e),
+  λ x y n e. all-give x y (later x n (y ∷ []) ∙ nan-first binary32 y [] (ap isNaN e)) (right-nan x y e),
+  λ x y z e. product-nan x y z (ap (λ (u : Value). times u (decode binary32 y)) e) ∙ nan-first binary32 x (y ∷ z ∷ []) (ap isNaN e),
+  λ x y z n e.
+      product-nan x y z (ap (times (decode binary32 x)) e ∙ times-nan (decode binary32 x)) ∙ later x n (y ∷ z ∷ []) ∙ nan-first binary32 y (z ∷ []) (ap isNaN e),
+  λ x y z m n e. third-nan x y z e ∙ later x m (y ∷ z ∷ []) ∙ later y n (z ∷ []) ∙ nan-first binary32 z [] (ap isNaN e),
+)
+  where
+    later : (x : ℕ) → decode binary32 x ≢ nan → (xs : List ℕ) → nanOf binary32 (x ∷ xs) ≡ nanOf binary32 xs
+    later x n xs = nan-later binary32 x xs (number (decode binary32 x) n)
 
 -- ---- NaN from operands that are not NaN
+no-nan : (x : ℕ) {v : Value} → decode binary32 x ≡ v → isNaN v ≡ false → decode binary32 x ≢ nan
+no-nan x {v} e n h = differs v n (sym e ∙ h)
+
+none-of-two : (x y : ℕ) {u v : Value} → decode binary32 x ≡ u → decode binary32 y ≡ v → isNaN u ≡ false → isNaN v ≡ false → nanOf binary32 (x ∷ y ∷ []) ≡ 0x7fc0_0000
+none-of-two x y p q m n = none-nan binary32 (x ∷ y ∷ []) (no-nan x p m, (no-nan y q n, tt))
+
 pub step-invalid : StepInvalid
-unfolding encode round finer plus times negate
+unfolding result round finer plus times negate
 step-invalid = (
-  λ x y s p q. add-gives x y (infinite s) (infinite (not s)) nan p q (ap (finer binary32) (plus-opposite s)),
-  λ x y s p q. sub-gives x y (infinite s) (infinite s) nan p q (ap (finer binary32) (plus-opposite s)),
-  λ x y s t p q. (mul-gives x y (finite s 0) (infinite t) nan p q refl, mul-gives y x (infinite t) (finite s 0) nan q p refl),
-  λ x y z s t p q. (fma-gives x y z nan (decode binary32 z) nan (ap₂ times p q) refl refl, fma-gives y x z nan (decode binary32 z) nan (ap₂ times q p) refl refl),
-  λ x y z s t f q. fma-gives x y z (infinite (unlike s t)) (infinite (not (unlike s t))) nan (times-infinite x s y t f) q (plus-opposite (unlike s t)),
+  λ x y s p q. add-gives x y (infinite s) (infinite (not s)) nan p q (ap (finer binary32) (plus-opposite s)) ∙ none-of-two x y p q refl refl,
+  λ x y s p q. sub-gives x y (infinite s) (infinite s) nan p q (ap (finer binary32) (plus-opposite s)) ∙ none-of-two x y p q refl refl,
+  λ x y s t p q. (
+    mul-gives x y (finite s 0) (infinite t) nan p q refl ∙ none-of-two x y p q refl refl,
+    mul-gives y x (infinite t) (finite s 0) nan q p refl ∙ none-of-two y x q p refl refl,
+  ),
+  λ x y z s t p q n. (
+    product-nan x y z (ap₂ times p q) ∙ none-nan binary32 (x ∷ y ∷ z ∷ []) (no-nan x p refl, (no-nan y q refl, (n, tt))),
+    product-nan y x z (ap₂ times q p) ∙ none-nan binary32 (y ∷ x ∷ z ∷ []) (no-nan y q refl, (no-nan x p refl, (n, tt))),
+  ),
+  λ x y z s t f q.
+      fma-gives x y z (infinite (unlike s t)) (infinite (not (unlike s t))) nan (times-infinite x s y t f) q (plus-opposite (unlike s t))
+      ∙ none-nan binary32 (x ∷ y ∷ z ∷ []) (factor-numbers x s y t f .0, (factor-numbers x s y t f .1, (no-nan z q refl, tt))),
 )
+  where
+    factor-numbers : (x : ℕ) (s : Bool) (y : ℕ) (t : Bool) → InfiniteFactors x s y t → (decode binary32 x ≢ nan) × (decode binary32 y ≢ nan)
+    factor-numbers x s y t (inl h) = (no-nan x (h .0) refl, no-nan y (h .1) refl)
+    factor-numbers x s y t (inr (inl h)) = (no-nan x (h .2) refl, no-nan y (h .3) refl)
+    factor-numbers x s y t (inr (inr h)) = (no-nan x (h .2) refl, no-nan y (h .3) refl)
 
 -- ---- an infinite result
 pub step-infinite : StepInfinite
-unfolding encode round finer plus times negate
+unfolding result encode round finer plus times negate
 step-infinite = (
   λ x y s t b p q. (
     add-gives x y (infinite s) (finite t b) (infinite s) p q refl,

@@ -1,6 +1,8 @@
 pub mod Result
 pub mod Special
 pub mod Near
+pub mod Sums
+pub mod Fused
 pub mod Jam
 pub mod Infinities
 pub mod Theorems

@@ -1,6 +1,7 @@
 -- The theorems of `specs/Theorems.antt`.
 use mathlib.Core.Path.{_≡_, refl, sym, ap, ap₂, _∙_}
-use mathlib.Core.Bool.{Bool, not, _&&_}
+use mathlib.Core.Bool.{Bool, false, not, _&&_}
+use mathlib.Core.List.{List, [], _∷_}
 use Prim.Native.Nat.{ℕ, _*_, _^_}
 use native.Mathlib.Nat.{eq-of-mul-eq-mul-right, zero-mul}
 use native.Mathlib.Omega.{arith}
@@ -9,38 +10,34 @@ use lib.IntN.{ℤ, pos, _+ℤ_, _*ℤ_}
 use lib.Pow.{pow-pos}
 use Rattle.rounding_spec.specs.declared.Ties.the-variants.{ToEven}
 use Rattle.rounding_spec.specs.Format.{binary32}
-use Rattle.rounding_spec.specs.Value.{Value, nan, finite, decode, encode, round}
-use Rattle.rounding_spec.proofs.Codec.{decode-encode}
-use Rattle.rounding_spec.proofs.RoundValue.{round-fits}
+use Rattle.rounding_spec.specs.Value.{Value, nan, finite, Fits, decode, signalling, round}
+use Rattle.rounding_spec.specs.Theorems.{NoneNaN}
+use Rattle.rounding_spec.proofs.NaN.{none-nan}
 use Rattle.pattern_spec.specs.Exact.{negate, plus, times, finer, int}
-use Rattle.binary32_spec.specs.Steps.{addValue, subValue, mulValue, fmaValue, addStep, subStep, fmaStep}
-use Rattle.binary32_spec.specs.Theorems.{RoundedOnce, AddFinite, SubFinite, MulFinite, FmaFinite, NaNResults, StepNaN, StepInvalid, StepInfinite, AddDecodes, SubDecodes, MulDecodes, FmaDecodes}
+use Rattle.binary32_spec.specs.Steps.{addValue, subValue, mulValue, fmaValue, result, addStep, subStep, mulStep, fmaStep}
+use Rattle.binary32_spec.specs.Theorems.{RoundedOnce, AddFinite, SubFinite, MulFinite, FmaFinite, StepNaN, NaNResults, StepQuiet, StepNaNLandmarks, StepInvalid, StepInfinite, AddDecodes}
+use Rattle.binary32_spec.specs.Theorems.{SubDecodes, MulDecodes, FmaDecodes}
 use Rattle.binary32_spec.specs.Theorems.{All}
 use Rattle.binary32_spec.specs.Agreement.{AddAgrees, SubAgrees, MulAgrees}
 use Rattle.binary32_spec.proofs.Agreement as agreement
 use Rattle.binary32_spec.proofs.Infinities as infinities
 use Rattle.pattern_spec.proofs.Integers as integers
-use Rattle.binary32_spec.proofs.Result.{add-step, sub-step, mul-step, fma-step}
+use Rattle.binary32_spec.proofs.Result.{result-nan, result-quiet, decode-result, add-fits, sub-fits, mul-fits, fma-fits, add-step, sub-step, mul-step, fma-step}
 
--- ---- a rounded value is read back from its pattern
-rounded-back : (x : ℕ) (v : Value) → x ≡ encode binary32 (round ToEven binary32 v) → decode binary32 x ≡ round ToEven binary32 v
-rounded-back x v e = ap (decode binary32) e ∙ decode-encode binary32 (omega arith) (round ToEven binary32 v) (round-fits ToEven binary32 v)
-
+-- ---- a step's value is read back from its pattern
 pub add-decodes : AddDecodes
-unfolding addValue
-add-decodes x y = rounded-back _ (finer binary32 (plus (decode binary32 x) (decode binary32 y))) (add-step x y)
+add-decodes x y = ap (decode binary32) (add-step x y) ∙ decode-result binary32 (x ∷ y ∷ []) (omega arith) _ (add-fits binary32 (decode binary32 x) (decode binary32 y))
 
 pub sub-decodes : SubDecodes
-unfolding subValue addValue
-sub-decodes x y = rounded-back _ (finer binary32 (plus (decode binary32 x) (negate (decode binary32 y)))) (sub-step x y)
+sub-decodes x y = ap (decode binary32) (sub-step x y) ∙ decode-result binary32 (x ∷ y ∷ []) (omega arith) _ (sub-fits binary32 (decode binary32 x) (decode binary32 y))
 
 pub mul-decodes : MulDecodes
-unfolding mulValue
-mul-decodes x y = rounded-back _ (times (decode binary32 x) (decode binary32 y)) (mul-step x y)
+mul-decodes x y = ap (decode binary32) (mul-step x y) ∙ decode-result binary32 (x ∷ y ∷ []) (omega arith) _ (mul-fits binary32 (decode binary32 x) (decode binary32 y))
 
 pub fma-decodes : FmaDecodes
-unfolding fmaValue
-fma-decodes x y z = rounded-back _ (plus (times (decode binary32 x) (decode binary32 y)) (finer binary32 (decode binary32 z))) (fma-step x y z)
+fma-decodes x y z =
+    ap (decode binary32) (fma-step x y z)
+    ∙ decode-result binary32 (x ∷ y ∷ z ∷ []) (omega arith) _ (fma-fits binary32 (decode binary32 x) (decode binary32 y) (decode binary32 z))
 
 -- ---- finite operands
 -- a sum in units of u, counted in 2 ^ -298 and rounded
@@ -77,20 +74,42 @@ fma-finite x y z s t u a b c p q w =
     (e .0, e .1, e .3 ∙ ap₂ _+ℤ_ (integers.times-exact s a t b) (integers.int-scale u c (2 ^ 149)), e .4, d ∙ ap (round ToEven binary32) (e .2))
 
 -- ---- NaN
-nan-result : (q : ℕ) (v : Value) → q ≡ encode binary32 v → decode binary32 q ≡ v → decode binary32 q ≡ nan → q ≡ 0x7fc0_0000
-unfolding encode
-nan-result q v e d n = e ∙ ap (encode binary32) (sym d ∙ n)
+pub step-nan : StepNaN
+step-nan = infinities.step-nan
+
+-- a NaN q of operands that are not NaN
+nan-result : (operands : List ℕ) (q : ℕ) (v : Value) → NoneNaN binary32 operands → q ≡ result binary32 operands v → decode binary32 q ≡ v
+    → decode binary32 q ≡ nan → q ≡ 0x7fc0_0000
+nan-result operands q v none e d n =
+    e ∙ ap (result binary32 operands) (sym d ∙ n) ∙ result-nan binary32 operands ∙ none-nan binary32 operands none
 
 pub nan-results : NaNResults
 nan-results = (
-  λ x y. nan-result _ (addValue binary32 (decode binary32 x) (decode binary32 y)) (add-step x y) (add-decodes x y),
-  λ x y. nan-result _ (subValue binary32 (decode binary32 x) (decode binary32 y)) (sub-step x y) (sub-decodes x y),
-  λ x y. nan-result _ (mulValue binary32 (decode binary32 x) (decode binary32 y)) (mul-step x y) (mul-decodes x y),
-  λ x y z. nan-result _ (fmaValue binary32 (decode binary32 x) (decode binary32 y) (decode binary32 z)) (fma-step x y z) (fma-decodes x y z),
+  λ x y m n. (
+    nan-result (x ∷ y ∷ []) _ (addValue binary32 (decode binary32 x) (decode binary32 y)) (m, (n, tt)) (add-step x y) (add-decodes x y),
+    nan-result (x ∷ y ∷ []) _ (subValue binary32 (decode binary32 x) (decode binary32 y)) (m, (n, tt)) (sub-step x y) (sub-decodes x y),
+    nan-result (x ∷ y ∷ []) _ (mulValue binary32 (decode binary32 x) (decode binary32 y)) (m, (n, tt)) (mul-step x y) (mul-decodes x y),
+  ),
+  λ x y z l m n.
+      nan-result (x ∷ y ∷ z ∷ []) _ (fmaValue binary32 (decode binary32 x) (decode binary32 y) (decode binary32 z)) (l, (m, (n, tt))) (fma-step x y z) (fma-decodes x y z),
 )
 
-pub step-nan : StepNaN
-step-nan = infinities.step-nan
+pub step-quiet : StepQuiet
+step-quiet = (
+  λ x y. let u = decode binary32 x in let v = decode binary32 y in (
+    quiet (x ∷ y ∷ []) _ (add-step x y) (add-fits binary32 u v),
+    quiet (x ∷ y ∷ []) _ (sub-step x y) (sub-fits binary32 u v),
+    quiet (x ∷ y ∷ []) _ (mul-step x y) (mul-fits binary32 u v),
+  ),
+  λ x y z. quiet (x ∷ y ∷ z ∷ []) _ (fma-step x y z) (fma-fits binary32 (decode binary32 x) (decode binary32 y) (decode binary32 z)),
+)
+  where
+    quiet : (operands : List ℕ) (v : Value) {q : ℕ} → q ≡ result binary32 operands v → Fits binary32 v → signalling binary32 q ≡ false
+    quiet operands v e fits = ap (signalling binary32) e ∙ result-quiet binary32 operands (omega arith) v fits
+
+pub step-nan-landmarks : StepNaNLandmarks
+unfolding addStep subStep mulStep fmaStep
+step-nan-landmarks = (refl, refl, refl, refl, refl, refl, refl, refl, refl)
 
 pub step-invalid : StepInvalid
 step-invalid = infinities.step-invalid
@@ -114,8 +133,10 @@ all = (
   sub-finite,
   mul-finite,
   fma-finite,
-  nan-results,
   step-nan,
+  nan-results,
+  step-quiet,
+  step-nan-landmarks,
   step-invalid,
   step-infinite,
   add-decodes,

@@ -24,9 +24,10 @@ unfoldable pub fmaValue : Format → Value → Value → Value → Value
 unfolding round plus times finer
 fmaValue F x y z = RNe F (plus (times x y) (finer F z))
 
--- The pattern of a result: `encode`, with the operands at hand for `nanOf`, which today does not look at them.
+-- The pattern of a result: `encode`, but for NaN, whose pattern goes by the operands as they stand (R2.4): a subtraction's second keeps its
+-- own sign.
 unfoldable pub result : Format → List ℕ → Value → ℕ
-unfolding encode
+unfolding encode nanOf
 result F operands nan = nanOf F operands
 result F operands (infinite s) = encode F (infinite s)
 result F operands (finite s a) = encode F (finite s a)

@@ -16,7 +16,8 @@ use Rattle.pattern_spec.proofs.Sums.{sum-scale}
 use Rattle.pattern_spec.proofs.Theorems.{flip-negates}
 use Rattle.augmented_spec.specs.Pairs.{pairOf}
 use Rattle.augmented_spec.specs.Direct.{Operation, sum, difference, product, directPair, exactResult}
-use Rattle.augmented_spec.proofs.Read.{exactFor, taken, first, first-read}
+use Rattle.augmented_spec.specs.Theorems.{secondOperand}
+use Rattle.augmented_spec.proofs.Read.{exactFor, first, first-read}
 use Rattle.augmented_spec.proofs.Unrounded.{infinite-sum}
 use Rattle.accumulator_spec.specs.Totals.{ofPattern, ofProduct, exactTerm}
 use Rattle.accumulator_spec.specs.Columns.{AllFinite, columnSum}
@@ -44,15 +45,15 @@ special-product (finite s a) nan h = refl
 special-product (finite s a) (infinite t) h = nan-or-infinite (eqb a 0) (unlike s t)
 special-product (finite s a) (finite t b) h = absurd (true≢false h)
 
-special-result : (o : Operation) (x y : ℕ) → isFinite (decode binary32 x) && isFinite (decode binary32 (taken o binary32 y)) ≡ false → isFinite (exactFor o binary32 x y) ≡ false
+special-result : (o : Operation) (x y : ℕ) → isFinite (decode binary32 x) && isFinite (decode binary32 (secondOperand o binary32 y)) ≡ false → isFinite (exactFor o binary32 x y) ≡ false
 special-result sum x y h = infinite-sum (decode binary32 x) (decode binary32 y) h
 special-result difference x y h = infinite-sum (decode binary32 x) (decode binary32 (flip binary32 y)) h
 special-result product x y h = special-product (decode binary32 x) (decode binary32 y) h
 
 operands-finite : (o : Operation) (x y : ℕ) → isFinite (decode binary32 (directPair o binary32 x y .first)) ≡ true
-    → isFinite (decode binary32 x) && isFinite (decode binary32 (taken o binary32 y)) ≡ true
+    → isFinite (decode binary32 x) && isFinite (decode binary32 (secondOperand o binary32 y)) ≡ true
 unfolding pairOf
-operands-finite o x y e = go (isFinite (decode binary32 x) && isFinite (decode binary32 (taken o binary32 y))) (special-result o x y)
+operands-finite o x y e = go (isFinite (decode binary32 x) && isFinite (decode binary32 (secondOperand o binary32 y))) (special-result o x y)
   where
     exact-finite : isFinite (exactFor o binary32 x y) ≡ true
     exact-finite = rounded-finite (exactFor o binary32 x y) (sym (ap isFinite (first-read o binary32 (omega arith) x y)) ∙ e)
@@ -82,7 +83,7 @@ negated nan e = e
 negated (infinite s) e = e
 negated (finite s a) e = refl
 
-taken-back : (o : Operation) (y : ℕ) → y < 2 ^ 32 → isFinite (decode binary32 (taken o binary32 y)) ≡ true → isFinite (decode binary32 y) ≡ true
+taken-back : (o : Operation) (y : ℕ) → y < 2 ^ 32 → isFinite (decode binary32 (secondOperand o binary32 y)) ≡ true → isFinite (decode binary32 y) ≡ true
 taken-back sum y w e = e
 taken-back difference y w e = negated (decode binary32 y) (sym (ap isFinite (flip-negates binary32 y w)) ∙ e)
 taken-back product y w e = e
@@ -90,7 +91,7 @@ taken-back product y w e = e
 -- the operands of a pair whose first is finite
 pub operands : (o : Operation) (x y : ℕ) → y < 2 ^ 32 → isFinite (decode binary32 (directPair o binary32 x y .first)) ≡ true → Number (decode binary32 x) × Number (decode binary32 y)
 operands o x y w e =
-    let p = both (isFinite (decode binary32 x)) (isFinite (decode binary32 (taken o binary32 y))) (operands-finite o x y e) in
+    let p = both (isFinite (decode binary32 x)) (isFinite (decode binary32 (secondOperand o binary32 y))) (operands-finite o x y e) in
     (number-of (decode binary32 x) (p .0), number-of (decode binary32 y) (taken-back o y w (p .1)))
 
 -- ---- the terms that are set

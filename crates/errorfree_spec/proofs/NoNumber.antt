@@ -2,13 +2,12 @@
 use mathlib.Core.Path.{_≡_, refl, sym, ap, _∙_, subst}
 use mathlib.Core.Bool.{Bool, true, false, cond, Bool·beq, _&&_}
 use mathlib.Core.Logic.{_⊎_, inl, inr}
-use Prim.Native.Nat.{ℕ}
 use lib.Dec.{T, eqb}
 use lib.Ieee.{unlike}
 use Rattle.rounding_spec.specs.Format.{Format}
 use Rattle.rounding_spec.specs.Value.{Value, nan, infinite, finite, isFinite, isZero, round, RNe}
 use Rattle.pattern_spec.specs.Exact.{negate, plus, times, finer}
-use Rattle.binary32_spec.specs.Steps.{addValue, subValue, mulValue, fmaValue}
+use Rattle.binary32_spec.specs.Steps.{addValue, subValue, mulValue}
 use Rattle.pattern_spec.proofs.Exchanged.{plus-comm}
 pub use Rattle.augmented_spec.proofs.FlagFields.{number-of}
 
@@ -124,27 +123,8 @@ module _ (F : Format) (v w : Value) where
   unfolding subValue
   sub-right h = add-right F v (negate w) (negate-none w h)
 
--- ---- NaN, and infinities that stay as they are
-plus-nan : (v : Value) → plus v nan ≡ nan
-unfolding plus
-plus-nan nan = refl
-plus-nan (infinite s) = refl
-plus-nan (finite s k) = refl
-
+-- ---- an exact result that is no number is not rounded
 module _ (F : Format) where
-  pub sub-nan : (v : Value) → subValue F v nan ≡ nan
-  unfolding subValue addValue negate finer round
-  sub-nan v = ap (λ (w : Value). RNe F (finer F w)) (plus-nan v)
-
-  pub nan-sub : (v : Value) → subValue F nan v ≡ nan
-  unfolding subValue addValue plus finer round
-  nan-sub v = refl
-
-  pub fma-nan : (v w : Value) → fmaValue F v w nan ≡ nan
-  unfolding fmaValue finer round
-  fma-nan v w = ap (RNe F) (plus-nan (times v w))
-
-  -- an exact result that is no number is not rounded
   pub add-kept : (v w u : Value) → plus v w ≡ u → isFinite u ≡ false → addValue F v w ≡ u
   unfolding addValue finer round
   add-kept v w nan e h = rw e refl

@@ -2,9 +2,11 @@
 use choose::choose_pattern;
 use choose::choose_sign;
 use pattern_spec::Class;
+use pattern_spec::NAN;
 ghost use mathlib.Core.Path.{_≡_};
+ghost use mathlib.Core.List.{[], _∷_};
 ghost use Rattle.rounding_spec.specs.Format.{binary32};
-ghost use Rattle.rounding_spec.specs.Value.{infinite, decode, isNaN, isInfinite, isFinite, isZero, signalling, encode};
+ghost use Rattle.rounding_spec.specs.Value.{infinite, decode, isNaN, isInfinite, isFinite, isZero, signalling, encode, quieted, nanOf};
 ghost use Rattle.pattern_spec.specs.Classes.{classOf, bothFinite, flip, copySign, zeroPattern};
 ghost use Rattle.pattern_spec.specs.Inner.{larger, smaller};
 
@@ -89,6 +91,41 @@ pub fn infinity(sign: bool) -> u32
     ensures { λ r. ⌜ r ≡ encode binary32 (infinite sign) ⌝ }
 {
     if sign { 0xff80_0000 } else { 0x7f80_0000 }
+}
+
+// A NaN's sign and payload, and the highest fraction bit.
+pub fn quieted(x: u32) -> u32
+    ensures { λ r. ⌜ r ≡ quieted binary32 x ⌝ }
+{
+    let payload = x % 0x40_0000;
+    if x >= 0x8000_0000 {
+        0xffc0_0000 + payload
+    } else {
+        NAN + payload
+    }
+}
+
+// The NaN that a NaN result of two operands is.
+pub fn nan_of_two(x: u32, y: u32) -> u32
+    ensures { λ r. ⌜ r ≡ nanOf binary32 (x ∷ y ∷ []) ⌝ }
+{
+    if is_nan(x) {
+        return quieted(x);
+    }
+    if is_nan(y) {
+        return quieted(y);
+    }
+    NAN
+}
+
+// And of three.
+pub fn nan_of_three(x: u32, y: u32, z: u32) -> u32
+    ensures { λ r. ⌜ r ≡ nanOf binary32 (x ∷ y ∷ z ∷ []) ⌝ }
+{
+    if is_nan(x) {
+        return quieted(x);
+    }
+    nan_of_two(y, z)
 }
 
 // A NaN's sign bit too: a difference flips it before anything is known of the operand.

@@ -10,7 +10,7 @@ use borrow.Author.Tests.{lt-leb, le-leb, lt-ltb, le-ltb, ne-eqb}
 use lib.Dec.{leb, ltb, eqb}
 use lib.Pow.{mod-mod-pow}
 use Rattle.rounding_spec.specs.Format.{Format, binary32, infinity, signBit}
-use Rattle.rounding_spec.specs.Value.{finite, fields, magnitude, unsigned, decode}
+use Rattle.rounding_spec.specs.Value.{Value, nan, infinite, finite, isNaN, fields, magnitude, unsigned, decode}
 use Rattle.rounding_spec.proofs.Compare.{tri}
 use Rattle.rounding_spec.proofs.Codec.{unsigned-finite, unsigned-infinite, unsigned-nan}
 use Rattle.pattern_spec.specs.declared.Class.{Class}
@@ -182,3 +182,9 @@ decode-flip F x h =
           let m : (x + S) % S ≡ x % S = add-mod-right x S in
           rw (a, b, m) (negate-unsigned F false (x % S))
     ]
+
+pub nan-negated : (v : Value) → isNaN (negate v) ≡ isNaN v
+unfolding negate
+nan-negated nan = refl
+nan-negated (infinite s) = refl
+nan-negated (finite s a) = refl

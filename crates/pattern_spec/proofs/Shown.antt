@@ -2,16 +2,18 @@
 use mathlib.Core.Path.{_≡_, refl, sym, ap, _∙_}
 use mathlib.Core.Logic.{inl, inr}
 use mathlib.Core.Bool.{Bool, true, false, cond, _&&_, _||_}
-use Prim.Native.Nat.{ℕ, _%_, _^_}
+use Prim.Native.Nat.{ℕ, _%_, _^_, _<_}
 use native.Mathlib.Nat.{le-of-eq, le-of-lt}
+use native.Mathlib.Decide.{decLe}
 use native.Mathlib.Omega.{arith}
 use lib.Dec.{ltb, leb, eqb}
-use borrow.Author.Tests.{lt-ltb, le-ltb, eq-eqb, ne-eqb}
+use borrow.Author.Tests.{lt-ltb, le-ltb, ltb-false, eq-eqb, ne-eqb}
 use Rattle.rounding_spec.specs.Format.{binary32, infinity}
 use Rattle.rounding_spec.specs.Value.{unsigned, decode, isNaN, isFinite, isInfinite, isZero}
 use Rattle.rounding_spec.proofs.Compare.{tri}
 use Rattle.rounding_spec.proofs.Orders.{magnitude-none}
 use Rattle.rounding_spec.proofs.Codec.{unsigned-finite, unsigned-infinite, unsigned-nan}
+use Rattle.pattern_spec.specs.Inner.{larger}
 
 -- ---- NaN, finite, infinite
 nan-unsigned : (s : Bool) (c : ℕ) → ltb 0x7f80_0000 c ≡ isNaN (unsigned binary32 s c)
@@ -27,6 +29,21 @@ nan-unsigned s c =
 pub nan-is : (x : ℕ) → ltb 0x7f80_0000 (x % 2 ^ 31) ≡ isNaN (decode binary32 x)
 unfolding decode
 nan-is x = nan-unsigned (leb (2 ^ 31) x) (x % 2 ^ 31)
+
+-- where the operand of the larger magnitude is no NaN, none is
+pub larger-number : (x y : ℕ) → isNaN (decode binary32 (larger x y)) ≡ false → (isNaN (decode binary32 x) ≡ false) × (isNaN (decode binary32 y) ≡ false)
+larger-number x y n =
+    elim (decLe (y % 2 ^ 31) (x % 2 ^ 31)) [
+      | yes h ↦
+          let m : isNaN (decode binary32 x) ≡ false = rw (le-ltb (x % 2 ^ 31) (y % 2 ^ 31) h) at n in
+          let l = ltb-false 0x7f80_0000 (x % 2 ^ 31) (nan-is x ∙ m) in
+          (m, sym (nan-is y) ∙ le-ltb 0x7f80_0000 (y % 2 ^ 31) (omega arith))
+      | no h ↦
+          let g : x % 2 ^ 31 < y % 2 ^ 31 = omega arith in
+          let m : isNaN (decode binary32 y) ≡ false = rw (lt-ltb (x % 2 ^ 31) (y % 2 ^ 31) g) at n in
+          let l = ltb-false 0x7f80_0000 (y % 2 ^ 31) (nan-is y ∙ m) in
+          (sym (nan-is x) ∙ le-ltb 0x7f80_0000 (x % 2 ^ 31) (omega arith), m)
+    ]
 
 finite-unsigned : (s : Bool) (c : ℕ) → ltb c 0x7f80_0000 ≡ isFinite (unsigned binary32 s c)
 finite-unsigned s c =

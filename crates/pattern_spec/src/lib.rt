@@ -7,5 +7,5 @@ pub enum Class {
     NotANumber,
 }
 
-// Every NaN result.
+// A NaN result of operands that are not NaN.
 pub const NAN: u32 = 0x7fc0_0000;

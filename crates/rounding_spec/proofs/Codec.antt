@@ -2,9 +2,8 @@
 use mathlib.Core.Path.{_≡_, refl, sym, ap, ap₂, _∙_, subst}
 use mathlib.Core.Logic.{inl, inr}
 use mathlib.Core.Bool.{Bool, true, false}
-use mathlib.Core.List.{[]}
 use Prim.Native.Nat.{ℕ, suc, _+_, _-_, _*_, _%_, _^_, _≤_, _<_}
-use native.Mathlib.Nat.{le-refl, mod-eq-of-lt, zero-add}
+use native.Mathlib.Nat.{le-refl, mod-eq-of-lt, zero-add, pow-suc}
 use native.Mathlib.Decide.{decLe}
 use native.Mathlib.Omega.{arith}
 use borrow.Author.Tests.{lt-ltb, le-ltb, le-leb, lt-leb, eq-eqb, ne-eqb}
@@ -13,7 +12,7 @@ use lib.Arith.{digits-mod}
 use lib.Pow.{pow-add, pow-pos, pow-lt}
 use Rattle.rounding_spec.specs.Format.{Format, low, limit, infinity, signBit}
 use Rattle.rounding_spec.specs.Nearest.{Rep}
-use Rattle.rounding_spec.specs.Value.{Value, nan, infinite, finite, Fits, magnitude, unsigned, decode, nanOf, bits, signed, encode}
+use Rattle.rounding_spec.specs.Value.{Value, nan, infinite, finite, Fits, magnitude, unsigned, decode, bits, signed, quietNaN, encode}
 use Rattle.rounding_spec.proofs.Compare.{tri}
 use Rattle.rounding_spec.proofs.Scaled.{rep-up}
 use Rattle.rounding_spec.proofs.Bits.{mag-at, bits-at, bits-mono, bits-magnitude, magnitude-bits, magnitude-rep, magnitude-mono}
@@ -56,7 +55,7 @@ module _ (F : Format) (pos : 0 < F .fraction) where
 
 -- ---- the sign bit
 module _ (F : Format) (c : ℕ) (h : c < signBit F) where
-  split-sign : (s : Bool) → (leb (signBit F) (signed F s c) ≡ s) × (signed F s c % signBit F ≡ c)
+  pub split-sign : (s : Bool) → (leb (signBit F) (signed F s c) ≡ s) × (signed F s c % signBit F ≡ c)
   split-sign true =
       let e : signBit F + c ≡ 1 * signBit F + c = omega arith in
       (le-leb (signBit F) (signBit F + c) (omega arith), ap (λ (x : ℕ). x % signBit F) e ∙ digits-mod 1 h)
@@ -85,20 +84,34 @@ module _ (F : Format) (s : Bool) (c : ℕ) where
 infinity-below : (F : Format) → infinity F < signBit F
 infinity-below F = omega (arith, pow-pos (F .fraction))
 
+pub decode-quiet : (F : Format) → 0 < F .fraction → (s : Bool) (p : ℕ) → p < 2 ^ (F .fraction - 1) → decode F (quietNaN F s p) ≡ nan
+decode-quiet F pos s p h =
+    let c = infinity F + 2 ^ (F .fraction - 1) + p in
+    let b : 2 ^ F .fraction ≡ 2 ^ (F .fraction - 1) * 2 = ap (λ (k : ℕ). 2 ^ k) (let z : F .fraction ≡ suc (F .fraction - 1) = omega (arith, pos) in z) ∙ pow-suc 2 (F .fraction - 1) in
+    decode-signed F c (omega arith) s ∙ unsigned-nan F s c (omega (arith, pow-pos (F .fraction - 1)))
+
 -- ---- a value is read back from its pattern
 pub decode-encode : (F : Format) → 0 < F .fraction → (v : Value) → Fits F v → decode F (encode F v) ≡ v
 unfolding encode Fits
-decode-encode F pos nan h =
-    let a = pow-pos (F .fraction - 1) in
-    let b : 2 ^ (F .fraction - 1) < 2 ^ F .fraction = pow-lt (omega arith) in
-    ap (decode F) (sym (zero-add (nanOf F []))) ∙ decode-signed F (nanOf F []) (omega arith) false ∙ unsigned-nan F false (nanOf F []) (omega arith)
+decode-encode F pos nan h = decode-quiet F pos false 0 (pow-pos (F .fraction - 1))
 decode-encode F pos (infinite s) h = decode-signed F (infinity F) (infinity-below F) s ∙ unsigned-infinite F s (infinity F) refl
 decode-encode F pos (finite s a) h =
     let b = bits-below F pos (h .0) (h .1) in
     decode-signed F (bits (F .fraction) a) (omega (arith, infinity-below F)) s ∙ unsigned-finite F s (bits (F .fraction) a) b ∙ ap (finite s) (magnitude-bits (F .fraction) a (h .0))
 
+-- ---- and has no bit above the sign
+signed-width : (F : Format) (s : Bool) (c : ℕ) → c < signBit F → signed F s c < 2 * signBit F
+signed-width F true c h = omega arith
+signed-width F false c h = omega arith
+
+pub encode-width : (F : Format) → 0 < F .fraction → (v : Value) → Fits F v → encode F v < 2 * signBit F
+unfolding encode Fits
+encode-width F pos nan h = let b : 2 ^ (F .fraction - 1) < 2 ^ F .fraction = pow-lt (omega arith) in omega arith
+encode-width F pos (infinite s) h = signed-width F s (infinity F) (infinity-below F)
+encode-width F pos (finite s a) h = signed-width F s (bits (F .fraction) a) (omega (arith, infinity-below F, bits-below F pos (h .0) (h .1)))
+
 -- ---- a pattern is read back from its value, if it is no NaN's
-signed-split : (F : Format) (x : ℕ) → x < 2 * signBit F → signed F (leb (signBit F) x) (x % signBit F) ≡ x
+pub signed-split : (F : Format) (x : ℕ) → x < 2 * signBit F → signed F (leb (signBit F) x) (x % signBit F) ≡ x
 signed-split F x h =
     elim (decLe (signBit F) x) [
       | yes g ↦

@@ -15,6 +15,7 @@ pub mod Scaled
 pub mod Codec
 pub mod Packed
 pub mod Signalling
+pub mod NaN
 pub mod Predecessor
 pub mod TieDown
 pub mod Chosen

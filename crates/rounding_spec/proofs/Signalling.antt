@@ -28,7 +28,7 @@ module _ (F : Format) (pos : 0 < F .fraction) (x : ℕ) where
   abbrev above : ℕ
   above = (x / signBit F * suc (ones F) + ones F) * 2
 
-  two-halves : 2 ^ F .fraction ≡ H * 2
+  pub two-halves : 2 ^ F .fraction ≡ H * 2
   two-halves = ap (λ (k : ℕ). 2 ^ k) (let z : F .fraction ≡ suc (F .fraction - 1) = omega (arith, pos) in z) ∙ pow-suc 2 (F .fraction - 1)
 
   infinity-is : infinity F ≡ ones F * 2 * H
@@ -37,10 +37,10 @@ module _ (F : Format) (pos : 0 < F .fraction) (x : ℕ) where
   sign-is : signBit F ≡ suc (ones F) * 2 * H
   sign-is = ap (λ (k : ℕ). suc (ones F) * k) two-halves ∙ omega arith
 
-  c-below : c < infinity F + 2 * H
+  pub c-below : c < infinity F + 2 * H
   c-below = let z : 0 < signBit F = omega (arith, pow-pos (F .fraction)) in omega (arith, mod-lt x z, two-halves)
 
-  split-at : infinity F ≤ c → x ≡ above * H + (c - infinity F)
+  pub split-at : infinity F ≤ c → x ≡ above * H + (c - infinity F)
   split-at h =
       let q = x / signBit F in
       let d : q * signBit F + c ≡ x = div-add-mod' x (signBit F) in

@@ -10,7 +10,8 @@ use Rattle.rounding_spec.specs.Round.{rounded}
 use Rattle.rounding_spec.specs.Nearest.{dist}
 use Rattle.rounding_spec.specs.Value.{finite, Fits, fields, magnitude, decode, signalling, signed, bits, encode}
 use Rattle.rounding_spec.specs.Theorems.{Binary32Numbers, Nearest, TieToZero, TieToEven, TieNeighbour, TieToZeroUnique, HalfUnit, RulesDiffer, LeftOverIs, Exact, Monotone, Scaling, RoundToOdd}
-use Rattle.rounding_spec.specs.Theorems.{OverflowRNe, OverflowRN0, NearestPattern, TieToEvenPattern, TieToZeroPattern, DecodeLandmarks, SignallingLandmarks, SignallingRange, LargestFinite}
+use Rattle.rounding_spec.specs.Theorems.{OverflowRNe, OverflowRN0, NearestPattern, TieToEvenPattern, TieToZeroPattern, DecodeLandmarks, SignallingLandmarks, SignallingRange, QuietedIs, FirstNaN}
+use Rattle.rounding_spec.specs.Theorems.{FormatNumbers, NaNRange, NaNOfQuiet, LargestFinite}
 use Rattle.rounding_spec.specs.Theorems.{BitsOrder, DecodeEncode, EncodeDecode, DecodeFits, RoundFits, All}
 use Rattle.rounding_spec.specs.declared.Ties.the-variants.{ToEven, ToZero}
 use Rattle.rounding_spec.proofs.Rounded.{rounded-near, rounded-near0, rounded-half, rounded-differ, rounded-exact, rounded-mono, rounded-scale}
@@ -19,13 +20,17 @@ use Rattle.rounding_spec.proofs.Sticky.{odd}
 use Rattle.rounding_spec.proofs.Codec as codec
 use Rattle.rounding_spec.proofs.LeftOver as left-over
 use Rattle.rounding_spec.proofs.Signalling as quiet-bit
+use Rattle.rounding_spec.proofs.NaN as not-a-number
 use Rattle.rounding_spec.proofs.Bits.{magnitude-lt, magnitude-mono, magnitude-bits}
 use Rattle.rounding_spec.proofs.NearLaws.{near0-one}
 use Rattle.rounding_spec.proofs.RoundValue as values
 
 pub binary32-numbers : Binary32Numbers
 unfolding limit edge
-binary32-numbers = (refl, refl, refl, λ operands. refl, refl, refl, omega arith)
+binary32-numbers = (refl, refl, refl, refl, refl, refl, omega arith)
+
+pub format-numbers : FormatNumbers
+format-numbers F = (refl, omega arith, λ p q. omega arith)
 
 pub nearest : Nearest
 nearest = rounded-near
@@ -102,12 +107,24 @@ pub decode-landmarks : DecodeLandmarks
 unfolding decode
 decode-landmarks = (refl, refl, refl, refl, refl, refl, refl, refl, refl, refl)
 
+pub nan-range : NaNRange
+nan-range F x = (not-a-number.nan-above F x, not-a-number.above-nan F x)
+
 pub signalling-landmarks : SignallingLandmarks
 unfolding signalling
 signalling-landmarks = (refl, refl, refl, refl, refl, refl, refl, refl, refl, refl, refl, refl)
 
 pub signalling-range : SignallingRange
 signalling-range = quiet-bit.signalling-range
+
+pub quieted-is : QuietedIs
+quieted-is = not-a-number.quieted-is
+
+pub first-nan : FirstNaN
+first-nan = not-a-number.first-nan
+
+pub nan-of-quiet : NaNOfQuiet
+nan-of-quiet = not-a-number.nan-of-quiet
 
 pub largest-finite : LargestFinite
 unfolding Fits
@@ -136,6 +153,7 @@ round-fits = values.round-fits
 pub all : All
 all = (
   binary32-numbers,
+  format-numbers,
   nearest,
   tie-to-zero,
   tie-to-even,
@@ -154,8 +172,12 @@ all = (
   tie-to-even-pattern,
   tie-to-zero-pattern,
   decode-landmarks,
+  nan-range,
   signalling-landmarks,
   signalling-range,
+  quieted-is,
+  first-nan,
+  nan-of-quiet,
   largest-finite,
   bits-order,
   decode-encode,

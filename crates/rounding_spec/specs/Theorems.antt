@@ -1,8 +1,8 @@
 -- What is proved of patterns and rounding. Each name is a statement; `proofs/Theorems.antt` has its proof.
 use mathlib.Core.Path.{_≡_}
-use mathlib.Core.Logic.{_⊎_, _≢_}
-use mathlib.Core.Bool.{Bool, true, false, _&&_}
-use mathlib.Core.List.{List}
+use mathlib.Core.Logic.{_⊎_, _≢_, _↔_}
+use mathlib.Core.Bool.{Bool, true, false, cond, _&&_}
+use mathlib.Core.List.{List, [], _∷_, _++_}
 use Prim.Native.Nat.{ℕ, suc, _+_, _-_, _*_, _%_, _^_, _≤_, _<_}
 use lib.Dec.{ltb}
 use Rattle.rounding_spec.specs.declared.Ties.{Ties}
@@ -11,15 +11,23 @@ use Rattle.rounding_spec.specs.Format.{Format, binary32, Proper, low, li
 use Rattle.rounding_spec.specs.Round.{lastPlace, rounded, leftOver, roundedUp}
 use Rattle.rounding_spec.specs.Nearest.{dist, Rep, Near, Near0}
 use Rattle.rounding_spec.specs.Value.{Value, nan, infinite, finite, Fits, magnitude, decode, signalling}
-use Rattle.rounding_spec.specs.Value.{nanOf, bits, encode, roundFinite, round}
+use Rattle.rounding_spec.specs.Value.{bits, defaultNaN, encode, quieted, nanOf, roundFinite, round}
 
--- ---- the numbers of binary32 (R1): u = 2 ^ -149, +infinity, the sign bit, the NaN, 2 ^ 128, and the edge 2 ^ 128 - 2 ^ 103; and what is
--- asked of a format
+-- ---- the numbers of binary32 (R1): u = 2 ^ -149, +infinity, the sign bit, the NaN of operands that are not NaN (R2.4), 2 ^ 128, and the
+-- edge 2 ^ 128 - 2 ^ 103; and what is asked of a format
 abbrev pub Binary32Numbers : Type 0
 Binary32Numbers =
     (low binary32 ≡ 149) × (infinity binary32 ≡ 0x7f80_0000) × (signBit binary32 ≡ 0x8000_0000)
-    × ((operands : List ℕ) → nanOf binary32 operands ≡ 0x7fc0_0000)
+    × (defaultNaN binary32 ≡ 0x7fc0_0000)
     × (limit binary32 ≡ 2 ^ 128 * 2 ^ 149) × (edge binary32 ≡ (2 ^ 128 - 2 ^ 103) * 2 ^ 298) × Proper binary32
+
+-- of every format: the exponent bits of an infinity are all 1, the sign bit stands above them, and a fraction bit and an exponent are all
+-- that is asked of a proper one
+abbrev pub FormatNumbers : Type 0
+FormatNumbers =
+    (F : Format)
+    → (infinity F ≡ (2 * F .emax + 1) * 2 ^ F .fraction) × (signBit F ≡ infinity F + 2 ^ F .fraction)
+    × (0 < F .fraction → 0 < F .emax → Proper F)
 
 -- ---- nearest, for every precision and every lowest exponent
 -- the rounded number is representable, and no representable number is nearer
@@ -121,6 +129,10 @@ DecodeLandmarks =
     × (decode binary32 0x7f80_0000 ≡ infinite false) × (decode binary32 0xff80_0000 ≡ infinite true)
     × (decode binary32 0x7f80_0001 ≡ nan) × (decode binary32 0x7fc0_0000 ≡ nan)
 
+-- NaN are the patterns of either sign above the infinity's (R1.2), in every format
+abbrev pub NaNRange : Type 0
+NaNRange = (F : Format) (x : ℕ) → (decode F x ≡ nan) ↔ (infinity F < x % signBit F)
+
 -- the first and the last signalling pattern of either sign, and two between them; quiet ones beside them, and what is no NaN
 abbrev pub SignallingLandmarks : Type 0
 SignallingLandmarks =
@@ -136,6 +148,30 @@ abbrev pub SignallingRange : Type 0
 SignallingRange =
     (F : Format) → Proper F → (x : ℕ)
     → signalling F x ≡ ltb (infinity F) (x % signBit F) && ltb (x % signBit F) (infinity F + 2 ^ (F .fraction - 1))
+
+-- ---- the pattern of a NaN result (R2.4)
+-- quieting sets the highest fraction bit of a signalling pattern, and leaves a quiet one as it is
+abbrev pub QuietedIs : Type 0
+QuietedIs =
+    (F : Format) → Proper F → (x : ℕ) → x < 2 * signBit F → decode F x ≡ nan
+    → quieted F x ≡ cond (signalling F x) (x + 2 ^ (F .fraction - 1)) x
+
+-- the first NaN among the operands is quieted, whatever stands behind it; where there is none, only the exponent bits and the highest
+-- fraction bit are 1: 7FC00000 in binary32
+abbrev pub NoneNaN : Format → List ℕ → Type 0
+NoneNaN F [] = Unit {0}
+NoneNaN F (x ∷ xs) = (decode F x ≢ nan) × NoneNaN F xs
+
+abbrev pub FirstNaN : Type 0
+FirstNaN =
+    ((F : Format) (earlier later : List ℕ) (x : ℕ) → NoneNaN F earlier → decode F x ≡ nan → nanOf F (earlier ++ (x ∷ later)) ≡ quieted F x)
+    × ((F : Format) (operands : List ℕ) → NoneNaN F operands → nanOf F operands ≡ infinity F + 2 ^ (F .fraction - 1))
+
+-- it is a quiet NaN and a pattern of the format, whatever the operands
+abbrev pub NaNOfQuiet : Type 0
+NaNOfQuiet =
+    (F : Format) → Proper F → (operands : List ℕ) → let n = nanOf F operands in
+    (decode F n ≡ nan) × (signalling F n ≡ false) × (n < 2 * signBit F)
 
 -- no finite magnitude is above that of Ω (R1.8)
 abbrev pub LargestFinite : Type 0
@@ -163,7 +199,7 @@ RoundFits = (t : Ties) (F : Format) (v : Value) → Fits F (round t F v)
 -- ---- all of them: `proofs/Theorems.antt` proves this
 abbrev pub All : Type 0
 All =
-    Binary32Numbers × Nearest × TieToZero × TieToEven × TieNeighbour × TieToZeroUnique × HalfUnit × RulesDiffer × LeftOverIs × Exact
-    × Monotone × Scaling × RoundToOdd × OverflowRNe × OverflowRN0 × NearestPattern × TieToEvenPattern × TieToZeroPattern
-    × DecodeLandmarks × SignallingLandmarks × SignallingRange × LargestFinite × BitsOrder × DecodeEncode × EncodeDecode × DecodeFits
-    × RoundFits
+    Binary32Numbers × FormatNumbers × Nearest × TieToZero × TieToEven × TieNeighbour × TieToZeroUnique × HalfUnit × RulesDiffer × LeftOverIs
+    × Exact × Monotone × Scaling × RoundToOdd × OverflowRNe × OverflowRN0 × NearestPattern × TieToEvenPattern × TieToZeroPattern
+    × DecodeLandmarks × NaNRange × SignallingLandmarks × SignallingRange × QuietedIs × FirstNaN × NaNOfQuiet × LargestFinite × BitsOrder
+    × DecodeEncode × EncodeDecode × DecodeFits × RoundFits

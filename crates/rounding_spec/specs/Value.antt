@@ -1,7 +1,7 @@
 -- Patterns, the values that they stand for, and the rounding of an exact result to a value (R1).
 use Prim.Native.Nat.{ℕ, zero, suc, _+_, _-_, _*_, _/_, _%_, _^_, _<_}
 use mathlib.Core.Bool.{Bool, true, false, cond, _&&_}
-use mathlib.Core.List.{List, []}
+use mathlib.Core.List.{List, [], _∷_}
 use lib.Dec.{ltb, leb, eqb}
 use lib.Ieee.{size}
 use Rattle.rounding_spec.specs.declared.Ties.{Ties}
@@ -73,10 +73,6 @@ signalling F x = isNaN (decode F x) && eqb (x / 2 ^ (F .fraction - 1) % 2) 0
 
 -- ---- from a value to its pattern
 
--- R2.4, R3.7: the pattern of a NaN result, fixed here alone; the operands do not matter
-abbrev pub nanOf : Format → List ℕ → ℕ
-nanOf F operands = infinity F + 2 ^ (F .fraction - 1)
-
 -- the bits of a magnitude a that the format has: the leading digit adds one to the exponent field
 unfoldable pub bits : ℕ → ℕ → ℕ
 bits f a = (size a - suc f) * 2 ^ f + a / 2 ^ (size a - suc f)
@@ -84,11 +80,29 @@ bits f a = (size a - suc f) * 2 ^ f + a / 2 ^ (size a - suc f)
 abbrev pub signed : Format → Bool → ℕ → ℕ
 signed F s c = cond s (signBit F) 0 + c
 
+-- the quiet NaN with the sign s: all exponent bits and the highest fraction bit are 1, and the payload p stands in the fraction bits below
+abbrev pub quietNaN : Format → Bool → ℕ → ℕ
+quietNaN F s p = signed F s (infinity F + 2 ^ (F .fraction - 1) + p)
+
+-- of operands none of which is NaN: 7FC00000 in binary32
+abbrev pub defaultNaN : Format → ℕ
+defaultNaN F = quietNaN F false 0
+
 unfoldable pub encode : Format → Value → ℕ
 unfolding bits
-encode F nan = nanOf F []
+encode F nan = defaultNaN F
 encode F (infinite s) = signed F s (infinity F)
 encode F (finite s a) = signed F s (bits (F .fraction) a)
+
+-- a NaN with its highest fraction bit set: its sign and its payload stay
+abbrev pub quieted : Format → ℕ → ℕ
+quieted F x = quietNaN F (leb (signBit F) x) (x % 2 ^ (F .fraction - 1))
+
+-- R2.4, R3.7: the pattern of a NaN result, fixed here alone: the first NaN among the operands, quieted; of none the one that `encode` has
+unfoldable pub nanOf : Format → List ℕ → ℕ
+unfolding decode
+nanOf F [] = defaultNaN F
+nanOf F (x ∷ xs) = cond (isNaN (decode F x)) (quieted F x) (nanOf F xs)
 
 -- ---- rounding an exact result
 

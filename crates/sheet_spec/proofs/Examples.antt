@@ -9,7 +9,7 @@ use Rattle.accumulator_spec.specs.Words.{integer, wordsOfInteger}
 use Rattle.binary32_spec.specs.Steps.{addStep, subStep, mulStep}
 use Rattle.errorfree_spec.specs.Comparisons.{same, lessMagnitude}
 use Rattle.augmented_spec.specs.Direct.{directPair}
-use Rattle.worksheet_spec.specs.Sheets.{sheetOf, sumSheet, swaps, sumInOrder, recomposedFinished, recomposition, zeroFinish, overflows}
+use Rattle.worksheet_spec.specs.Sheets.{sheetOf, sumSheet, swaps, sumInOrder, sumFrom, recomposedFinished, recomposition, zeroFinish, overflows}
 use Rattle.worksheet_spec.specs.Filling.{linesWords, sheetWords, sheetAnswer, filling, afterFilling}
 use Rattle.accumulator_spec.specs.Totals.{adding, afterAdding, fit, reading}
 use Rattle.accumulator_spec.specs.Columns.{column}
@@ -33,7 +33,7 @@ pub printed-example : PrintedExample
 unfolding
     output linesFrom linesText lineText filledText afterLines afterLine closingText
     readQuestion lettersOperation allDigits patternFrom
-    filling afterFilling linesWords sheetWords sheetAnswer sheetOf sumSheet swaps sumInOrder recomposedFinished recomposition zeroFinish overflows
+    filling afterFilling linesWords sheetWords sheetAnswer sheetOf sumSheet swaps sumInOrder sumFrom recomposedFinished recomposition zeroFinish overflows
     lessMagnitude same addStep subStep mulStep keep lastPlace size directPair
     reading column adding afterAdding fit integer wordsOfInteger decode encode finer pairOf
     stepsText answeredText askText questionText operationLettersByNumber decimalUpTo stepText stepLettersByNumber thirdText pairText flagsText totalText endText

@@ -2,7 +2,6 @@
 use mathlib.Core.Path.{_≡_, refl, sym, ap, _∙_}
 use mathlib.Core.Bool.{Bool, cond}
 use Prim.Native.Nat.{ℕ, _%_, _^_, _≤_, _<_}
-use native.Mathlib.Decide.{decLe}
 use native.Mathlib.Omega.{arith}
 use lib.Dec.{ltb, leb, eqb}
 use borrow.Author.Tests.{lt-ltb, le-ltb, le-leb, lt-leb, eq-eqb, ne-eqb}
@@ -10,7 +9,7 @@ use Rattle.rounding_spec.specs.Format.{binary32, infinity}
 use Rattle.rounding_spec.specs.Value.{magnitude, unsigned, decode}
 use Rattle.rounding_spec.proofs.Codec.{unsigned-finite, unsigned-infinite, unsigned-nan}
 use Rattle.worksheet_spec.specs.Lines.{value}
-use Rattle.worksheet_spec.specs.Sheets.{Branch, whenInfinite, whenZero, whenTiny, whenMiddle, otherwise, branchOf}
+use Rattle.worksheet_spec.specs.Sheets.{Branch, whenNaN, whenInfinite, whenZero, whenTiny, whenMiddle, otherwise, branchOf}
 use Rattle.rounding_spec.proofs.Orders.{magnitude-none, magnitude-leb, magnitude-ltb}
 
 -- ---- the bounds, in units of u
@@ -38,7 +37,7 @@ module _ (s : Bool) (c : ℕ) where
   unfolding branchOf
   infinite-bits e = rw (unsigned-infinite binary32 s c e)
 
-  nan-bits : infinity binary32 < c → otherwise ≡ branchOf (unsigned binary32 s c)
+  nan-bits : infinity binary32 < c → whenNaN ≡ branchOf (unsigned binary32 s c)
   unfolding branchOf
   nan-bits h = rw (unsigned-nan binary32 s c h)
 
@@ -64,12 +63,10 @@ module _ (a : ℕ) where
   unfolding decode
   infinite-branch e = infinite-bits (leb (2 ^ 31) a) below e
 
-  pub other-branch : 0x0c80_0000 < a % 2 ^ 31 → (a % 2 ^ 31 ≡ 0x7f80_0000 → ⊥) → otherwise ≡ branchOf (value a)
+  pub other-branch : 0x0c80_0000 < a % 2 ^ 31 → a % 2 ^ 31 < 0x7f80_0000 → otherwise ≡ branchOf (value a)
+  other-branch l h =
+      sym (rw (ne-eqb below 0 (λ (e : below ≡ 0). omega arith), le-ltb below 0x0100_0000 (omega arith), lt-leb below 0x0c80_0000 l)) ∙ finite-is h
+
+  pub nan-branch : 0x7f80_0000 < a % 2 ^ 31 → whenNaN ≡ branchOf (value a)
   unfolding decode
-  other-branch l n =
-      elim (decLe below 0x7f80_0000) [
-        | yes h ↦
-            sym (rw (ne-eqb below 0 (λ (e : below ≡ 0). omega arith), le-ltb below 0x0100_0000 (omega arith), lt-leb below 0x0c80_0000 l))
-            ∙ finite-is (omega (arith, n))
-        | no h ↦ nan-bits (leb (2 ^ 31) a) below (omega arith)
-      ]
+  nan-branch h = nan-bits (leb (2 ^ 31) a) below h

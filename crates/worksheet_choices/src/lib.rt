@@ -11,6 +11,7 @@ ghost use Rattle.worksheet_choices.specs.Inner.{branchCase};
 
 // How a product goes on, by its first line.
 pub enum Branch {
+    NotANumber,
     Infinite,
     Zero,
     Tiny,
@@ -83,8 +84,8 @@ pub fn branch_of(a: u32) -> Branch
         0 => Branch::Zero,
         1..=0x00ff_ffff => Branch::Tiny,
         0x0100_0000..=0x0c80_0000 => Branch::Middle,
+        0x0c80_0001..=0x7f7f_ffff => Branch::Other,
         0x7f80_0000 => Branch::Infinite,
-        // NaN too
-        _ => Branch::Other,
+        _ => Branch::NotANumber,
     }
 }

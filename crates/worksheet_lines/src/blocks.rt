@@ -7,10 +7,22 @@ use crate::constants::PLUS_ZERO;
 use crate::constants::PSI;
 use crate::constants::TWO;
 use pattern::flipped;
-ghost use Prim.Native.Nat.{_+_, _<_, _≤_};
-ghost use Rattle.worksheet_spec.specs.Lines.{mostLines};
+ghost use mathlib.Core.List.{List};
+ghost use Prim.Native.Nat.{ℕ, _+_, _<_, _≤_};
+ghost use Rattle.worksheet_spec.specs.Lines.{mostLines, ends};
 ghost use Rattle.worksheet_spec.specs.Sheets.{recomposition, zeroFinish, recomposedFinished, edgeFinish};
 ghost use Rattle.worksheet_lines.specs.Inner.{Follows};
+
+// A foot to which the first line alone leads: its result, twice.
+pub fn first_line(a: u32) -> Foot
+    ensures { λ r. ⌜ ((rows : List (List ℕ)) → Follows rows rows 1 (ends a a) r) ⌝ }
+{
+    Foot {
+        first: a,
+        second: a,
+        next: 1,
+    }
+}
 
 pub fn recomposition(lines: &mut Rows, n: usize, a: u32, b: u32) -> Foot
     requires { ⌜ n + 3 ≤ mostLines ⌝ }

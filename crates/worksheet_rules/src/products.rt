@@ -19,12 +19,9 @@ pub fn product(lines: &mut Rows, x: u32, y: u32) -> Foot
     let a = worksheet_lines::mul(lines, 0, x, y);
     let branch = worksheet_choices::branch_of(a);
     match branch {
+        Branch::NotANumber => blocks::first_line(a),
         Branch::Infinite => infinite(lines, x, y, a),
-        Branch::Zero => Foot {
-            first: a,
-            second: a,
-            next: 1,
-        },
+        Branch::Zero => blocks::first_line(a),
         Branch::Tiny => tiny(lines, x, y, a),
         Branch::Middle => middle(lines, x, y),
         Branch::Other => other(lines, x, y, a),
@@ -96,7 +93,6 @@ fn scaled_down(lines: &mut Rows, a: u32, b: u32) -> Foot
     blocks::zero_finish(lines, 11, first, beta)
 }
 
-// NaN too.
 fn other(lines: &mut Rows, x: u32, y: u32, a: u32) -> Foot
     ensures { λ r. ⌜ Follows (now (lines .entry)) (now (lines .exit)) 1 (otherProduct x y a) r ⌝ }
 {

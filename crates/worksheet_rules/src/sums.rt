@@ -1,9 +1,9 @@
-// The lines of a sum. All begin at the first row.
+// The lines of a sum. The first one is in the first row, and ends the sheet where it is NaN.
 use worksheet_lines::Foot;
 use worksheet_lines::Rows;
 use worksheet_lines::blocks;
 use worksheet_lines::constants::HALF;
-ghost use Rattle.worksheet_spec.specs.Sheets.{halvedSum, sumInOrder, sumSheet};
+ghost use Rattle.worksheet_spec.specs.Sheets.{halvedSum, sumFrom, sumInOrder, sumSheet};
 ghost use Rattle.worksheet_lines.specs.Inner.{Follows};
 
 pub fn sum(lines: &mut Rows, x: u32, y: u32) -> Foot
@@ -16,11 +16,21 @@ pub fn sum(lines: &mut Rows, x: u32, y: u32) -> Foot
     }
 }
 
-// The first operand is not the smaller one. With an infinite a no half is zero, so that nothing stands in the seventh row.
+// The first operand is not the smaller one.
 fn in_order(lines: &mut Rows, x: u32, y: u32) -> Foot
     ensures { λ r. ⌜ Follows (now (lines .entry)) (now (lines .exit)) 0 (sumInOrder x y) r ⌝ }
 {
     let a = worksheet_lines::add(lines, 0, x, y);
+    if pattern::is_nan(a) {
+        return blocks::first_line(a);
+    }
+    after_sum(lines, x, y, a)
+}
+
+// With an infinite a no half is zero, so that nothing stands in the seventh row.
+fn after_sum(lines: &mut Rows, x: u32, y: u32, a: u32) -> Foot
+    ensures { λ r. ⌜ Follows (now (lines .entry)) (now (lines .exit)) 1 (sumFrom x y a) r ⌝ }
+{
     let v = worksheet_lines::sub(lines, 1, a, x);
     let b = worksheet_lines::sub(lines, 2, y, v);
     let pair = blocks::recomposed_finished(lines, 3, a, b);

@@ -4,12 +4,14 @@ use mathlib.Core.List.{List, [], _∷_}
 use Prim.Native.Nat.{ℕ}
 use lib.Dec.{leb}
 use Rattle.rounding_spec.specs.Format.{binary32, signBit}
+use Rattle.rounding_spec.specs.Value.{isNaN}
 use Rattle.binary32_spec.specs.Steps.{addStep, subStep, mulStep, fmaStep}
 use Rattle.augmented_spec.specs.Direct.{Operation, sum, difference, product}
 use Rattle.worksheet_spec.specs.Constants.{half, twoTo24, twoTo48, twoToMinus24, plusZero, smallest}
 use Rattle.pattern_spec.specs.Classes.{copySign}
 use Rattle.worksheet_spec.specs.Lines.{multiply, line, Sheet, before, ends, value, minus}
-use Rattle.worksheet_spec.specs.Sheets.{Branch, whenInfinite, whenZero, whenTiny, whenMiddle, otherwise, recomposition, zeroFinish, recomposedFinished, halvedSum, overflows, sumInOrder, swaps}
+use Rattle.worksheet_spec.specs.Sheets.{Branch, whenNaN, whenInfinite, whenZero, whenTiny, whenMiddle, otherwise, recomposition, zeroFinish, recomposedFinished, halvedSum, overflows, sumFrom}
+use Rattle.worksheet_spec.specs.Sheets.{sumInOrder, swaps}
 use Rattle.worksheet_spec.specs.Sheets.{sumSheet, infiniteProduct, lowered, lowering, tinyProduct, restTie, scaledDown, middleProduct, otherProduct, branchOf, productBy, productSheet, sheetOf}
 use Rattle.worksheet_spec.specs.Theorems.{Among, Known, results, Derived}
 use Rattle.worksheet_spec.proofs.TinyResults as tiny
@@ -36,10 +38,9 @@ module _ (B : List ℕ) where
         (subtracts B y' v' b' (v' ∷ a' ∷ y' ∷ x' ∷ rs) _ (there v' y' _ (there a' y' _ (here y' _))) (here v' _)
         (edge-leads B known a a' b' (there b' a _ (there v' a _ (there a' a _ (there y' a _ (there x' a rs ha))))) (there b' a' _ (there v' a' _ (here a' _))) (here b' _))))))
 
-    order-leads : Leads B [] (sumInOrder x y)
-    unfolding sumInOrder
-    order-leads =
-        let a = addStep x y in
+    from-leads : (a : ℕ) → Leads B (a ∷ []) (sumFrom x y a)
+    unfolding sumFrom
+    from-leads a =
         let v = subStep a x in
         let b = subStep y v in
         let rs = b ∷ v ∷ a ∷ [] in
@@ -47,12 +48,18 @@ module _ (B : List ℕ) where
         let c = overflows (r .second) a in
         let a-in : Among a rs = there b a _ (there v a _ (here a [])) in
         let l = recomposed-leads B rs a b a-in (here b _) (flipped b _) in
-        adds B x y a [] _ hx hy
-        (subtracts B a x v (a ∷ []) _ (here a _) (right x (a ∷ []) B hx)
+        subtracts B a x v (a ∷ []) _ (here a _) (right x (a ∷ []) B hx)
         (subtracts B y v b (v ∷ a ∷ []) _ (right y (v ∷ a ∷ []) B hy) (here v _)
         (lines B rs (r .lines) (cond c (halvedSum x y a) (ends (r .first) (r .second))) (l .0)
         (leads-cond B c (after rs (r .lines)) (halvedSum x y a) (ends (r .first) (r .second)) (halved-leads (after rs (r .lines)) a (grown a rs (r .lines) a-in))
-        (stop B (r .first) (r .second) (after rs (r .lines)) (l .1) (l .2))))))
+        (stop B (r .first) (r .second) (after rs (r .lines)) (l .1) (l .2)))))
+
+    order-leads : Leads B [] (sumInOrder x y)
+    unfolding sumInOrder
+    order-leads =
+        let a = addStep x y in
+        adds B x y a [] _ hx hy
+        (leads-cond B (isNaN (value a)) (a ∷ []) (ends a a) (sumFrom x y a) (stop B a a (a ∷ []) (here a []) (here a [])) (from-leads a))
 
     -- ---- products
     infinite-leads : (a : ℕ) → Leads B (a ∷ []) (infiniteProduct x y a)
@@ -154,6 +161,7 @@ module _ (B : List ℕ) where
     product-leads = let a = mulStep x y in multiplies B x y a [] (productBy (branchOf (value a)) x y a) hx hy (by (branchOf (value a)) a)
       where
         by : (k : Branch) (a : ℕ) → Leads B (a ∷ []) (productBy k x y a)
+        by whenNaN a = stop B a a (a ∷ []) (here a []) (here a [])
         by whenInfinite a = infinite-leads a
         by whenZero a = stop B a a (a ∷ []) (here a []) (here a [])
         by whenTiny a = tiny-leads a

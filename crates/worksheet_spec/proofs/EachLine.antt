@@ -3,13 +3,16 @@ use mathlib.Core.Path.{refl}
 use mathlib.Core.Bool.{Bool, true, false, cond}
 use mathlib.Core.List.{List, [], _∷_, _++_}
 use Prim.Native.Nat.{ℕ}
+use Rattle.rounding_spec.specs.Value.{isNaN}
 use Rattle.binary32_spec.specs.Steps.{addStep, subStep, mulStep, fmaStep}
 use Rattle.augmented_spec.specs.Direct.{sum, difference, product}
 use Rattle.pattern_spec.specs.Classes.{copySign}
 use Rattle.worksheet_spec.specs.Lines.{add, subtract, multiply, Line, line, fusedLine, Sheet, before, ends, value, minus, isZeroPattern}
 use Rattle.worksheet_spec.specs.Constants.{psi, two, minusTwo, half, kappa, twoTo24, twoTo48, twoToMinus24, plusZero, smallest}
-use Rattle.worksheet_spec.specs.Sheets.{Branch, whenInfinite, whenZero, whenTiny, whenMiddle, otherwise, recomposition, zeroFinish, recomposedFinished, atEdge, edgeFinish, halvedSum, overflows}
-use Rattle.worksheet_spec.specs.Sheets.{sumInOrder, swaps, sumSheet, infiniteProduct, lowered, lowering, tinyProduct, restTie, scaledDown, middleProduct, otherProduct, branchOf, productBy}
+use Rattle.worksheet_spec.specs.Sheets.{Branch, whenNaN, whenInfinite, whenZero, whenTiny, whenMiddle, otherwise, recomposition, zeroFinish, recomposedFinished, atEdge, edgeFinish, halvedSum}
+use Rattle.worksheet_spec.specs.Sheets.{overflows}
+use Rattle.worksheet_spec.specs.Sheets.{sumFrom, sumInOrder, swaps, sumSheet, infiniteProduct, lowered, lowering, tinyProduct, restTie, scaledDown, middleProduct, otherProduct, branchOf}
+use Rattle.worksheet_spec.specs.Sheets.{productBy}
 use Rattle.worksheet_spec.specs.Sheets.{productSheet, sheetOf}
 use Rattle.worksheet_spec.proofs.TinyResults as tiny
 use Rattle.worksheet_spec.specs.Theorems.{Each, EachLine}
@@ -82,17 +85,20 @@ halved-each x y a =
     let v' = subStep a' x' in
     multiplies half x _ (multiplies half y _ (adds x' y' _ (subtracts a' x' _ (subtracts y' v' _ (edge-each a a' (subStep y' v'))))))
 
-order-each : (x y : ℕ) → Each (sumInOrder x y .lines)
-unfolding sumInOrder
-order-each x y =
-    let a = addStep x y in
+from-each : (x y a : ℕ) → Each (sumFrom x y a .lines)
+unfolding sumFrom
+from-each x y a =
     let v = subStep a x in
     let b = subStep y v in
     let r = recomposedFinished a b in
     let c = overflows (r .second) a in
-    adds x y _ (subtracts a x _ (subtracts y v _
+    subtracts a x _ (subtracts y v _
     (each-append (r .lines) (cond c (halvedSum x y a) (ends (r .first) (r .second)) .lines) (recomposed-each a b)
-    (each-cond c (halvedSum x y a) (ends (r .first) (r .second)) (halved-each x y a) none))))
+    (each-cond c (halvedSum x y a) (ends (r .first) (r .second)) (halved-each x y a) none)))
+
+order-each : (x y : ℕ) → Each (sumInOrder x y .lines)
+unfolding sumInOrder
+order-each x y = let a = addStep x y in adds x y _ (each-cond (isNaN (value a)) (ends a a) (sumFrom x y a) none (from-each x y a))
 
 sum-each : (x y : ℕ) → Each (sumSheet x y .lines)
 unfolding sumSheet
@@ -145,6 +151,7 @@ unfolding productSheet productBy
 product-each x y = multiplies x y _ (by (branchOf (value (mulStep x y))))
   where
     by : (k : Branch) → Each (productBy k x y (mulStep x y) .lines)
+    by whenNaN = none
     by whenInfinite = infinite-each x y (mulStep x y)
     by whenZero = none
     by whenTiny = tiny-each x y (mulStep x y)

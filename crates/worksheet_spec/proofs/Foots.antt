@@ -13,7 +13,7 @@ use Rattle.augmented_spec.proofs.Second.{head, first-finite, pair-second, first
 use Rattle.worksheet_spec.specs.Lines.{Sheet, value}
 use Rattle.worksheet_spec.proofs.Patterns.{Pattern, pattern-of}
 
--- the foot of a sheet is the pair of the exact result v
+-- the foot of a sheet is the pair of the exact result v, which is no NaN
 abbrev pub Foots : Value → Sheet → Type 0
 Foots v s = (s .first ≡ encode binary32 (pairOf binary32 v .first)) × (s .second ≡ encode binary32 (pairOf binary32 v .second))
 
@@ -33,11 +33,7 @@ pub foots : (s : Bool) (N : ℕ) (sheet : Sheet) → Pattern (sheet .first) → 
 foots s N sheet w u e =
     (pattern-of (sheet .first) (pairOf binary32 (finite s N) .first) w (e .0) (no-nan s N .0), pattern-of (sheet .second) (pairOf binary32 (finite s N) .second) u (e .1) (no-nan s N .1))
 
--- an infinite exact result, and NaN, stand twice
+-- an infinite exact result stands twice
 pub foots-infinite : (s : Bool) (sheet : Sheet) → sheet .first ≡ encode binary32 (infinite s) → sheet .second ≡ encode binary32 (infinite s) → Foots (infinite s) sheet
 unfolding pairOf round secondOf
 foots-infinite s sheet a b = (a, b)
-
-pub foots-nan : (sheet : Sheet) → sheet .first ≡ encode binary32 nan → sheet .second ≡ encode binary32 nan → Foots nan sheet
-unfolding pairOf round secondOf
-foots-nan sheet a b = (a, b)

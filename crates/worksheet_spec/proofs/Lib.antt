@@ -16,4 +16,6 @@ pub mod SumSteps
 pub mod ProductSteps
 pub mod FootIsPair
 pub mod Filling
+pub mod NaNLines
+pub mod InfiniteLines
 pub mod Theorems

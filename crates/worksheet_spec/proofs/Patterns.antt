@@ -2,23 +2,21 @@
 use mathlib.Core.Path.{_≡_, refl, sym, ap, _∙_}
 use mathlib.Core.Logic.{_≢_, inl, inr}
 use mathlib.Core.Bool.{Bool, true, false, not, cond}
+use mathlib.Core.List.{[], _∷_}
 use Prim.Native.Nat.{ℕ, _*_, _%_, _<_}
 use native.Mathlib.Nat.{lt-of-le-of-lt, le-of-eq}
 use native.Mathlib.Decide.{decLe}
 use native.Mathlib.Omega.{arith}
 use borrow.Author.Tests.{le-leb, lt-leb}
 use lib.Dec.{leb}
-use Rattle.rounding_spec.specs.declared.Ties.the-variants.{ToEven}
 use Rattle.rounding_spec.specs.Format.{binary32, infinity, signBit}
-use Rattle.rounding_spec.specs.Value.{Value, nan, finite, unsigned, decode, encode, round}
+use Rattle.rounding_spec.specs.Value.{Value, nan, finite, unsigned, decode, encode}
 use Rattle.rounding_spec.proofs.Codec.{unsigned-finite, unsigned-infinite, unsigned-nan, encode-decode}
 use Rattle.rounding_spec.proofs.Compare.{tri}
-use Rattle.rounding_spec.proofs.RoundValue.{round-fits}
-use Rattle.pattern_spec.specs.Exact.{negate, plus, times, finer}
-use Rattle.binary32_spec.specs.Steps.{addValue, subValue, mulValue, fmaValue, addStep, subStep, mulStep, fmaStep}
+use Rattle.pattern_spec.specs.Exact.{negate}
+use Rattle.binary32_spec.specs.Steps.{addStep, subStep, mulStep, fmaStep}
 use Rattle.pattern_spec.proofs.Classified.{decode-flip}
-use Rattle.binary32_spec.proofs.Result.{add-step, sub-step, mul-step, fma-step}
-use Rattle.augmented_spec.proofs.Width.{encode-width}
+use Rattle.binary32_spec.proofs.Result.{result-width, add-fits, sub-fits, mul-fits, fma-fits, add-step, sub-step, mul-step, fma-step}
 use Rattle.pattern_spec.specs.Classes.{copySign}
 use Rattle.worksheet_spec.specs.Lines.{value, minus}
 
@@ -26,24 +24,18 @@ use Rattle.worksheet_spec.specs.Lines.{value, minus}
 abbrev pub Pattern : ℕ → Type 0
 Pattern x = x < 2 * signBit binary32
 
-rounded-width : (x : ℕ) (v : Value) → x ≡ encode binary32 (round ToEven binary32 v) → Pattern x
-rounded-width x v e = lt-of-le-of-lt (le-of-eq e) (encode-width binary32 (omega arith) (round ToEven binary32 v) (round-fits ToEven binary32 v))
-
 pub add-width : (x y : ℕ) → Pattern (addStep x y)
-unfolding addValue
-add-width x y = rounded-width (addStep x y) (finer binary32 (plus (value x) (value y))) (add-step x y)
+add-width x y = lt-of-le-of-lt (le-of-eq (add-step x y)) (result-width binary32 (x ∷ y ∷ []) (omega arith) _ (add-fits binary32 (value x) (value y)))
 
 pub sub-width : (x y : ℕ) → Pattern (subStep x y)
-unfolding subValue addValue
-sub-width x y = rounded-width (subStep x y) (finer binary32 (plus (value x) (negate (value y)))) (sub-step x y)
+sub-width x y = lt-of-le-of-lt (le-of-eq (sub-step x y)) (result-width binary32 (x ∷ y ∷ []) (omega arith) _ (sub-fits binary32 (value x) (value y)))
 
 pub mul-width : (x y : ℕ) → Pattern (mulStep x y)
-unfolding mulValue
-mul-width x y = rounded-width (mulStep x y) (times (value x) (value y)) (mul-step x y)
+mul-width x y = lt-of-le-of-lt (le-of-eq (mul-step x y)) (result-width binary32 (x ∷ y ∷ []) (omega arith) _ (mul-fits binary32 (value x) (value y)))
 
 pub fma-width : (x y z : ℕ) → Pattern (fmaStep x y z)
-unfolding fmaValue
-fma-width x y z = rounded-width (fmaStep x y z) (plus (times (value x) (value y)) (finer binary32 (value z))) (fma-step x y z)
+fma-width x y z =
+    lt-of-le-of-lt (le-of-eq (fma-step x y z)) (result-width binary32 (x ∷ y ∷ z ∷ []) (omega arith) _ (fma-fits binary32 (value x) (value y) (value z)))
 
 -- ---- its value with the other sign
 pub minus-value : (x : ℕ) → Pattern x → value (minus x) ≡ negate (value x)
@@ -52,10 +44,6 @@ minus-value x h = decode-flip binary32 x h
 pub negate-finite : (s : Bool) (a : ℕ) → negate (finite s a) ≡ finite (not s) a
 unfolding negate
 negate-finite s a = refl
-
-pub minus-nan : (x : ℕ) → Pattern x → value x ≡ nan → value (minus x) ≡ nan
-unfolding negate
-minus-nan x w e = minus-value x w ∙ ap negate e
 
 pub minus-width : (x : ℕ) → Pattern x → Pattern (minus x)
 minus-width x h = elim (decLe (signBit binary32) x)

@@ -1,7 +1,8 @@
 -- The product's sheet, all branches together: its foot is the pair of the exact product, for all patterns.
 use mathlib.Core.Path.{_≡_, refl, sym, ap, ap₂, _∙_, subst}
 use mathlib.Core.Logic.{inl, inr}
-use mathlib.Core.Bool.{Bool, true, false, cond, _&&_}
+use mathlib.Core.Bool.{Bool, true, false, _&&_}
+use mathlib.Core.List.{[], _∷_}
 use Prim.Native.Nat.{ℕ, _*_, _^_, _<_}
 use native.Mathlib.Nat.{eq-zero-or-pos}
 use native.Mathlib.Decide.{decLe}
@@ -10,21 +11,20 @@ use lib.Ieee.{unlike}
 use Rattle.rounding_spec.specs.declared.Ties.the-variants.{ToEven}
 use Rattle.rounding_spec.specs.Format.{binary32, limit}
 use Rattle.rounding_spec.specs.Nearest.{Rep}
-use Rattle.rounding_spec.specs.Value.{Value, nan, infinite, finite, Fits, encode, isFinite, isZero}
+use Rattle.rounding_spec.specs.Value.{Value, nan, infinite, finite, Fits, isNaN, nanOf, encode, isFinite}
 use Rattle.rounding_spec.proofs.RoundValue.{round-above}
 use Rattle.rounding_spec.proofs.Codec.{decode-fits}
 use Rattle.pattern_spec.specs.Exact.{times}
-use Rattle.binary32_spec.specs.Steps.{fmaValue, mulStep, fmaStep}
-use Rattle.binary32_spec.proofs.Theorems.{mul-decodes, fma-decodes}
-use Rattle.binary32_spec.proofs.Result.{mul-step, fma-step}
+use Rattle.binary32_spec.specs.Steps.{mulValue, result, mulStep, fmaStep}
+use Rattle.binary32_spec.proofs.Theorems.{mul-decodes}
+use Rattle.binary32_spec.proofs.Result.{result-number, result-nan, mul-step}
 use Rattle.errorfree_spec.proofs.Steps.{toEven}
 use Rattle.worksheet_spec.specs.Constants.{half}
-use Rattle.worksheet_spec.specs.Lines.{value, minus}
-use Rattle.worksheet_spec.specs.Sheets.{whenZero, Branch, whenTiny, whenMiddle, otherwise, infiniteProduct, otherProduct, branchOf, productBy, productSheet}
-use Rattle.worksheet_spec.proofs.Patterns.{mul-width, minus-nan}
-use Rattle.worksheet_spec.proofs.Foots.{Foots, foots-infinite, foots-nan}
-use Rattle.worksheet_spec.proofs.Blocks.{recomposed-none, edge-none}
-use Rattle.errorfree_spec.proofs.NoNumber.{not-both, number-of, one-of, both-of, product-none, mul-left, mul-right, fma-nan, mul-kept}
+use Rattle.worksheet_spec.specs.Lines.{multiply, line, Sheet, before, ends, value, minus}
+use Rattle.worksheet_spec.specs.Sheets.{Branch, infiniteProduct, branchOf, productBy, productSheet}
+use Rattle.worksheet_spec.proofs.Foots.{Foots, foots-infinite}
+use Rattle.worksheet_spec.proofs.Blocks.{edge-none}
+use Rattle.errorfree_spec.proofs.NoNumber.{not-both, number-of, one-of, both-of, product-none, mul-left, mul-right, mul-kept}
 use Rattle.worksheet_spec.proofs.Branches.{branch-zero, branch-tiny, branch-middle, branch-other}
 use Rattle.worksheet_spec.proofs.Products.{p-value, pi, infinite-foot, zero-foot, tiny-foot, middle-foot, other-foot}
 
@@ -62,19 +62,8 @@ module _ (x y : ℕ) (s t : Bool) (a b : ℕ) (xi : value x ≡ finite s a) (yi 
     | no fine ↦ let f : A < limit binary32 = omega arith in rw (pi x y s t a b xi yi xr yr xb yb f) (fine-foot f)
   ]
 
--- ---- infinities and NaN
+-- ---- infinities
 module _ (x y : ℕ) where
-  nan-foot : times (value x) (value y) ≡ nan → Foots nan (otherProduct x y (mulStep x y))
-  unfolding otherProduct
-  nan-foot e =
-      let p = mulStep x y in
-      let k = mul-kept binary32 (value x) (value y) nan e refl in
-      let c = fmaStep x y (minus p) in
-      let f = ap (fmaValue binary32 (value x) (value y)) (minus-nan p (mul-width x y) (mul-decodes x y ∙ k)) ∙ fma-nan binary32 (value x) (value y) in
-      let ci : value c ≡ nan = fma-decodes x y (minus p) ∙ f in
-      let n = recomposed-none p c (ap isFinite (mul-decodes x y ∙ k)) (ap isZero ci) in
-      foots-nan (otherProduct x y p) (n .0 ∙ mul-step x y ∙ ap (encode binary32) k) (n .1 ∙ fma-step x y (minus p) ∙ ap (encode binary32) f)
-
   infinity-foot : (s : Bool) → times (value x) (value y) ≡ infinite s → isFinite (value x) && isFinite (value y) ≡ false → Foots (infinite s) (infiniteProduct x y (mulStep x y))
   unfolding infiniteProduct
   infinity-foot s e n =
@@ -87,25 +76,28 @@ module _ (x y : ℕ) where
       [ inl m ↦ mul-left binary32 (value h) (value y) (ap isFinite (mul-decodes half x) ∙ mul-right binary32 (value half) (value x) m) | inr m ↦ mul-right binary32 (value h) (value y) m ]
       in
       let q = edge-none p a' (fmaStep h y (minus a')) none in
-      let pe : p ≡ encode binary32 (infinite s) = mul-step x y ∙ ap (encode binary32) (mul-kept binary32 (value x) (value y) (infinite s) e refl) in
+      let k = mul-kept binary32 (value x) (value y) (infinite s) e refl in
+      let pe : p ≡ encode binary32 (infinite s) = mul-step x y ∙ ap (result binary32 (x ∷ y ∷ [])) k ∙ result-number binary32 (x ∷ y ∷ []) (infinite s) refl in
       foots-infinite s (infiniteProduct x y p) (q .0 ∙ pe) (q .1 ∙ pe)
 
-  -- ---- all patterns
-  none-foot : isFinite (value x) && isFinite (value y) ≡ false → Foots (times (value x) (value y)) (productBy (branchOf (value (mulStep x y))) x y (mulStep x y))
+  -- an operand is infinite
+  none-foot : isFinite (value x) && isFinite (value y) ≡ false → isNaN (times (value x) (value y)) ≡ false
+      → Foots (times (value x) (value y)) (productBy (branchOf (value (mulStep x y))) x y (mulStep x y))
   unfolding branchOf productBy
-  none-foot n = by (times (value x) (value y)) refl (product-none (value x) (value y) n)
+  none-foot n m = by (times (value x) (value y)) refl (product-none (value x) (value y) n) m
     where
-      by : (v : Value) → times (value x) (value y) ≡ v → isFinite v ≡ false → Foots v (productBy (branchOf (value (mulStep x y))) x y (mulStep x y))
-      by nan e f = rw (mul-decodes x y ∙ mul-kept binary32 (value x) (value y) nan e refl) (nan-foot e)
-      by (infinite s) e f = rw (mul-decodes x y ∙ mul-kept binary32 (value x) (value y) (infinite s) e refl) (infinity-foot s e n)
-      by (finite s m) e f = not-both f
+      by : (v : Value) → times (value x) (value y) ≡ v → isFinite v ≡ false → isNaN v ≡ false → Foots v (productBy (branchOf (value (mulStep x y))) x y (mulStep x y))
+      by nan e f m = not-both m
+      by (infinite s) e f m = rw (mul-decodes x y ∙ mul-kept binary32 (value x) (value y) (infinite s) e refl) (infinity-foot s e n)
+      by (finite s k) e f m = not-both f
 
-pub product-foot : (x y : ℕ) → Foots (times (value x) (value y)) (productSheet x y)
+-- ---- all numbers
+pub product-foot : (x y : ℕ) → isNaN (times (value x) (value y)) ≡ false → Foots (times (value x) (value y)) (productSheet x y)
 unfolding productSheet Fits times
-product-foot x y = by (isFinite (value x) && isFinite (value y)) refl
+product-foot x y m = by (isFinite (value x) && isFinite (value y)) refl
   where
     by : (c : Bool) → isFinite (value x) && isFinite (value y) ≡ c → Foots (times (value x) (value y)) (productSheet x y)
-    by false n = none-foot x y n
+    by false n = none-foot x y n m
     by true n =
         let h = both-of (isFinite (value x)) (isFinite (value y)) n in
         let u = number-of (value x) (h .0) in
@@ -113,3 +105,22 @@ product-foot x y = by (isFinite (value x) && isFinite (value y)) refl
         let f = subst (Fits binary32) (u .2) (decode-fits binary32 (omega arith) x) in
         let g = subst (Fits binary32) (w .2) (decode-fits binary32 (omega arith) y) in
         subst (λ (v : Value). Foots v (productSheet x y)) (sym (ap₂ times (u .2) (w .2))) (finite-foot x y (u .0) (w .0) (u .1) (w .1) (u .2) (w .2) (f .0) (g .0) (f .1) (g .1))
+
+-- ---- NaN: the sheet is one line, whose result stands twice
+pub product-ends : (x y : ℕ) → value (mulStep x y) ≡ nan
+    → productSheet x y ≡ before (line multiply x y (mulStep x y) ∷ []) (ends (mulStep x y) (mulStep x y))
+unfolding productSheet branchOf productBy
+product-ends x y e = ap (λ (v : Value). before (line multiply x y (mulStep x y) ∷ []) (productBy (branchOf v) x y (mulStep x y))) e
+
+pub product-nan : (x y : ℕ) → times (value x) (value y) ≡ nan
+    → (productSheet x y .first ≡ nanOf binary32 (x ∷ y ∷ [])) × (productSheet x y .second ≡ nanOf binary32 (x ∷ y ∷ []))
+product-nan x y e = (ap (λ (s : Sheet). s .first) same ∙ is, ap (λ (s : Sheet). s .second) same ∙ is)
+  where
+    k : mulValue binary32 (value x) (value y) ≡ nan
+    k = mul-kept binary32 (value x) (value y) nan e refl
+
+    is : mulStep x y ≡ nanOf binary32 (x ∷ y ∷ [])
+    is = mul-step x y ∙ ap (result binary32 (x ∷ y ∷ [])) k ∙ result-nan binary32 (x ∷ y ∷ [])
+
+    same : productSheet x y ≡ before (line multiply x y (mulStep x y) ∷ []) (ends (mulStep x y) (mulStep x y))
+    same = product-ends x y (mul-decodes x y ∙ k)

@@ -9,29 +9,30 @@ use native.Mathlib.Omega.{arith}
 use lib.Dec.{T}
 use Rattle.rounding_spec.specs.Format.{binary32, limit}
 use Rattle.rounding_spec.specs.Nearest.{dist}
-use Rattle.rounding_spec.specs.Value.{Value, nan, infinite, finite, Fits, isFinite, isZero}
+use Rattle.rounding_spec.specs.Value.{Value, nan, infinite, finite, Fits, isFinite}
 use Rattle.rounding_spec.proofs.Representable.{rep-lt}
 use Rattle.rounding_spec.proofs.Codec.{decode-fits}
-use Rattle.binary32_spec.specs.Steps.{subValue, fmaValue, subStep, mulStep, fmaStep}
-use Rattle.binary32_spec.proofs.Theorems.{sub-decodes, fma-decodes}
+use Rattle.binary32_spec.specs.Steps.{subValue, subStep, mulStep, fmaStep}
+use Rattle.binary32_spec.proofs.Theorems.{sub-decodes}
 use Rattle.errorfree_spec.specs.Comparisons.{same}
-use Rattle.errorfree_spec.proofs.NoNumber.{not-both, fma-nan}
+use Rattle.errorfree_spec.proofs.NoNumber.{not-both}
 use Rattle.errorfree_spec.proofs.Signed.{Is, rel-own, same-eq}
 use Rattle.errorfree_spec.proofs.Steps.{is-sub}
 use Rattle.errorfree_spec.proofs.Theorems.{same-means}
 use Rattle.worksheet_spec.specs.Constants.{half, plusZero, smallest}
 use Rattle.pattern_spec.specs.Classes.{copySign}
 use Rattle.worksheet_spec.specs.Lines.{Step, subtract, multiply, fused, Line, line, Sheet, before, value, minus, equal, isZeroPattern}
-use Rattle.worksheet_spec.specs.Sheets.{Branch, whenInfinite, whenZero, whenTiny, whenMiddle, otherwise, recomposition, zeroFinish, infiniteProduct, lowered, lowering, tinyProduct, scaledDown}
+use Rattle.worksheet_spec.specs.Sheets.{Branch, whenNaN, whenInfinite, whenZero, whenTiny, whenMiddle, otherwise, recomposition, zeroFinish, infiniteProduct, lowered, lowering, tinyProduct}
+use Rattle.worksheet_spec.specs.Sheets.{scaledDown}
 use Rattle.worksheet_spec.specs.Sheets.{middleProduct, otherProduct, branchOf, productBy, productSheet}
 use Rattle.worksheet_spec.specs.Theorems.{stepsOf, recompositionSteps, finishStep, edgeSteps, tinySteps, middleSteps, ProductSteps}
-use Rattle.worksheet_spec.proofs.Patterns.{mul-width, minus-nan, sign-value}
+use Rattle.worksheet_spec.proofs.Patterns.{sign-value}
 use Rattle.worksheet_spec.proofs.Constants.{smallest-value}
 use Rattle.worksheet_spec.proofs.Branches.{branch-zero, branch-tiny, branch-middle, branch-other}
 use Rattle.worksheet_spec.proofs.TinyResults as tiny
 use Rattle.worksheet_spec.proofs.Products.{first, β, tie, corrected, corrected-nonzero, first-number}
 use Rattle.worksheet_spec.proofs.FiniteProduct.{factors-of}
-use Rattle.worksheet_spec.proofs.SumSteps.{finish-steps, recomposed-steps, edge-steps, finish-zero, recomposed-zero, recomposed-none-steps, edge-told}
+use Rattle.worksheet_spec.proofs.SumSteps.{finish-steps, recomposed-steps, edge-steps, finish-zero, recomposed-zero, edge-told}
 
 one-less : (m W : ℕ) → m < W → m - 1 < W
 one-less m W h = omega arith
@@ -53,14 +54,7 @@ module _ (x y : ℕ) where
   abbrev Ordered : Value → Sheet → Type 0
   Ordered v s = ProductSteps p v (s .first) (s .second) (stepsOf (s .lines))
 
-  -- ---- NaN and infinities
-  nan-steps : value p ≡ nan → stepsOf (otherProduct x y p .lines) ≡ fused ∷ recompositionSteps
-  unfolding otherProduct
-  nan-steps e =
-      let c = fmaStep x y (minus p) in
-      let ci : value c ≡ nan = fma-decodes x y (minus p) ∙ ap (fmaValue binary32 (value x) (value y)) (minus-nan p (mul-width x y) e) ∙ fma-nan binary32 (value x) (value y) in
-      ap {B = List Step} (λ (steps : List Step). fused ∷ steps) (recomposed-none-steps p c (ap isFinite e) (ap isZero ci))
-
+  -- ---- infinities
   infinite-steps : (s : Bool) → value p ≡ infinite s → stepsOf (infiniteProduct x y p .lines) ≡ multiply ∷ multiply ∷ fused ∷ cond (isFinite (value (infiniteProduct x y p .first))) edgeSteps []
   unfolding infiniteProduct
   infinite-steps s e =
@@ -172,6 +166,6 @@ module _ (x y : ℕ) where
   product-steps = by (value p) refl
     where
       by : (v : Value) → value p ≡ v → Ordered v (productSheet x y)
-      by nan e = rw (sheet-by otherwise (ap branchOf e)) (ap {B = List Step} (λ (steps : List Step). multiply ∷ steps) (nan-steps e))
+      by nan e = rw (sheet-by whenNaN (ap branchOf e)) refl
       by (infinite s) e = rw (sheet-by whenInfinite (ap branchOf e)) (ap {B = List Step} (λ (steps : List Step). multiply ∷ steps) (infinite-steps s e))
       by (finite s m) e = finite-steps s m e

@@ -7,7 +7,7 @@ use native.Mathlib.Omega.{arith}
 use borrow.Author.Tests.{eqb-true}
 use lib.Dec.{leb, eqb}
 use Rattle.rounding_spec.specs.Format.{binary32, signBit}
-use Rattle.rounding_spec.specs.Value.{Value, nan, infinite, finite, Fits, isFinite, isInfinite, isZero, RNe}
+use Rattle.rounding_spec.specs.Value.{Value, nan, infinite, finite, Fits, isNaN, isFinite, isInfinite, isZero, RNe}
 use Rattle.rounding_spec.proofs.Codec.{decode-fits}
 use Rattle.pattern_spec.specs.Exact.{negate, finer}
 use Rattle.binary32_spec.specs.Steps.{addValue, mulValue, addStep, subStep, mulStep}
@@ -20,13 +20,13 @@ use Rattle.errorfree_spec.proofs.Recomposed.{psi-finite}
 use Rattle.errorfree_spec.proofs.Edge.{halfLimit, kappa-is}
 use Rattle.worksheet_spec.specs.Constants.{psi, two, half, kappa, plusZero, twoTo127, twoTo102}
 use Rattle.pattern_spec.specs.Classes.{copySign}
-use Rattle.worksheet_spec.specs.Lines.{Step, add, subtract, multiply, Line, Sheet, ends, value, minus, equal, isZeroPattern}
-use Rattle.worksheet_spec.specs.Sheets.{recomposition, zeroFinish, recomposedFinished, atEdge, edgeFinish, halvedSum, overflows, sumInOrder, swaps, sumSheet}
+use Rattle.worksheet_spec.specs.Lines.{Step, add, subtract, Line, line, Sheet, before, ends, value, minus, equal, isZeroPattern}
+use Rattle.worksheet_spec.specs.Sheets.{recomposition, zeroFinish, recomposedFinished, atEdge, edgeFinish, halvedSum, overflows, sumFrom, sumInOrder, swaps, sumSheet}
 use Rattle.worksheet_spec.specs.Theorems.{stepsOf, recompositionSteps, finishStep, edgeSteps, openingSteps, halvedSteps, sumSteps}
 use Rattle.worksheet_spec.proofs.Patterns.{minus-value, negate-finite}
 use Rattle.worksheet_spec.proofs.Constants.{psi-value, kappa-value, zero-value, half-limit-value}
 use Rattle.worksheet_spec.proofs.Blocks.{value-cond, finish-pattern, recomposition-none, edge-first}
-use Rattle.worksheet_spec.proofs.Sums.{first-is, second-is, b-none, no-edge, asks-edge}
+use Rattle.worksheet_spec.proofs.Sums.{goes-on, first-is, second-is, b-none, no-edge, asks-edge}
 
 -- ---- lists and choices
 steps-append : (ls ms : List Line) → stepsOf (ls ++ ms) ≡ stepsOf ls ++ stepsOf ms
@@ -125,26 +125,30 @@ module _ (x y : ℕ) where
   abbrev rest : List Step
   rest = cond edge (stepsOf (halvedSum x y a .lines)) []
 
-  order-is : stepsOf (sumInOrder x y .lines) ≡ add ∷ subtract ∷ subtract ∷ stepsOf (recomposedFinished a b .lines) ++ rest
-  unfolding sumInOrder
-  order-is =
-      ap {B = List Step} (λ (steps : List Step). add ∷ subtract ∷ subtract ∷ steps)
+  order-is : isNaN (value a) ≡ false → stepsOf (sumInOrder x y .lines) ≡ add ∷ subtract ∷ subtract ∷ stepsOf (recomposedFinished a b .lines) ++ rest
+  unfolding sumFrom
+  order-is n =
+      ap (λ (s : Sheet). stepsOf (s .lines)) (goes-on x y n)
+      ∙ ap {B = List Step} (λ (steps : List Step). add ∷ subtract ∷ subtract ∷ steps)
       (steps-append (recomposedFinished a b .lines) (cond edge (halvedSum x y a) (ends (recomposedFinished a b .first) (recomposedFinished a b .second)) .lines)
       ∙ ap (λ (steps : List Step). stepsOf (recomposedFinished a b .lines) ++ steps) (steps-cond edge (halvedSum x y a) (ends (recomposedFinished a b .first) (recomposedFinished a b .second))))
 
   abbrev Ordered : Value → Type 0
   Ordered v = stepsOf (sumInOrder x y .lines) ≡ sumSteps v (sumInOrder x y .first) (sumInOrder x y .second)
 
-  -- a is not infinite
-  plain : isInfinite (value a) ≡ false → stepsOf (sumInOrder x y .lines) ≡ add ∷ subtract ∷ subtract ∷ stepsOf (recomposedFinished a b .lines) ++ []
-  plain h = order-is ∙ ap {B = List Step} (λ (c : Bool). add ∷ subtract ∷ subtract ∷ stepsOf (recomposedFinished a b .lines) ++ cond c (stepsOf (halvedSum x y a .lines)) []) (no-edge x y h)
+  -- a is finite
+  plain : isNaN (value a) ≡ false → isInfinite (value a) ≡ false → stepsOf (sumInOrder x y .lines) ≡ add ∷ subtract ∷ subtract ∷ stepsOf (recomposedFinished a b .lines) ++ []
+  plain n h =
+      order-is n
+      ∙ ap {B = List Step} (λ (c : Bool). add ∷ subtract ∷ subtract ∷ stepsOf (recomposedFinished a b .lines) ++ cond c (stepsOf (halvedSum x y a .lines)) []) (no-edge x y h)
 
   finite-steps : (s : Bool) (m : ℕ) → value a ≡ finite s m → Ordered (finite s m)
   finite-steps s m h =
       let z : isZeroPattern (sumInOrder x y .second) ≡ isZeroPattern (recomposition a b .second) =
-      ap isZeroPattern (second-is x y ∙ ap (λ (c : Bool). cond c (halvedSum x y a .second) (recomposedFinished a b .second)) (no-edge x y (ap isInfinite h))) ∙ recomposed-zero a b (ap isFinite h)
+      ap isZeroPattern (second-is x y (ap isNaN h) ∙ ap (λ (c : Bool). cond c (halvedSum x y a .second) (recomposedFinished a b .second)) (no-edge x y (ap isInfinite h)))
+      ∙ recomposed-zero a b (ap isFinite h)
       in
-      plain (ap isInfinite h) ∙ ap {B = List Step} (λ (steps : List Step). add ∷ subtract ∷ subtract ∷ steps ++ []) (recomposed-steps a b)
+      plain (ap isNaN h) (ap isInfinite h) ∙ ap {B = List Step} (λ (steps : List Step). add ∷ subtract ∷ subtract ∷ steps ++ []) (recomposed-steps a b)
       ∙ by (isZeroPattern (recomposition a b .second)) (isZeroPattern (sumInOrder x y .second)) (sym z)
     where
       by : (c d : Bool) → c ≡ d → _≡_ {A = List Step} (openingSteps ++ cond c finishStep [] ++ []) (openingSteps ++ cond d finishStep [])
@@ -154,9 +158,8 @@ module _ (x y : ℕ) where
       by false true e = not-both (sym e)
 
   nan-steps : value a ≡ nan → Ordered nan
-  nan-steps h =
-      let n : isFinite (value a) ≡ false = ap isFinite h in
-      plain (ap isInfinite h) ∙ ap {B = List Step} (λ (steps : List Step). add ∷ subtract ∷ subtract ∷ steps ++ []) (recomposed-none-steps a b n (none-zero (value b) (b-none x y n)))
+  unfolding sumInOrder
+  nan-steps h = ap (λ (c : Bool). stepsOf (before (line add x y a ∷ []) (cond c (ends a a) (sumFrom x y a)) .lines)) (ap isNaN h)
 
   -- a is infinite
   abbrev half-sum : ℕ
@@ -175,11 +178,11 @@ module _ (x y : ℕ) where
       let n : isFinite (value a) ≡ false = ap isFinite h in
       let c = asks-edge x y s h in
       let told : atEdge half-sum half-rest ≡ isFinite (value (sumInOrder x y .first)) =
-      edge-told a half-sum half-rest n ∙ sym (ap (λ (p : ℕ). isFinite (value p)) (first-is x y ∙ ap (λ (i : Bool). cond i (halvedSum x y a .first) (recomposedFinished a b .first)) c))
+      edge-told a half-sum half-rest n ∙ sym (ap (λ (p : ℕ). isFinite (value p)) (first-is x y (ap isNaN h) ∙ ap (λ (i : Bool). cond i (halvedSum x y a .first) (recomposedFinished a b .first)) c))
       in
-      order-is
+      order-is (ap isNaN h)
       ∙ ap₂ {C = List Step} (λ (steps : List Step) (i : Bool). add ∷ subtract ∷ subtract ∷ steps ++ cond i (stepsOf (halvedSum x y a .lines)) [])
-      (recomposed-none-steps a b n (none-zero (value b) (b-none x y n))) c
+      (recomposed-none-steps a b n (none-zero (value b) (b-none x y a n))) c
       ∙ ap {B = List Step} (λ (steps : List Step). openingSteps ++ steps) halved-steps
       ∙ ap {B = List Step} (λ (i : Bool). openingSteps ++ halvedSteps ++ cond i edgeSteps []) told
 

@@ -2,6 +2,7 @@
 use mathlib.Core.Path.{_≡_, refl, sym, ap, ap₂, _∙_, subst}
 use mathlib.Core.Logic.{inl, inr}
 use mathlib.Core.Bool.{Bool, true, false, not, cond, Bool·beq, _&&_}
+use mathlib.Core.List.{[], _∷_}
 use Prim.Native.Nat.{ℕ, _+_, _-_, _*_, _^_, _≤_, _<_}
 use native.Mathlib.Nat.{lt-of-le-of-lt}
 use native.Mathlib.Decide.{decLe}
@@ -10,30 +11,37 @@ use borrow.Author.Tests.{le-ltb, ltb-true, ltb-false}
 use Rattle.rounding_spec.specs.declared.Ties.the-variants.{ToEven}
 use Rattle.rounding_spec.specs.Format.{binary32, low, limit}
 use Rattle.rounding_spec.specs.Nearest.{Rep}
-use Rattle.rounding_spec.specs.Value.{Value, nan, infinite, finite, Fits, encode, isFinite, isInfinite, isZero, round}
+use Rattle.rounding_spec.specs.Value.{Value, nan, infinite, finite, Fits, encode, isNaN, nanOf, isFinite, isInfinite, round}
+use Rattle.rounding_spec.proofs.NaN.{nan-is, rounded-number}
 use Rattle.rounding_spec.proofs.NearLaws.{near-le}
 use Rattle.rounding_spec.proofs.RoundValue.{round-below, round-above}
 use Rattle.rounding_spec.proofs.Codec.{decode-fits}
 use Rattle.pattern_spec.specs.Exact.{plus, finer}
-use Rattle.binary32_spec.specs.Steps.{addValue, subValue, mulValue, addStep, subStep, mulStep}
+use Rattle.binary32_spec.specs.Steps.{addValue, subValue, mulValue, result, addStep, subStep, mulStep}
 use Rattle.binary32_spec.proofs.Theorems.{add-decodes, sub-decodes, mul-decodes}
-use Rattle.binary32_spec.proofs.Result.{add-step, sub-step}
+use Rattle.binary32_spec.proofs.Result.{result-number, result-nan, add-step}
 use Rattle.pattern_spec.proofs.Exchanged.{plus-comm}
-use Rattle.pattern_spec.proofs.Sums.{like?, like-eq, like-own, sum-same, sum-left, sum-none}
+use Rattle.pattern_spec.proofs.Sums.{like?, like-eq, like-own, sum-same, sum-left, sum-none, sum-finite}
 use Rattle.errorfree_spec.specs.Comparisons.{lessMagnitude}
 use Rattle.errorfree_spec.proofs.Factors as factors
 use Rattle.errorfree_spec.proofs.Steps.{toEven, even-at}
 use Rattle.errorfree_spec.proofs.FastTwoSum.{add-finite, fast-two-sum}
 use Rattle.errorfree_spec.proofs.Halved.{sum-edge}
 use Rattle.worksheet_spec.specs.Constants.{half}
-use Rattle.worksheet_spec.specs.Lines.{value, isZeroPattern}
-use Rattle.worksheet_spec.specs.Sheets.{recomposedFinished, halvedSum, overflows, sumInOrder, swaps, sumSheet}
+use Rattle.worksheet_spec.specs.Lines.{add, line, Sheet, before, ends, value, isZeroPattern}
+use Rattle.worksheet_spec.specs.Sheets.{recomposedFinished, halvedSum, overflows, sumFrom, sumInOrder, swaps, sumSheet}
 use Rattle.worksheet_spec.proofs.Patterns.{add-width, sub-width}
 use Rattle.worksheet_spec.proofs.Constants.{half-value}
-use Rattle.worksheet_spec.proofs.Foots.{Foots, foots-infinite, foots-nan}
+use Rattle.worksheet_spec.proofs.Foots.{Foots, foots-infinite}
 use Rattle.worksheet_spec.proofs.Blocks.{first-cond, second-cond, recomposed-foot, recomposed-none, edge-foot, edge-none}
 use Rattle.errorfree_spec.proofs.NoNumber as no-number
-use Rattle.errorfree_spec.proofs.NoNumber.{not-both, none-zero, number-of, one-of, both-of, add-left, add-right, sub-left, sub-right, mul-right, sub-nan, nan-sub, add-kept}
+use Rattle.errorfree_spec.proofs.NoNumber.{not-both, none-zero, number-of, one-of, both-of, add-left, add-right, sub-left, sub-right, mul-right, add-kept}
+
+-- a is no number: v and b are none
+pub b-none : (x y a : ℕ) → isFinite (value a) ≡ false → isFinite (value (subStep y (subStep a x))) ≡ false
+b-none x y a h =
+    ap isFinite (sub-decodes y (subStep a x))
+    ∙ sub-right binary32 (value y) (value (subStep a x)) (ap isFinite (sub-decodes a x) ∙ sub-left binary32 (value a) (value x) h)
 
 -- ---- which lines lead to the foot
 module _ (x y : ℕ) where
@@ -46,13 +54,18 @@ module _ (x y : ℕ) where
   abbrev edge : Bool
   edge = overflows (recomposedFinished a b .second) a
 
-  pub first-is : sumInOrder x y .first ≡ cond edge (halvedSum x y a .first) (recomposedFinished a b .first)
+  -- a is no NaN: more lines follow
+  pub goes-on : isNaN (value a) ≡ false → sumInOrder x y ≡ before (line add x y a ∷ []) (sumFrom x y a)
   unfolding sumInOrder
-  first-is = first-cond edge _ _
+  goes-on n = ap (λ (c : Bool). before (line add x y a ∷ []) (cond c (ends a a) (sumFrom x y a))) n
 
-  pub second-is : sumInOrder x y .second ≡ cond edge (halvedSum x y a .second) (recomposedFinished a b .second)
-  unfolding sumInOrder
-  second-is = second-cond edge _ _
+  pub first-is : isNaN (value a) ≡ false → sumInOrder x y .first ≡ cond edge (halvedSum x y a .first) (recomposedFinished a b .first)
+  unfolding sumFrom
+  first-is n = ap (λ (s : Sheet). s .first) (goes-on n) ∙ first-cond edge _ _
+
+  pub second-is : isNaN (value a) ≡ false → sumInOrder x y .second ≡ cond edge (halvedSum x y a .second) (recomposedFinished a b .second)
+  unfolding sumFrom
+  second-is n = ap (λ (s : Sheet). s .second) (goes-on n) ∙ second-cond edge _ _
 
   -- only where a is infinite the edge is asked for
   pub no-edge : isInfinite (value a) ≡ false → edge ≡ false
@@ -63,33 +76,28 @@ module _ (x y : ℕ) where
       never true = refl
       never false = refl
 
-  -- a is not infinite
-  pub plain-foot : (v : Value) → isInfinite (value a) ≡ false → Foots v (recomposedFinished a b) → Foots v (sumInOrder x y)
-  plain-foot v h f =
+  -- a is finite
+  pub plain-foot : (v : Value) → isNaN (value a) ≡ false → isInfinite (value a) ≡ false → Foots v (recomposedFinished a b) → Foots v (sumInOrder x y)
+  plain-foot v n h f =
       let c = no-edge h in (
-        first-is ∙ ap (λ (i : Bool). cond i (halvedSum x y a .first) (recomposedFinished a b .first)) c ∙ f .0,
-        second-is ∙ ap (λ (i : Bool). cond i (halvedSum x y a .second) (recomposedFinished a b .second)) c ∙ f .1,
+        first-is n ∙ ap (λ (i : Bool). cond i (halvedSum x y a .first) (recomposedFinished a b .first)) c ∙ f .0,
+        second-is n ∙ ap (λ (i : Bool). cond i (halvedSum x y a .second) (recomposedFinished a b .second)) c ∙ f .1,
       )
-
-  -- a is no number: v and b are none
-  pub b-none : isFinite (value a) ≡ false → isFinite (value b) ≡ false
-  b-none h =
-      ap isFinite (sub-decodes y (subStep a x))
-      ∙ sub-right binary32 (value y) (value (subStep a x)) (ap isFinite (sub-decodes a x) ∙ sub-left binary32 (value a) (value x) h)
 
   pub asks-edge : (s : Bool) → value a ≡ infinite s → edge ≡ true
   unfolding overflows
   asks-edge s h =
       let n : isFinite (value a) ≡ false = ap isFinite h in
-      let z = none-zero (value b) (b-none n) in
+      let z = none-zero (value b) (b-none x y a n) in
       ap₂ (λ (i j : Bool). not i && j) (ap isZeroPattern (recomposed-none a b n z .1) ∙ z) (ap isInfinite h)
 
   -- a is infinite
   pub infinite-foot : (v : Value) (s : Bool) → value a ≡ infinite s → Foots v (halvedSum x y a) → Foots v (sumInOrder x y)
   infinite-foot v s h f =
+      let n = ap isNaN h in
       let c = asks-edge s h in (
-        first-is ∙ ap (λ (i : Bool). cond i (halvedSum x y a .first) (recomposedFinished a b .first)) c ∙ f .0,
-        second-is ∙ ap (λ (i : Bool). cond i (halvedSum x y a .second) (recomposedFinished a b .second)) c ∙ f .1,
+        first-is n ∙ ap (λ (i : Bool). cond i (halvedSum x y a .first) (recomposedFinished a b .first)) c ∙ f .0,
+        second-is n ∙ ap (λ (i : Bool). cond i (halvedSum x y a .second) (recomposedFinished a b .second)) c ∙ f .1,
       )
 
 -- ---- finite operands, the first of which is not the smaller
@@ -109,7 +117,7 @@ module _ (x y : ℕ) (s t : Bool) (X Y : ℕ) (xi : value x ≡ finite s X) (yi 
       let vi : value (subStep (a x y) x) ≡ subValue binary32 (finite r (A n)) (finite s X) = sub-decodes (a x y) x ∙ ap₂ (subValue binary32) ai xi in
       let bi : value (b x y) ≡ subValue binary32 (finite t Y) (subValue binary32 (finite r (A n)) (finite s X)) = sub-decodes y (subStep (a x y) x) ∙ ap₂ (subValue binary32) yi vi in
       let split = fast-two-sum binary32 X Y xr yr xb le s t r n e fine in
-      plain-foot x y (finite r (n * 2 ^ low binary32)) (ap isInfinite ai)
+      plain-foot x y (finite r (n * 2 ^ low binary32)) (ap isNaN ai) (ap isInfinite ai)
       (recomposed-foot r n (A n) (a x y) (b x y) ai (add-width x y) (sub-width y (subStep (a x y) x)) (rw bi split))
 
   -- a is infinite, and the signs are alike
@@ -155,19 +163,8 @@ module _ (x y : ℕ) (s t : Bool) (X Y : ℕ) (xi : value x ≡ finite s X) (yi 
         ]
       ]
 
--- ---- infinities and NaN
+-- ---- infinities
 module _ (x y : ℕ) where
-  nan-foot : plus (value x) (value y) ≡ nan → Foots nan (sumInOrder x y)
-  nan-foot e =
-      let k = add-kept binary32 (value x) (value y) nan e refl in
-      let v = subStep (a x y) x in
-      let ai : value (a x y) ≡ nan = add-decodes x y ∙ k in
-      let vi : value v ≡ nan = sub-decodes (a x y) x ∙ ap (λ (u : Value). subValue binary32 u (value x)) ai ∙ nan-sub binary32 (value x) in
-      let bs : subValue binary32 (value y) (value v) ≡ nan = ap (subValue binary32 (value y)) vi ∙ sub-nan binary32 (value y) in
-      let bi : value (b x y) ≡ nan = sub-decodes y v ∙ bs in
-      let r = recomposed-none (a x y) (b x y) (ap isFinite ai) (ap isZero bi) in
-      plain-foot x y nan (ap isInfinite ai) (foots-nan (recomposedFinished (a x y) (b x y)) (r .0 ∙ add-step x y ∙ ap (encode binary32) k) (r .1 ∙ sub-step y v ∙ ap (encode binary32) bs))
-
   -- an infinite operand's half is infinite, so that no edge is found
   half-sum-none : isFinite (value x) && isFinite (value y) ≡ false → isFinite (value (addStep (mulStep half x) (mulStep half y))) ≡ false
   half-sum-none n =
@@ -185,27 +182,27 @@ module _ (x y : ℕ) where
       let a' = addStep (mulStep half x) (mulStep half y) in
       let b' = subStep (mulStep half y) (subStep a' (mulStep half x)) in
       let r = edge-none (a x y) a' b' (half-sum-none n) in
-      let p : a x y ≡ encode binary32 (infinite s) = add-step x y ∙ ap (encode binary32) k in
+      let p : a x y ≡ encode binary32 (infinite s) = add-step x y ∙ ap (result binary32 (x ∷ y ∷ [])) k ∙ result-number binary32 (x ∷ y ∷ []) (infinite s) refl in
       infinite-foot x y (infinite s) s ai (foots-infinite s (halvedSum x y (a x y)) (r .0 ∙ p) (r .1 ∙ p))
 
--- ---- all patterns: where the first is not the smaller, and then in any order
+-- ---- all numbers: where the first is not the smaller, and then in any order
 module _ (x y : ℕ) where
-  -- an operand is no number
-  none-foot : isFinite (value x) && isFinite (value y) ≡ false → Foots (finer binary32 (plus (value x) (value y))) (sumInOrder x y)
+  -- an operand is infinite
+  none-foot : isFinite (value x) && isFinite (value y) ≡ false → isNaN (plus (value x) (value y)) ≡ false → Foots (finer binary32 (plus (value x) (value y))) (sumInOrder x y)
   unfolding finer
-  none-foot n = by (plus (value x) (value y)) refl (no-number.sum-none (value x) (value y) n)
+  none-foot n m = by (plus (value x) (value y)) refl (no-number.sum-none (value x) (value y) n) m
     where
-      by : (v : Value) → plus (value x) (value y) ≡ v → isFinite v ≡ false → Foots (finer binary32 v) (sumInOrder x y)
-      by nan e f = nan-foot x y e
-      by (infinite s) e f = infinity-foot x y s e n
-      by (finite s m) e f = not-both f
+      by : (v : Value) → plus (value x) (value y) ≡ v → isFinite v ≡ false → isNaN v ≡ false → Foots (finer binary32 v) (sumInOrder x y)
+      by nan e f m = not-both m
+      by (infinite s) e f m = infinity-foot x y s e n
+      by (finite s k) e f m = not-both f
 
-  in-order : lessMagnitude (value x) (value y) ≡ false → Foots (finer binary32 (plus (value x) (value y))) (sumInOrder x y)
+  in-order : lessMagnitude (value x) (value y) ≡ false → isNaN (plus (value x) (value y)) ≡ false → Foots (finer binary32 (plus (value x) (value y))) (sumInOrder x y)
   unfolding Fits lessMagnitude
-  in-order l = by (isFinite (value x) && isFinite (value y)) refl
+  in-order l m = by (isFinite (value x) && isFinite (value y)) refl
     where
       by : (c : Bool) → isFinite (value x) && isFinite (value y) ≡ c → Foots (finer binary32 (plus (value x) (value y))) (sumInOrder x y)
-      by false n = none-foot n
+      by false n = none-foot n m
       by true n =
           let h = both-of (isFinite (value x)) (isFinite (value y)) n in
           let p = number-of (value x) (h .0) in
@@ -223,10 +220,77 @@ not-less (finite s m) nan h = refl
 not-less (finite s m) (infinite t) h = refl
 not-less (finite s m) (finite t n) h = let l = ltb-true m n h in le-ltb n m (omega arith)
 
-pub sum-foot : (x y : ℕ) → Foots (finer binary32 (plus (value x) (value y))) (sumSheet x y)
+-- a value in units of u is NaN where it was
+finer-nan : (v : Value) → isNaN (finer binary32 v) ≡ isNaN v
+unfolding finer
+finer-nan nan = refl
+finer-nan (infinite s) = refl
+finer-nan (finite s a) = refl
+
+pub sum-foot : (x y : ℕ) → isNaN (finer binary32 (plus (value x) (value y))) ≡ false → Foots (finer binary32 (plus (value x) (value y))) (sumSheet x y)
 unfolding sumSheet swaps
-sum-foot x y = by (swaps x y) refl
+sum-foot x y n = by (swaps x y) refl
   where
+    m : isNaN (plus (value x) (value y)) ≡ false
+    m = sym (finer-nan (plus (value x) (value y))) ∙ n
+
     by : (c : Bool) → swaps x y ≡ c → Foots (finer binary32 (plus (value x) (value y))) (cond c (sumInOrder y x) (sumInOrder x y))
-    by true l = subst (λ (v : Value). Foots (finer binary32 v) (sumInOrder y x)) (plus-comm (value x) (value y)) (in-order y x (not-less (value x) (value y) l))
-    by false l = in-order x y l
+    by true l =
+        subst (λ (v : Value). Foots (finer binary32 v) (sumInOrder y x)) (plus-comm (value x) (value y))
+        (in-order y x (not-less (value x) (value y) l) (ap isNaN (plus-comm (value x) (value y)) ∙ m))
+    by false l = in-order x y l m
+
+-- ---- NaN
+-- what is less than another value has no NaN sum with it
+less-number : (v w : Value) → lessMagnitude v w ≡ true → isNaN (plus v w) ≡ false
+unfolding lessMagnitude plus
+less-number nan w h = not-both (sym h)
+less-number (infinite s) w h = not-both (sym h)
+less-number (finite s m) nan h = not-both (sym h)
+less-number (finite s m) (infinite t) h = refl
+less-number (finite s m) (finite t n) h = ap isNaN (sum-finite s m t n .2)
+
+-- no exchange is due before a NaN sum
+in-place : (x y : ℕ) → isNaN (plus (value x) (value y)) ≡ true → swaps x y ≡ false
+unfolding swaps
+in-place x y n = by (lessMagnitude (value x) (value y)) refl
+  where
+    by : (c : Bool) → lessMagnitude (value x) (value y) ≡ c → c ≡ false
+    by true l = not-both (sym n ∙ less-number (value x) (value y) l)
+    by false l = refl
+
+-- its sheet is one line, whose result stands twice
+nan-sheet : (x y : ℕ) → isNaN (plus (value x) (value y)) ≡ true → value (addStep x y) ≡ nan
+    → sumSheet x y ≡ before (line add x y (addStep x y) ∷ []) (ends (addStep x y) (addStep x y))
+unfolding sumSheet sumInOrder
+nan-sheet x y n e =
+    let a = addStep x y in
+    ap (λ (c : Bool). cond c (sumInOrder y x) (sumInOrder x y)) (in-place x y n)
+    ∙ ap (λ (c : Bool). before (line add x y a ∷ []) (cond c (ends a a) (sumFrom x y a))) (ap isNaN e)
+
+-- only a NaN sum is rounded to one
+rounded-nan : (v : Value) → isNaN (round ToEven binary32 (finer binary32 v)) ≡ isNaN v
+unfolding finer round
+rounded-nan nan = refl
+rounded-nan (infinite s) = refl
+rounded-nan (finite s a) = rounded-number ToEven binary32 s (a * 2 ^ low binary32)
+
+pub sum-ends : (x y : ℕ) → value (addStep x y) ≡ nan → sumSheet x y ≡ before (line add x y (addStep x y) ∷ []) (ends (addStep x y) (addStep x y))
+unfolding addValue
+sum-ends x y e = nan-sheet x y (sym (rounded-nan (plus (value x) (value y))) ∙ ap isNaN (sym (add-decodes x y) ∙ e)) e
+
+pub sum-nan : (x y : ℕ) → finer binary32 (plus (value x) (value y)) ≡ nan
+    → (sumSheet x y .first ≡ nanOf binary32 (x ∷ y ∷ [])) × (sumSheet x y .second ≡ nanOf binary32 (x ∷ y ∷ []))
+sum-nan x y e = (ap (λ (s : Sheet). s .first) same ∙ is, ap (λ (s : Sheet). s .second) same ∙ is)
+  where
+    n : isNaN (plus (value x) (value y)) ≡ true
+    n = sym (finer-nan (plus (value x) (value y))) ∙ ap isNaN e
+
+    k : addValue binary32 (value x) (value y) ≡ nan
+    k = add-kept binary32 (value x) (value y) nan (nan-is (plus (value x) (value y)) n) refl
+
+    is : addStep x y ≡ nanOf binary32 (x ∷ y ∷ [])
+    is = add-step x y ∙ ap (result binary32 (x ∷ y ∷ [])) k ∙ result-nan binary32 (x ∷ y ∷ [])
+
+    same : sumSheet x y ≡ before (line add x y (addStep x y) ∷ []) (ends (addStep x y) (addStep x y))
+    same = nan-sheet x y n (add-decodes x y ∙ k)

@@ -17,12 +17,14 @@ use Rattle.worksheet_spec.specs.Lines.{mostLines, Step, add, subtract, m
 use Rattle.worksheet_spec.specs.Sheets.{sumInOrder, swaps, sumSheet, productSheet, sheetOf}
 use Rattle.worksheet_spec.specs.Filling.{filling}
 use Rattle.worksheet_spec.specs.Theorems.{positivePattern, ConstantPatterns, StepNumbers, EachLine, Derived, FirstLine, stepsOf, recompositionSteps, finishStep, edgeSteps, openingSteps}
-use Rattle.worksheet_spec.specs.Theorems.{halvedSteps, sumSteps, tinySteps, middleSteps, ProductSteps, InOrder, LineCount}
-use Rattle.worksheet_spec.specs.Theorems.{FootIsPair, PrintedSheet, SheetSizes, FillingRefused, SheetFilled, FillsMeans, FilledPair, All}
+use Rattle.worksheet_spec.specs.Theorems.{halvedSteps, sumSteps, tinySteps, middleSteps, ProductSteps, InOrder, EndsAtNaN, SmallestTimesInfinity, LineCount}
+use Rattle.worksheet_spec.specs.Theorems.{GivesMeans, InfiniteLines, FootIsPair, PrintedSheet, SheetSizes, FillingRefused, SheetFilled, FillsMeans, FilledPair, All}
 use Rattle.worksheet_spec.proofs.Patterns.{Pattern, pattern-of}
 use Rattle.worksheet_spec.proofs.Computed as computed
 use Rattle.worksheet_spec.proofs.EachLine as lines
 use Rattle.worksheet_spec.proofs.Derived as derivation
+use Rattle.worksheet_spec.proofs.NaNLines as not-a-number
+use Rattle.worksheet_spec.proofs.InfiniteLines as infinite
 use Rattle.worksheet_spec.proofs.FootIsPair as feet
 use Rattle.worksheet_spec.proofs.Filling as answers
 use Rattle.worksheet_spec.proofs.SumSteps.{sum-steps}
@@ -56,6 +58,9 @@ pub step-numbers : StepNumbers
 step-numbers = (refl, refl, refl, refl)
 
 -- ---- the lines
+pub gives-means : GivesMeans
+gives-means x y z r = (λ g. g, λ g. g, λ g. g, λ g. g)
+
 pub each-line : EachLine
 each-line = lines.each-line
 
@@ -74,6 +79,15 @@ first-line =
 pub in-order : InOrder
 unfolding sheetOf
 in-order = (sum-steps, product-steps)
+
+pub ends-at-nan : EndsAtNaN
+ends-at-nan = not-a-number.ends-at-nan
+
+pub infinite-lines : InfiniteLines
+infinite-lines = infinite.infinite-lines
+
+pub smallest-times-infinity : SmallestTimesInfinity
+smallest-times-infinity = not-a-number.smallest-times-infinity
 
 -- ---- how many there are
 counted : (ls : List Line) → length ls ≡ length (stepsOf ls)
@@ -167,4 +181,23 @@ pub filled-pair : FilledPair
 filled-pair = answers.filled-pair
 
 pub all : All
-all = (constant-patterns, step-numbers, each-line, derived, first-line, in-order, line-count, foot-is-pair, printed-sheet, sheet-sizes, filling-refused, sheet-filled, fills-means, filled-pair)
+all = (
+  constant-patterns,
+  step-numbers,
+  gives-means,
+  each-line,
+  derived,
+  first-line,
+  in-order,
+  ends-at-nan,
+  infinite-lines,
+  smallest-times-infinity,
+  line-count,
+  foot-is-pair,
+  printed-sheet,
+  sheet-sizes,
+  filling-refused,
+  sheet-filled,
+  fills-means,
+  filled-pair,
+)

@@ -5,7 +5,7 @@ use Prim.Native.Nat.{ℕ, _^_}
 use mathlib.Core.Bool.{Bool, not, cond, _&&_}
 use mathlib.Core.List.{[], _∷_}
 use lib.Dec.{ltb, leb, eqb}
-use Rattle.rounding_spec.specs.Value.{Value, nan, infinite, finite, isInfinite}
+use Rattle.rounding_spec.specs.Value.{Value, nan, infinite, finite, isNaN, isInfinite}
 use Rattle.binary32_spec.specs.Steps.{addStep, subStep, mulStep, fmaStep}
 use Rattle.augmented_spec.specs.Direct.{Operation, sum, difference, product}
 use Rattle.errorfree_spec.specs.Comparisons.{lessMagnitude}
@@ -59,19 +59,22 @@ halvedSum x y a =
     before (line multiply half x x' ∷ line multiply half y y' ∷ line add x' y' a' ∷ line subtract a' x' v' ∷ line subtract y' v' b' ∷ [])
     (edgeFinish a a' b')
 
--- where it is made (R5.11): a is infinite and second not zero; a NaN is not zero, so that an infinite operand leads here too
+-- where it is made (R5.11): a is infinite and second not zero; a NaN second is not zero, so that an infinite operand leads here too
 unfoldable pub overflows : ℕ → ℕ → Bool
 overflows second a = not (isZeroPattern second) && isInfinite (value a)
 
--- a sum and its error, recomposition and zero finish (R5.10), and what may follow (R5.11)
-unfoldable pub sumInOrder : ℕ → ℕ → Sheet
-sumInOrder x y =
-    let a = addStep x y in
+-- behind the line of a its error, recomposition and zero finish (R5.10), and what may follow (R5.11)
+unfoldable pub sumFrom : ℕ → ℕ → ℕ → Sheet
+sumFrom x y a =
     let v = subStep a x in
     let b = subStep y v in
     let r = recomposedFinished a b in
-    before (line add x y a ∷ line subtract a x v ∷ line subtract y v b ∷ r .lines)
+    before (line subtract a x v ∷ line subtract y v b ∷ r .lines)
     (cond (overflows (r .second) a) (halvedSum x y a) (ends (r .first) (r .second)))
+
+-- the line of a, and nothing else where it is NaN (R5.23)
+unfoldable pub sumInOrder : ℕ → ℕ → Sheet
+sumInOrder x y = let a = addStep x y in before (line add x y a ∷ []) (cond (isNaN (value a)) (ends a a) (sumFrom x y a))
 
 -- x and y change places where |y| > |x| (R5.9)
 unfoldable pub swaps : ℕ → ℕ → Bool
@@ -80,7 +83,7 @@ swaps x y = lessMagnitude (value x) (value y)
 unfoldable pub sumSheet : ℕ → ℕ → Sheet
 sumSheet x y = cond (swaps x y) (sumInOrder y x) (sumInOrder x y)
 
--- ---- products: one line, and by its value one of five branches (R5.12)
+-- ---- products: one line, and by its value one of six branches (R5.12)
 -- a is infinite (R5.13): with half of x, and the edge
 unfoldable pub infiniteProduct : ℕ → ℕ → ℕ → Sheet
 infiniteProduct x y a =
@@ -146,27 +149,30 @@ middleProduct x y =
     before (line multiply twoTo24 x m ∷ line multiply m y a' ∷ fusedLine m y (minus a') b' ∷ r .lines)
     (scaledDown (r .first) (r .second))
 
--- any other a, NaN among them (R5.19); of a NaN a the sign bit is flipped too
+-- any other number (R5.19)
 unfoldable pub otherProduct : ℕ → ℕ → ℕ → Sheet
 otherProduct x y a =
     let b = fmaStep x y (minus a) in
     before (fusedLine x y (minus a) b ∷ []) (recomposedFinished a b)
 
--- the five branches (R5.12)
+-- the six branches (R5.12)
 pub data Branch : Type 0 where
+  whenNaN : Branch
   whenInfinite : Branch
   whenZero : Branch
   whenTiny : Branch
   whenMiddle : Branch
   otherwise : Branch
 
--- Magnitudes count u: 2^-125 is 2 ^ 24 of them, and 2^-102 is 2 ^ 47. A NaN goes by the last branch.
+-- Magnitudes count u: 2^-125 is 2 ^ 24 of them, and 2^-102 is 2 ^ 47.
 unfoldable pub branchOf : Value → Branch
-branchOf nan = otherwise
+branchOf nan = whenNaN
 branchOf (infinite s) = whenInfinite
 branchOf (finite s a) = cond (eqb a 0) whenZero (cond (ltb a (2 ^ 24)) whenTiny (cond (leb a (2 ^ 47)) whenMiddle otherwise))
 
 unfoldable pub productBy : Branch → ℕ → ℕ → ℕ → Sheet
+-- both halves are a, without a line (R5.23)
+productBy whenNaN x y a = ends a a
 productBy whenInfinite x y a = infiniteProduct x y a
 -- both halves are a, without a line (R5.14)
 productBy whenZero x y a = ends a a

@@ -1,20 +1,20 @@
 -- What is proved of step sheets. `All`, at the end, lists the statements, and `proofs/Theorems.antt` proves them.
 use mathlib.Core.Path.{_≡_}
 use mathlib.Core.Logic.{_⊎_}
-use mathlib.Core.Bool.{true, false, cond}
+use mathlib.Core.Bool.{Bool, true, false, cond}
 use mathlib.Core.List.{List, [], _∷_, _++_}
 use Prim.Native.Nat.{ℕ, _-_, _*_, _^_, _≤_, _<_}
 use lib.ListN.{length, take, drop, replicate}
 use Rattle.pattern_spec.specs.Answer.{Answer, refused}
 use Rattle.rounding_spec.specs.Format.{binary32}
 use Rattle.rounding_spec.specs.Value.{Value, nan, infinite, finite, isFinite, encode}
-use Rattle.binary32_spec.specs.Steps.{addStep, mulStep}
+use Rattle.binary32_spec.specs.Steps.{addStep, subStep, mulStep, fmaStep}
 use Rattle.augmented_spec.specs.Direct.{Operation, sum, difference, product, directPair, operationNumber}
 use Rattle.errorfree_spec.specs.Comparisons.{lessMagnitude}
 use Rattle.worksheet_spec.specs.Constants.{psi, two, minusTwo, half, kappa, twoTo24, twoTo48, twoToMinus24, plusZero, smallest}
 use Rattle.worksheet_spec.specs.Constants.{twoTo127, twoTo102, twoToMinus102, twoToMinus126}
 use Rattle.worksheet_spec.specs.Lines.{lineSize, mostLines, sheetSize, Step, add, subtract, multiply, fused, stepNumber}
-use Rattle.worksheet_spec.specs.Lines.{Line, line, Gives, before, ends, value, minus, equal, isZeroPattern}
+use Rattle.worksheet_spec.specs.Lines.{Line, line, fusedLine, Gives, before, ends, value, minus, equal, isZeroPattern}
 use Rattle.worksheet_spec.specs.Sheets.{sheetOf}
 use Rattle.worksheet_spec.specs.Filling.{FilledSheet, filled, filling, afterFilling, HasDirectPair, Fills}
 
@@ -41,6 +41,13 @@ abbrev pub StepNumbers : Type 0
 StepNumbers = (stepNumber add ≡ 1) × (stepNumber subtract ≡ 2) × (stepNumber multiply ≡ 3) × (stepNumber fused ≡ 4)
 
 -- ---- each line by itself: its result is the step's on its operands (R7.3)
+-- what it is to be given by a step, NaN too; an unused third operand is 0 (R5.22)
+abbrev pub GivesMeans : Type 0
+GivesMeans =
+    (x y z r : ℕ)
+    → (Gives add x y z r → (r ≡ addStep x y) × (z ≡ 0)) × (Gives subtract x y z r → (r ≡ subStep x y) × (z ≡ 0))
+    × (Gives multiply x y z r → (r ≡ mulStep x y) × (z ≡ 0)) × (Gives fused x y z r → r ≡ fmaStep x y z)
+
 unfoldable pub Each : List Line → Type 0
 Each [] = Unit {0}
 Each (l ∷ ls) = Gives (l .step) (l .x) (l .y) (l .z) (l .result) × Each ls
@@ -106,16 +113,16 @@ finishStep = multiply ∷ []
 abbrev pub edgeSteps : List Step
 edgeSteps = multiply ∷ multiply ∷ []
 
--- of every sum (R5.10), and of half the operands (R5.11)
+-- of a sum that is no NaN (R5.10), and of half the operands (R5.11)
 abbrev pub openingSteps : List Step
 openingSteps = add ∷ subtract ∷ subtract ∷ recompositionSteps
 
 abbrev pub halvedSteps : List Step
 halvedSteps = multiply ∷ multiply ∷ add ∷ subtract ∷ subtract ∷ []
 
--- of a sum, by the value of a and the foot's halves: 6 or 7 lines, 6 where a is NaN, 11 or 13 where it is infinite
+-- of a sum, by the value of a and the foot's halves: one line where a is NaN, 6 or 7 where it is finite, 11 or 13 where it is infinite
 abbrev pub sumSteps : Value → ℕ → ℕ → List Step
-sumSteps nan first second = openingSteps
+sumSteps nan first second = add ∷ []
 sumSteps (finite s m) first second = openingSteps ++ cond (isZeroPattern second) finishStep []
 sumSteps (infinite s) first second = openingSteps ++ halvedSteps ++ cond (isFinite (value first)) edgeSteps []
 
@@ -126,10 +133,11 @@ tinySteps = multiply ∷ multiply ∷ multiply ∷ fused ∷ multiply ∷ subtra
 abbrev pub middleSteps : List Step
 middleSteps = multiply ∷ multiply ∷ fused ∷ recompositionSteps ++ (multiply ∷ multiply ∷ multiply ∷ subtract ∷ [])
 
--- Of a product: 4 or 6 lines where a is infinite; else by its magnitude, which counts u, 1, 10 or 11, 11 or 12, 5 or 6. 2^-125 is 2 ^ 24 u,
--- and 2^-102 is 2 ^ 47 u. In the third branch a zero second has the line of zero finish, and any other may have that of a correction.
+-- Of a product: one line where a is NaN, 4 or 6 where it is infinite; else by its magnitude, which counts u, 1, 10 or 11, 11 or 12, 5 or 6.
+-- 2^-125 is 2 ^ 24 u, and 2^-102 is 2 ^ 47 u. From the one to the other a zero second has the line of zero finish, and any other may have
+-- that of a correction.
 abbrev pub ProductSteps : ℕ → Value → ℕ → ℕ → List Step → Type 0
-ProductSteps a nan first second steps = steps ≡ multiply ∷ fused ∷ recompositionSteps
+ProductSteps a nan first second steps = steps ≡ multiply ∷ []
 ProductSteps a (infinite s) first second steps =
     steps ≡ multiply ∷ multiply ∷ multiply ∷ fused ∷ cond (isFinite (value first)) edgeSteps []
 ProductSteps a (finite s m) first second steps =
@@ -146,7 +154,58 @@ InOrder =
     × ((x y : ℕ) → let s = sheetOf product x y in
     ProductSteps (mulStep x y) (value (mulStep x y)) (s .first) (s .second) (stepsOf (s .lines)))
 
--- at most `mostLines` (R5.21), and at least one
+-- ---- NaN
+-- R5.23: a NaN line 1 is the only line, with the operands in the question's order, and its result is the foot, twice
+abbrev pub EndsAtNaN : Type 0
+EndsAtNaN =
+    ((x y : ℕ) → let a = addStep x y in value a ≡ nan → sheetOf sum x y ≡ before (line add x y a ∷ []) (ends a a))
+    × ((x y : ℕ) → let a = addStep x (minus y) in value a ≡ nan
+    → sheetOf difference x y ≡ before (line add x (minus y) a ∷ []) (ends a a))
+    × ((x y : ℕ) → let a = mulStep x y in value a ≡ nan → sheetOf product x y ≡ before (line multiply x y a ∷ []) (ends a a))
+
+-- An infinite line 1 leads to NaN on later ones. All of them, but for the edge's two (R5.7): of a sum whose x is not the smaller one these
+-- eleven (R5.10, R5.11), of a product these four (R5.13).
+abbrev pub infiniteSumLines : ℕ → ℕ → List Line
+infiniteSumLines x y =
+    let a = addStep x y in
+    let v = subStep a x in
+    let b = subStep y v in
+    let z = mulStep psi a in
+    let x' = mulStep half x in
+    let y' = mulStep half y in
+    let a' = addStep x' y' in
+    let v' = subStep a' x' in
+    line add x y a ∷ line subtract a x v ∷ line subtract y v b
+    ∷ line multiply psi a z ∷ line subtract z a (subStep z a) ∷ line multiply two b (mulStep two b)
+    ∷ line multiply half x x' ∷ line multiply half y y'
+    ∷ line add x' y' a' ∷ line subtract a' x' v' ∷ line subtract y' v' (subStep y' v') ∷ []
+
+abbrev pub infiniteProductLines : ℕ → ℕ → List Line
+infiniteProductLines x y =
+    let h = mulStep half x in
+    let a' = mulStep h y in
+    line multiply x y (mulStep x y) ∷ line multiply half x h ∷ line multiply h y a'
+    ∷ fusedLine h y (minus a') (fmaStep h y (minus a')) ∷ []
+
+abbrev pub InfiniteLines : Type 0
+InfiniteLines =
+    ((x y : ℕ) (s : Bool) → value (addStep x y) ≡ infinite s
+    → (lessMagnitude (value x) (value y) ≡ false → take 11 (sheetOf sum x y .lines) ≡ infiniteSumLines x y)
+    × (lessMagnitude (value y) (value x) ≡ true → take 11 (sheetOf sum y x .lines) ≡ infiniteSumLines x y))
+    × ((x y : ℕ) (s : Bool) → value (mulStep x y) ≡ infinite s → take 4 (sheetOf product x y .lines) ≡ infiniteProductLines x y)
+
+-- on later lines a NaN operand stands on line 4 of u or -u times an infinity, with its sign flipped (R5.3), and is the result there
+abbrev pub SmallestTimesInfinity : Type 0
+SmallestTimesInfinity =
+    (x y : ℕ) (t : Bool) → (x ≡ smallest) ⊎ (x ≡ minus smallest) → value y ≡ infinite t
+    → let a = mulStep x y in
+    let h = mulStep half x in
+    sheetOf product x y
+    ≡ before
+    (line multiply x y a ∷ line multiply half x h ∷ line multiply h y 0x7fc0_0000 ∷ fusedLine h y 0xffc0_0000 0xffc0_0000 ∷ [])
+    (ends a a)
+
+-- ---- at most `mostLines` (R5.21), and at least one
 abbrev pub LineCount : Type 0
 LineCount = (o : Operation) (x y : ℕ) → (1 ≤ length (sheetOf o x y .lines)) × (length (sheetOf o x y .lines) ≤ mostLines)
 
@@ -212,5 +271,5 @@ FilledPair = (o x y : ℕ) (words : List ℕ) → HasDirectPair o x y (filling o
 -- ---- all of them
 abbrev pub All : Type 0
 All =
-    ConstantPatterns × StepNumbers × EachLine × Derived × FirstLine × InOrder × LineCount × FootIsPair × PrintedSheet
-    × SheetSizes × FillingRefused × SheetFilled × FillsMeans × FilledPair
+    ConstantPatterns × StepNumbers × GivesMeans × EachLine × Derived × FirstLine × InOrder × EndsAtNaN × InfiniteLines
+    × SmallestTimesInfinity × LineCount × FootIsPair × PrintedSheet × SheetSizes × FillingRefused × SheetFilled × FillsMeans × FilledPair

@@ -1,15 +1,15 @@
 -- Which branch the tests on a product's first line tell.
 use Prim.Native.Nat.{ℕ, _^_, _≤_, _<_}
 use mathlib.Core.Path.{_≡_, refl, sym, ap, ap₂, _∙_}
-use mathlib.Core.Logic.{_⊎_, inl, inr}
 use mathlib.Core.Bool.{Bool, true, false, cond}
 use borrow.Author.Tests.{ltb-false, leb-true, leb-false}
 use Rattle.rounding_spec.specs.Format.{binary32}
-use Rattle.rounding_spec.specs.Value.{Value, nan, infinite, finite, decode, isZero, isInfinite}
+use Rattle.rounding_spec.specs.Value.{Value, nan, infinite, finite, decode, isNaN, isInfinite, isFinite, isZero}
 use Rattle.errorfree_spec.specs.Comparisons.{lessMagnitude}
-use Rattle.errorfree_spec.proofs.NoNumber.{not-both}
-use Rattle.worksheet_spec.specs.Sheets.{Branch, whenInfinite, whenZero, whenTiny, whenMiddle, otherwise, branchOf}
+use Rattle.errorfree_spec.proofs.NoNumber.{not-both, none-zero}
+use Rattle.worksheet_spec.specs.Sheets.{Branch, whenNaN, whenInfinite, whenZero, whenTiny, whenMiddle, otherwise, branchOf}
 use Rattle.worksheet_table.specs.Programs.{notAbove}
+use Rattle.worksheet_table.proofs.Alone.{nan-alone, infinite-alone, finite-by}
 
 -- ---- the two bounds
 abbrev pub low : Value
@@ -28,7 +28,8 @@ high-is = refl
 
 -- the branch of v by tests, with l and h for the bounds
 abbrev tests : Value → Value → Value → Branch
-tests l h v = cond (isInfinite v) whenInfinite (cond (isZero v) whenZero (cond (lessMagnitude v l) whenTiny (cond (notAbove v h) whenMiddle otherwise)))
+tests l h v =
+    cond (isNaN v) whenNaN (cond (isInfinite v) whenInfinite (cond (isZero v) whenZero (cond (lessMagnitude v l) whenTiny (cond (notAbove v h) whenMiddle otherwise))))
 
 by-tests : (v : Value) → branchOf v ≡ tests (finite false (2 ^ 24)) (finite false (2 ^ 47)) v
 unfolding branchOf lessMagnitude notAbove
@@ -36,53 +37,50 @@ by-tests nan = refl
 by-tests (infinite s) = refl
 by-tests (finite s a) = refl
 
+-- ---- no test of a magnitude passes of what is not finite
+none-below : (v w : Value) → isFinite v ≡ false → lessMagnitude v w ≡ false
+unfolding lessMagnitude
+none-below nan w h = refl
+none-below (infinite s) w h = refl
+none-below (finite s a) w h = not-both h
+
+none-up-to : (v : Value) (t : Bool) (m : ℕ) → isFinite v ≡ false → notAbove v (finite t m) ≡ false
+unfolding notAbove
+none-up-to nan t m h = refl
+none-up-to (infinite s) t m h = refl
+none-up-to (finite s a) t m h = not-both h
+
+none-passes : (v : Value) → isFinite v ≡ false → (isZero v ≡ false) × (lessMagnitude v low ≡ false) × (notAbove v high ≡ false)
+none-passes v n = (none-zero v n, none-below v low n, ap (notAbove v) high-is ∙ none-up-to v false (2 ^ 47) n)
+
 module _ (v : Value) where
   branch-is : branchOf v ≡ tests low high v
   branch-is = by-tests v ∙ ap₂ (λ (l h : Value). tests l h v) (sym low-is) (sym high-is)
 
+  pub nan-branch : isNaN v ≡ true → branchOf v ≡ whenNaN
+  nan-branch h = branch-is ∙ rw h refl
+
   pub infinite-branch : isInfinite v ≡ true → branchOf v ≡ whenInfinite
-  infinite-branch h = branch-is ∙ rw h refl
+  infinite-branch h = branch-is ∙ rw (infinite-alone v h .0, h) refl
 
-  not-infinite : (c : Bool) → c ≡ true → (isInfinite v ≡ true → c ≡ false) → isInfinite v ≡ false
-  not-infinite c h k = by (isInfinite v) refl
-    where
-      by : (i : Bool) → isInfinite v ≡ i → isInfinite v ≡ false
-      by true e = not-both (sym h ∙ k e)
-      by false e = e
-
-zero-number : (v : Value) → isInfinite v ≡ true → isZero v ≡ false
-zero-number nan h = not-both (sym h)
-zero-number (infinite s) h = refl
-zero-number (finite s a) h = not-both (sym h)
-
-below-number : (v w : Value) → isInfinite v ≡ true → lessMagnitude v w ≡ false
-unfolding lessMagnitude
-below-number nan w h = not-both (sym h)
-below-number (infinite s) w h = refl
-below-number (finite s a) w h = not-both (sym h)
-
-up-to-number : (v : Value) (t : Bool) (m : ℕ) → isInfinite v ≡ true → notAbove v (finite t m) ≡ false
-unfolding notAbove
-up-to-number nan t m h = not-both (sym h)
-up-to-number (infinite s) t m h = refl
-up-to-number (finite s a) t m h = not-both (sym h)
-
-module _ (v : Value) where
   pub zero-branch : isZero v ≡ true → branchOf v ≡ whenZero
-  zero-branch h = branch-is v ∙ rw (not-infinite v (isZero v) h (zero-number v), h) refl
+  zero-branch h = let f = finite-by v (isZero v) h (λ n. none-passes v n .0) in branch-is ∙ rw (f .0, f .1, h) refl
 
   pub tiny-branch : isZero v ≡ false → lessMagnitude v low ≡ true → branchOf v ≡ whenTiny
-  tiny-branch z h = branch-is v ∙ rw (not-infinite v (lessMagnitude v low) h (below-number v low), z, h) refl
+  tiny-branch z h = let f = finite-by v (lessMagnitude v low) h (λ n. none-passes v n .1) in branch-is ∙ rw (f .0, f .1, z, h) refl
 
   pub middle-branch : isZero v ≡ false → lessMagnitude v low ≡ false → notAbove v high ≡ true → branchOf v ≡ whenMiddle
-  middle-branch z l h = branch-is v ∙ rw (not-infinite v (notAbove v high) h (λ i. ap (notAbove v) high-is ∙ up-to-number v false (2 ^ 47) i), z, l, h) refl
+  middle-branch z l h = let f = finite-by v (notAbove v high) h (λ n. none-passes v n .2) in branch-is ∙ rw (f .0, f .1, z, l, h) refl
 
-  pub other-branch : isInfinite v ≡ false → isZero v ≡ false → lessMagnitude v low ≡ false → notAbove v high ≡ false → branchOf v ≡ otherwise
-  other-branch i z l h = branch-is v ∙ rw (i, z, l, h) refl
+  pub other-branch : isNaN v ≡ false → isInfinite v ≡ false → isZero v ≡ false → lessMagnitude v low ≡ false → notAbove v high ≡ false → branchOf v ≡ otherwise
+  other-branch n i z l h = branch-is ∙ rw (n, i, z, l, h) refl
 
--- an infinite product is in no other branch
-pub infinite-alone : (v : Value) → isInfinite v ≡ true → (isZero v ≡ false) × (lessMagnitude v low ≡ false) × (notAbove v high ≡ false)
-infinite-alone v i = (zero-number v i, below-number v low i, ap (notAbove v) high-is ∙ up-to-number v false (2 ^ 47) i)
+  -- ---- what is NaN or infinite is in no other branch
+  pub nan-elsewhere : isNaN v ≡ true → (isInfinite v ≡ false) × (isZero v ≡ false) × (lessMagnitude v low ≡ false) × (notAbove v high ≡ false)
+  nan-elsewhere h = let k = nan-alone v h in let n = none-passes v (k .1) in (k .0, n .0, n .1, n .2)
+
+  pub infinite-elsewhere : isInfinite v ≡ true → (isZero v ≡ false) × (lessMagnitude v low ≡ false) × (notAbove v high ≡ false)
+  infinite-elsewhere h = none-passes v (infinite-alone v h .1)
 
 -- ---- the numbers of the last two branches
 pub middle-number : (v : Value) → lessMagnitude v low ≡ false → notAbove v high ≡ true → (s : Bool) × (m : ℕ) × (v ≡ finite s m) × (2 ^ 24 ≤ m) × (m ≤ 2 ^ 47)
@@ -93,10 +91,10 @@ middle-number v l h = by v (sym (ap (lessMagnitude v) low-is) ∙ l) (sym (ap (n
     by (infinite s) l h = unfold notAbove in not-both (sym h)
     by (finite s m) l h = unfold notAbove lessMagnitude in (s, m, refl, ltb-false m (2 ^ 24) l, leb-true m (2 ^ 47) h)
 
-pub other-number : (v : Value) → isInfinite v ≡ false → notAbove v high ≡ false → (v ≡ nan) ⊎ ((s : Bool) × (m : ℕ) × (v ≡ finite s m) × (2 ^ 47 < m))
-other-number v i h = by v i (sym (ap (notAbove v) high-is) ∙ h)
+pub other-number : (v : Value) → isNaN v ≡ false → isInfinite v ≡ false → notAbove v high ≡ false → (s : Bool) × (m : ℕ) × (v ≡ finite s m) × (2 ^ 47 < m)
+other-number v n i h = by v n i (sym (ap (notAbove v) high-is) ∙ h)
   where
-    by : (v : Value) → isInfinite v ≡ false → notAbove v (finite false (2 ^ 47)) ≡ false → (v ≡ nan) ⊎ ((s : Bool) × (m : ℕ) × (v ≡ finite s m) × (2 ^ 47 < m))
-    by nan i h = inl refl
-    by (infinite s) i h = not-both i
-    by (finite s m) i h = unfold notAbove in inr (s, m, refl, leb-false m (2 ^ 47) h)
+    by : (v : Value) → isNaN v ≡ false → isInfinite v ≡ false → notAbove v (finite false (2 ^ 47)) ≡ false → (s : Bool) × (m : ℕ) × (v ≡ finite s m) × (2 ^ 47 < m)
+    by nan n i h = not-both n
+    by (infinite s) n i h = not-both i
+    by (finite s m) n i h = unfold notAbove in (s, m, refl, leb-false m (2 ^ 47) h)

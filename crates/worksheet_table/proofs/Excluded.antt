@@ -1,7 +1,6 @@
 -- What cannot occur in a product's last two branches.
 use Prim.Native.Nat.{ℕ, _*_, _^_, _≤_, _<_}
-use mathlib.Core.Path.{_≡_, sym, ap, ap₂, _∙_}
-use mathlib.Core.Logic.{inl, inr}
+use mathlib.Core.Path.{_≡_, ap, ap₂, _∙_}
 use mathlib.Core.Bool.{Bool, true, false, not}
 use native.Mathlib.Nat.{le-trans, le-of-eq, le-of-mul-le-mul-right, mul-le-mul-right, mul-right-comm}
 use native.Mathlib.Omega.{arith}
@@ -10,14 +9,13 @@ use lib.Ieee.{unlike}
 use lib.Pow.{pow-pos}
 use Rattle.rounding_spec.specs.Format.{binary32, limit}
 use Rattle.rounding_spec.specs.Nearest.{Rep}
-use Rattle.rounding_spec.specs.Value.{Value, finite, isFinite, isZero, isInfinite}
+use Rattle.rounding_spec.specs.Value.{Value, finite, isNaN, isInfinite, isZero}
 use Rattle.rounding_spec.proofs.NearLaws.{near-ge}
 use Rattle.pattern_spec.specs.Exact.{negate}
 use Rattle.binary32_spec.specs.Steps.{mulValue, fmaValue, subStep, mulStep, fmaStep}
 use Rattle.binary32_spec.proofs.Theorems.{mul-decodes, fma-decodes}
 use Rattle.errorfree_spec.specs.Comparisons.{lessMagnitude}
 use Rattle.errorfree_spec.proofs.Middle.{middle-split}
-use Rattle.errorfree_spec.proofs.NoNumber.{not-both}
 use Rattle.errorfree_spec.proofs.Powers.{pow-above}
 use Rattle.errorfree_spec.proofs.ProductSplit.{whole, product-split}
 use Rattle.errorfree_spec.proofs.Split.{Split}
@@ -27,7 +25,6 @@ use Rattle.worksheet_spec.specs.Lines.{value, minus, equal, isZeroPattern}
 use Rattle.worksheet_spec.specs.Sheets.{restTie}
 use Rattle.worksheet_spec.proofs.Constants.{up-value}
 use Rattle.worksheet_spec.proofs.Patterns.{mul-width, fma-width, minus-value, negate-finite}
-use Rattle.worksheet_spec.proofs.Blocks.{none-recomposed}
 use Rattle.worksheet_spec.proofs.Products.{m, a', b', tie, corrected, pi}
 use Rattle.worksheet_spec.proofs.FiniteProduct.{factors-of}
 use Rattle.worksheet_spec.proofs.ProductSteps.{middle-facts}
@@ -79,17 +76,16 @@ module _ (x y : ℕ) where
             split (unlike s t) (S .n) (S .A) (S .is) (S .split) (large (a * b) (S .n) (2 ^ 149) (pow-above binary32 (a * b) 23 (omega (arith, lo))) (S .product) (pow-pos 149))
 
   -- ---- in the last branch
-  module _ (i : isInfinite (value p) ≡ false) (h : notAbove (value p) high ≡ false) where
+  module _ (n : isNaN (value p) ≡ false) (i : isInfinite (value p) ≡ false) (h : notAbove (value p) high ≡ false) where
     abbrev c : ℕ
     c = fmaStep x y (minus p)
 
     -- where recomposition changes the pair, the rest is not zero
     pub changed-nonzero : equal (mulStep two c) (subStep (mulStep psi p) p) ≡ true → isZeroPattern (minus c) ≡ false
     changed-nonzero e =
-        elim (other-number (value p) i h) [
-          | inl n ↦ not-both (sym e ∙ none-recomposed p c (ap isFinite n))
-          | inr n ↦ let o = factors-of x y (n .0) (n .1) (n .2) in at (o .s) (o .t) (o .a) (o .b) (o .xi) (o .yi) (o .xr) (o .yr) (o .xb) (o .yb) (o .fine) (rw (← o .is) (n .3))
-        ]
+        let k = other-number (value p) n i h in
+        let o = factors-of x y (k .0) (k .1) (k .2) in
+        at (o .s) (o .t) (o .a) (o .b) (o .xi) (o .yi) (o .xr) (o .yr) (o .xb) (o .yb) (o .fine) (rw (← o .is) (k .3))
       where
         power : (q : Bool) (k : ℕ) → value c ≡ finite q (2 ^ k) → isZeroPattern (minus c) ≡ false
         power q k f = ap isZero (minus-value c (fma-width x y (minus p)) ∙ ap negate f ∙ negate-finite q (2 ^ k)) ∙ ne-eqb (2 ^ k) 0 (λ (z : 2 ^ k ≡ 0). omega (arith, pow-pos k))

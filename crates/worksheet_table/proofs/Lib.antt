@@ -1,5 +1,6 @@
 pub mod Computed
 pub mod Told
+pub mod Alone
 pub mod Sums
 pub mod Changed
 pub mod NoTie

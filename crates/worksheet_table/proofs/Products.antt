@@ -5,20 +5,24 @@ use mathlib.Core.Bool.{true, false}
 use Rattle.binary32_spec.specs.Steps.{mulStep}
 use Rattle.errorfree_spec.specs.Comparisons.{lessMagnitude}
 use Rattle.worksheet_spec.specs.Lines.{value}
-use Rattle.worksheet_spec.specs.Sheets.{whenInfinite, whenZero, whenTiny, whenMiddle, otherwise, recomposition, zeroFinish, recomposedFinished, atEdge, edgeFinish, infiniteProduct}
+use Rattle.worksheet_spec.specs.Sheets.{whenNaN, whenInfinite, whenZero, whenTiny, whenMiddle, otherwise, recomposition, zeroFinish, recomposedFinished, atEdge, edgeFinish, infiniteProduct}
 use Rattle.worksheet_spec.specs.Sheets.{lowered, lowering, tinyTie, tinyProduct, restTie, scaledDown, middleProduct, otherProduct, productBy, productSheet}
 use Rattle.worksheet_spec.proofs.Products.{tie}
 use Rattle.worksheet_spec.proofs.ProductSteps.{sheet-by}
 use Rattle.worksheet_table.specs.Programs.{line, _equals_, isZero, sheetAlong, passes, notAbove}
-use Rattle.worksheet_table.specs.Table.{productInfinite, productEdge, productZero, tinyLowered, tinyKept}
+use Rattle.worksheet_table.specs.Table.{productNaN, productInfinite, productEdge, productZero, tinyLowered, tinyKept}
 use Rattle.worksheet_table.specs.Table.{middleChanged, middleChangedZero, middleKept, middleKeptZero, middleLowered, atRestTie, otherChanged, otherKept, otherKeptZero}
 use Rattle.worksheet_table.proofs.Told.{Told, asked}
-use Rattle.worksheet_table.proofs.Branches.{low, high, infinite-branch, zero-branch, tiny-branch, middle-branch, other-branch}
+use Rattle.worksheet_table.proofs.Branches.{low, high, nan-branch, infinite-branch, zero-branch, tiny-branch, middle-branch, other-branch}
 use Rattle.worksheet_table.proofs.Excluded.{lowered-nonzero}
 
 module _ (x y : ℕ) where
   abbrev p : ℕ
   p = mulStep x y
+
+  pub nan-product : Told productNaN x y → productSheet x y ≡ sheetAlong productNaN x y
+  unfolding productBy sheetAlong passes
+  nan-product k = sheet-by x y whenNaN (nan-branch (value p) (k .0))
 
   pub infinite-product : Told productInfinite x y → productSheet x y ≡ sheetAlong productInfinite x y
   unfolding productBy infiniteProduct edgeFinish atEdge sheetAlong passes
@@ -68,12 +72,12 @@ module _ (x y : ℕ) where
 
   pub other-changed : Told otherChanged x y → productSheet x y ≡ sheetAlong otherChanged x y
   unfolding productBy otherProduct recomposedFinished recomposition zeroFinish sheetAlong passes
-  other-changed k = sheet-by x y otherwise (other-branch (value p) (k .0) (k .1 .0) (k .1 .1 .0) (k .1 .1 .1 .0)) ∙ rw (k .1 .1 .1 .1 .0, k .1 .1 .1 .1 .1 .0) refl
+  other-changed k = sheet-by x y otherwise (other-branch (value p) (k .0) (k .1 .0) (k .1 .1 .0) (k .1 .1 .1 .0) (k .1 .1 .1 .1 .0)) ∙ rw (k .1 .1 .1 .1 .1 .0, k .1 .1 .1 .1 .1 .1 .0) refl
 
   pub other-kept : Told otherKept x y → productSheet x y ≡ sheetAlong otherKept x y
   unfolding productBy otherProduct recomposedFinished recomposition zeroFinish sheetAlong passes
-  other-kept k = sheet-by x y otherwise (other-branch (value p) (k .0) (k .1 .0) (k .1 .1 .0) (k .1 .1 .1 .0)) ∙ rw (k .1 .1 .1 .1 .0, k .1 .1 .1 .1 .1 .0) refl
+  other-kept k = sheet-by x y otherwise (other-branch (value p) (k .0) (k .1 .0) (k .1 .1 .0) (k .1 .1 .1 .0) (k .1 .1 .1 .1 .0)) ∙ rw (k .1 .1 .1 .1 .1 .0, k .1 .1 .1 .1 .1 .1 .0) refl
 
   pub other-kept-zero : Told otherKeptZero x y → productSheet x y ≡ sheetAlong otherKeptZero x y
   unfolding productBy otherProduct recomposedFinished recomposition zeroFinish sheetAlong passes
-  other-kept-zero k = sheet-by x y otherwise (other-branch (value p) (k .0) (k .1 .0) (k .1 .1 .0) (k .1 .1 .1 .0)) ∙ rw (k .1 .1 .1 .1 .0, k .1 .1 .1 .1 .1 .0) refl
+  other-kept-zero k = sheet-by x y otherwise (other-branch (value p) (k .0) (k .1 .0) (k .1 .1 .0) (k .1 .1 .1 .0) (k .1 .1 .1 .1 .0)) ∙ rw (k .1 .1 .1 .1 .1 .0, k .1 .1 .1 .1 .1 .1 .0) refl

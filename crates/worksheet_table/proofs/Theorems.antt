@@ -1,22 +1,24 @@
 -- The theorems of `specs/Theorems.antt`.
 use Prim.Native.Nat.{ℕ}
 use mathlib.Core.Path.{_≡_, refl, sym, ap, ap₂, _∙_}
-use mathlib.Core.Bool.{Bool, true, false, cond}
+use mathlib.Core.Bool.{Bool, true, false, cond, and-true}
 use mathlib.Core.List.{List, [], _∷_}
 use native.Mathlib.Nat.{zero-add}
 use native.Mathlib.Omega.{arith}
 use Rattle.rounding_spec.specs.Format.{binary32}
-use Rattle.rounding_spec.specs.Value.{decode}
+use Rattle.rounding_spec.specs.Value.{decode, isNaN}
+use Rattle.binary32_spec.specs.Steps.{addStep, mulStep}
 use Rattle.pattern_spec.specs.Classes.{flip}
 use Rattle.augmented_spec.specs.Direct.{sum, difference, product}
 use Rattle.errorfree_spec.specs.Comparisons.{lessMagnitude}
 use Rattle.worksheet_spec.specs.Lines.{Sheet, minus}
 use Rattle.worksheet_spec.specs.Sheets.{sheetOf, sumSheet, swaps, sumInOrder, productSheet}
 use Rattle.worksheet_table.specs.Programs.{Way, taken, howManyTaken, sheetAlong, sheetBy}
-use Rattle.worksheet_table.specs.Table.{sumChanged, sumChangedZero, sumKept, sumKeptZero, sumInfinite, sumEdge, sumWays}
-use Rattle.worksheet_table.specs.Table.{productInfinite, productEdge, productZero, tinyLowered, tinyKept, middleChanged, middleChangedZero, middleKept, middleKeptZero, middleLowered}
-use Rattle.worksheet_table.specs.Table.{otherChanged, otherKept, otherKeptZero, productWays, sumByTable, sheetByTable}
-use Rattle.worksheet_table.specs.Sampled.{Sample, sample, sumSamples, productSamples, Shows, SampledSheets}
+use Rattle.worksheet_table.specs.Table.{sumNaN, sumChanged, sumChangedZero, sumKept, sumKeptZero, sumInfinite, sumEdge, sumWays}
+use Rattle.worksheet_table.specs.Table.{productNaN, productInfinite, productEdge, productZero, tinyLowered, tinyKept}
+use Rattle.worksheet_table.specs.Table.{middleChanged, middleChangedZero, middleKept, middleKeptZero, middleLowered, otherChanged, otherKept, otherKeptZero, productWays, sumByTable}
+use Rattle.worksheet_table.specs.Table.{sheetByTable}
+use Rattle.worksheet_table.specs.Sampled.{Sample, sample, notNaNSumSamples, shownSums, shownProducts, Shows, SampledSheets}
 use Rattle.worksheet_table.specs.Theorems.{Agree, Every, SumWritten, EachWay, OneWay, EachTaken, WellMade, NaNTaken, All}
 use Rattle.worksheet_table.proofs.Computed as computed
 use Rattle.worksheet_table.proofs.Computed.{_&_}
@@ -34,7 +36,8 @@ from-told sheet w f x y h = f x y (told w x y h)
 
 sum-ways : Every (Writes sumInOrder) sumWays
 sum-ways =
-    from-told sumInOrder sumChanged sums.changed
+    from-told sumInOrder sumNaN sums.nan-sum
+    & from-told sumInOrder sumChanged sums.changed
     & from-told sumInOrder sumChangedZero sums.changed-zero
     & from-told sumInOrder sumKept sums.kept
     & from-told sumInOrder sumKeptZero sums.kept-zero
@@ -44,7 +47,8 @@ sum-ways =
 
 product-ways : Every (Writes productSheet) productWays
 product-ways =
-    from-told productSheet productInfinite products.infinite-product
+    from-told productSheet productNaN products.nan-product
+    & from-told productSheet productInfinite products.infinite-product
     & from-told productSheet productEdge products.edge-product
     & from-told productSheet productZero products.zero-product
     & from-told productSheet tinyLowered products.tiny-lowered
@@ -106,10 +110,10 @@ pub sampled-sheets : SampledSheets
 sampled-sheets =
     let t = computed.samples-by-table in (
       (
-        same-shown (sheetOf sum) (sheetByTable sum) (agree sum) sumSamples (t .0),
-        same-shown (λ x y. sheetOf sum y x) (λ x y. sheetByTable sum y x) (λ x y. agree sum y x) sumSamples (t .1),
-        same-shown (λ x y. sheetOf difference x (minus y)) (λ x y. sheetByTable difference x (minus y)) (λ x y. agree difference x (minus y)) sumSamples (t .2),
-        same-shown (sheetOf product) (sheetByTable product) (agree product) productSamples (t .3),
+        same-shown (sheetOf sum) (sheetByTable sum) (agree sum) shownSums (t .0),
+        same-shown (λ x y. sheetOf sum y x) (λ x y. sheetByTable sum y x) (λ x y. agree sum y x) notNaNSumSamples (t .1),
+        same-shown (λ x y. sheetOf difference x (minus y)) (λ x y. sheetByTable difference x (minus y)) (λ x y. agree difference x (minus y)) shownSums (t .2),
+        same-shown (sheetOf product) (sheetByTable product) (agree product) shownProducts (t .3),
       ),
       t,
     )
@@ -118,7 +122,8 @@ pub well-made : WellMade
 well-made = computed.well-made
 
 pub nan-taken : NaNTaken
-nan-taken = computed.nan-taken
+unfolding taken
+nan-taken x y = (and-true (isNaN (decode binary32 (addStep x y))), and-true (isNaN (decode binary32 (mulStep x y))))
 
 -- ---- all of them
 pub all : All

@@ -5,7 +5,8 @@ use mathlib.Core.Bool.{Bool, true, false}
 use mathlib.Core.List.{List, [], _∷_}
 use borrow.Author.Tests.{not-true}
 use Rattle.errorfree_spec.proofs.NoNumber.{both-of}
-use Rattle.worksheet_table.specs.Programs.{Operand, Test, _equals_, _below_, _upTo_, isZero, isInfinite, isNot, _and_, Way, way, operandPattern, linesBelow, resultsOn, passes, allPass, taken}
+use Rattle.worksheet_table.specs.Programs.{Operand, Test, _equals_, _below_, _upTo_, isZero, isInfinite, isNaN, isNot, _and_}
+use Rattle.worksheet_table.specs.Programs.{Way, way, operandPattern, linesBelow, resultsOn, passes, allPass, taken}
 
 abbrev pub True : (Operand → ℕ) → Test → Type 0
 True pattern (isNot t) = passes pattern t ≡ false
@@ -14,6 +15,7 @@ True pattern (o below c) = passes pattern (o below c) ≡ true
 True pattern (o upTo c) = passes pattern (o upTo c) ≡ true
 True pattern (isZero o) = passes pattern (isZero o) ≡ true
 True pattern (isInfinite o) = passes pattern (isInfinite o) ≡ true
+True pattern (isNaN o) = passes pattern (isNaN o) ≡ true
 True pattern (s and t) = passes pattern (s and t) ≡ true
 
 abbrev pub AllTrue : (Operand → ℕ) → List Test → Type 0
@@ -31,6 +33,7 @@ true-of pattern (o below c) h = h
 true-of pattern (o upTo c) h = h
 true-of pattern (isZero o) h = h
 true-of pattern (isInfinite o) h = h
+true-of pattern (isNaN o) h = h
 true-of pattern (s and t) h = h
 
 all-true : (pattern : Operand → ℕ) (ts : List Test) → allPass pattern ts ≡ true → AllTrue pattern ts

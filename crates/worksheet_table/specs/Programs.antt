@@ -65,6 +65,7 @@ pub data Test : Type 0 where
   _upTo_ : Operand → Constant → Test
   isZero : Operand → Test
   isInfinite : Operand → Test
+  isNaN : Operand → Test
   isNot : Test → Test
   _and_ : Test → Test → Test
 
@@ -151,6 +152,7 @@ passes pattern (o below c) = lessMagnitude (decode binary32 (pattern o)) (decode
 passes pattern (o upTo c) = notAbove (decode binary32 (pattern o)) (decode binary32 (constantPattern c))
 passes pattern (isZero o) = values.isZero (decode binary32 (pattern o))
 passes pattern (isInfinite o) = values.isInfinite (decode binary32 (pattern o))
+passes pattern (isNaN o) = values.isNaN (decode binary32 (pattern o))
 passes pattern (isNot t) = not (passes pattern t)
 passes pattern (s and t) = passes pattern s && passes pattern t
 
@@ -198,6 +200,7 @@ linesAsked (o below c) = linesIn o
 linesAsked (o upTo c) = linesIn o
 linesAsked (isZero o) = linesIn o
 linesAsked (isInfinite o) = linesIn o
+linesAsked (isNaN o) = linesIn o
 linesAsked (isNot t) = linesAsked t
 linesAsked (s and t) = linesAsked s ++ linesAsked t
 

@@ -1,7 +1,8 @@
--- A whole sheet for each way through the rules (R5): the question, every word of every line, and the foot. The words come from
--- implementations that share nothing with the two accounts of R5: a model in whole numbers, and the processor's floats, which agree.
--- Each sample is named by its row of Table. Operands and results of a sample differ where such a question was found, and have both signs,
--- so that a line with another operand is, most often, another line.
+-- A whole sheet for each way through the rules (R5), and four more: the question, every word of every line, and the foot. The words come
+-- from implementations that share nothing with the two accounts of R5: a model in whole numbers, and the processor's floats. They agree
+-- once the processor's FFC00000 of operands that are not NaN is put as 7FC00000; a fused step with a NaN operand is the rule's in both.
+-- A way's sample is named by its row of Table. Operands and results of a sample differ where such a question was found, and have both
+-- signs, so that a line with another operand is, most often, another line.
 use Prim.Native.Nat.{ℕ}
 use mathlib.Core.Path.{_≡_}
 use mathlib.Core.List.{List, [], _∷_}
@@ -15,6 +16,13 @@ pub data Sample : Type 0 where
   sample : ℕ → ℕ → List Line → ℕ → ℕ → Sample
 
 -- ---- sums
+abbrev pub sumNaNSheet : Sample
+sumNaNSheet =
+    sample 0xff81_2345 0x7fc0_0001
+    (line add 0xff81_2345 0x7fc0_0001 0xffc1_2345
+    ∷ [])
+    0xffc1_2345 0xffc1_2345
+
 abbrev pub sumChangedSheet : Sample
 sumChangedSheet =
     sample 0xca9a_b280 0xc444_7000
@@ -102,6 +110,13 @@ sumEdgeSheet =
     0xff7f_ffff 0xf300_0000
 
 -- ---- products
+abbrev pub productNaNSheet : Sample
+productNaNSheet =
+    sample 0x8000_0000 0x7f81_2345
+    (line multiply 0x8000_0000 0x7f81_2345 0x7fc1_2345
+    ∷ [])
+    0x7fc1_2345 0x7fc1_2345
+
 abbrev pub productInfiniteSheet : Sample
 productInfiniteSheet =
     sample 0xea10_7b75 0x5516_50d7
@@ -286,16 +301,74 @@ otherKeptZeroSheet =
     ∷ [])
     0x8ca9_95e4 0x8000_0000
 
+-- ---- four more, of questions in which NaN stands elsewhere
+-- second, where it does not change places (R5.9)
+abbrev pub secondNaNSheet : Sample
+secondNaNSheet =
+    sample 0x0000_0000 0xffc0_0001
+    (line add 0x0000_0000 0xffc0_0001 0xffc0_0001
+    ∷ [])
+    0xffc0_0001 0xffc0_0001
+
+-- u and -u times an infinity: h is zero and a' NaN, and b' is the NaN -a' that stands on its line (R2.4)
+abbrev pub smallestSheet : Sample
+smallestSheet =
+    sample 0x0000_0001 0x7f80_0000
+    (line multiply 0x0000_0001 0x7f80_0000 0x7f80_0000
+    ∷ line multiply 0x3f00_0000 0x0000_0001 0x0000_0000
+    ∷ line multiply 0x0000_0000 0x7f80_0000 0x7fc0_0000
+    ∷ fusedLine 0x0000_0000 0x7f80_0000 0xffc0_0000 0xffc0_0000
+    ∷ [])
+    0x7f80_0000 0x7f80_0000
+
+abbrev pub minusSmallestSheet : Sample
+minusSmallestSheet =
+    sample 0x8000_0001 0x7f80_0000
+    (line multiply 0x8000_0001 0x7f80_0000 0xff80_0000
+    ∷ line multiply 0x3f00_0000 0x8000_0001 0x8000_0000
+    ∷ line multiply 0x8000_0000 0x7f80_0000 0x7fc0_0000
+    ∷ fusedLine 0x8000_0000 0x7f80_0000 0xffc0_0000 0xffc0_0000
+    ∷ [])
+    0xff80_0000 0xff80_0000
+
+-- an infinite operand: NaN from line 2 on, on both sides of a subtraction, and no NaN line ends the sheet
+abbrev pub infiniteOperandSheet : Sample
+infiniteOperandSheet =
+    sample 0x7f80_0000 0x3f80_0000
+    (line add 0x7f80_0000 0x3f80_0000 0x7f80_0000
+    ∷ line subtract 0x7f80_0000 0x7f80_0000 0x7fc0_0000
+    ∷ line subtract 0x3f80_0000 0x7fc0_0000 0x7fc0_0000
+    ∷ line multiply 0x3f7f_ffff 0x7f80_0000 0x7f80_0000
+    ∷ line subtract 0x7f80_0000 0x7f80_0000 0x7fc0_0000
+    ∷ line multiply 0x4000_0000 0x7fc0_0000 0x7fc0_0000
+    ∷ line multiply 0x3f00_0000 0x7f80_0000 0x7f80_0000
+    ∷ line multiply 0x3f00_0000 0x3f80_0000 0x3f00_0000
+    ∷ line add 0x7f80_0000 0x3f00_0000 0x7f80_0000
+    ∷ line subtract 0x7f80_0000 0x7f80_0000 0x7fc0_0000
+    ∷ line subtract 0x3f00_0000 0x7fc0_0000 0x7fc0_0000
+    ∷ [])
+    0x7f80_0000 0x7f80_0000
+
 -- ---- in the order of the table's rows
-abbrev pub sumSamples : List Sample
-sumSamples =
+abbrev pub notNaNSumSamples : List Sample
+notNaNSumSamples =
     sumChangedSheet ∷ sumChangedZeroSheet ∷ sumKeptSheet ∷ sumKeptZeroSheet ∷ sumInfiniteSheet ∷ sumEdgeSheet ∷ []
+
+abbrev pub sumSamples : List Sample
+sumSamples = sumNaNSheet ∷ notNaNSumSamples
 
 abbrev pub productSamples : List Sample
 productSamples =
-    productInfiniteSheet ∷ productEdgeSheet ∷ productZeroSheet ∷ tinyLoweredSheet ∷ tinyKeptSheet
+    productNaNSheet ∷ productInfiniteSheet ∷ productEdgeSheet ∷ productZeroSheet ∷ tinyLoweredSheet ∷ tinyKeptSheet
     ∷ middleChangedSheet ∷ middleChangedZeroSheet ∷ middleKeptSheet ∷ middleKeptZeroSheet ∷ middleLoweredSheet
     ∷ otherChangedSheet ∷ otherKeptSheet ∷ otherKeptZeroSheet ∷ []
+
+-- ---- with the four more
+abbrev pub shownSums : List Sample
+shownSums = secondNaNSheet ∷ infiniteOperandSheet ∷ sumSamples
+
+abbrev pub shownProducts : List Sample
+shownProducts = smallestSheet ∷ minusSmallestSheet ∷ productSamples
 
 -- ---- an account of R5 gives these sheets
 abbrev pub Shows : (ℕ → ℕ → Sheet) → List Sample → Type 0
@@ -303,11 +376,11 @@ Shows sheet [] = Unit {0}
 Shows sheet (sample x y ls first second ∷ samples) =
     (sheet x y ≡ record { lines = ls; first = first; second = second }) × Shows sheet samples
 
--- a sum's too where it is asked the other way round, and where it is the difference of x and the flipped y (R5.9)
+-- a sum's too where it is asked the other way round, unless it is NaN, and where it is the difference of x and the flipped y (R5.9)
 abbrev pub GivesAll : (Operation → ℕ → ℕ → Sheet) → Type 0
 GivesAll sheet =
-    Shows (sheet sum) sumSamples × Shows (λ x y. sheet sum y x) sumSamples × Shows (λ x y. sheet difference x (minus y)) sumSamples
-    × Shows (sheet product) productSamples
+    Shows (sheet sum) shownSums × Shows (λ x y. sheet sum y x) notNaNSumSamples × Shows (λ x y. sheet difference x (minus y)) shownSums
+    × Shows (sheet product) shownProducts
 
 -- both accounts do
 abbrev pub SampledSheets : Type 0

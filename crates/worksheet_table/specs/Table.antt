@@ -13,7 +13,8 @@ use Rattle.errorfree_spec.specs.Comparisons.{lessMagnitude}
 use Rattle.worksheet_spec.specs.Lines.{Sheet}
 use Rattle.worksheet_table.specs.Programs.{ψ, +2, -2, ½, κ, 2^24, 2^48, 2^-24, +0, u, 2^127, 2^102, 2^-102, 2^-125, 2^-126}
 use Rattle.worksheet_table.specs.Programs.{X, Y, line, minus, _withSignOf_, Instruction, _+_, _-_, _·_, _*_, fuse}
-use Rattle.worksheet_table.specs.Programs.{Test, _equals_, _below_, _upTo_, isZero, isInfinite, isNot, _and_, Way, way, sheetBy}
+use Rattle.worksheet_table.specs.Programs.{Test, _equals_, _below_, _upTo_, isZero, isInfinite, isNaN, isNot, _and_}
+use Rattle.worksheet_table.specs.Programs.{Way, way, sheetBy}
 
 -- ---- sums: X and Y are the operands as they stand after the exchange (R5.9)
 -- the sum and its error (R5.10), and recomposition (R5.5)
@@ -41,6 +42,10 @@ halvedLines =
 abbrev pub atSumEdge : Test
 atSumEdge = line 9 equals 2^127 withSignOf line 9 and line 11 equals minus (2^102 withSignOf line 9)
 
+-- a is NaN: its line is the only one, and both halves are a (R5.23)
+abbrev pub sumNaN : Way
+sumNaN = way (isNaN (line 1) ∷ []) (X + Y ∷ []) (line 1) (line 1)
+
 -- Recomposition gives (z, -b) where e = d (R5.5). No way has a changed pair, a second that is not zero and an infinite a: that this does
 -- not occur, `OneWay` says.
 abbrev pub sumChanged : Way
@@ -51,10 +56,11 @@ sumChanged =
 abbrev pub sumChangedZero : Way
 sumChangedZero = way (line 6 equals line 5 ∷ isZero (minus (line 3)) ∷ []) (sumLines ++ +0 * line 4 ∷ []) (line 4) (line 7)
 
--- otherwise (a, b), NaN too
+-- otherwise (a, b); a NaN passes all but the last test
 abbrev pub sumKept : Way
 sumKept =
-    way (isNot (line 6 equals line 5) ∷ isNot (isZero (line 3)) ∷ isNot (isInfinite (line 1)) ∷ []) sumLines (line 1) (line 3)
+    way (isNot (line 6 equals line 5) ∷ isNot (isZero (line 3)) ∷ isNot (isInfinite (line 1)) ∷ isNot (isNaN (line 1)) ∷ [])
+    sumLines (line 1) (line 3)
 
 abbrev pub sumKeptZero : Way
 sumKeptZero = way (isNot (line 6 equals line 5) ∷ isZero (line 3) ∷ []) (sumLines ++ +0 * line 1 ∷ []) (line 1) (line 7)
@@ -72,9 +78,13 @@ sumEdge =
     (sumLines ++ halvedLines ++ κ * line 9 ∷ -2 * line 11 ∷ []) (line 12) (line 13)
 
 abbrev pub sumWays : List Way
-sumWays = sumChanged ∷ sumChangedZero ∷ sumKept ∷ sumKeptZero ∷ sumInfinite ∷ sumEdge ∷ []
+sumWays = sumNaN ∷ sumChanged ∷ sumChangedZero ∷ sumKept ∷ sumKeptZero ∷ sumInfinite ∷ sumEdge ∷ []
 
 -- ---- products: line 1 is a (R5.12)
+-- a is NaN (R5.23)
+abbrev pub productNaN : Way
+productNaN = way (isNaN (line 1) ∷ []) (X · Y ∷ []) (line 1) (line 1)
+
 -- a is infinite (R5.13)
 abbrev pub infiniteLines : List Instruction
 infiniteLines =
@@ -188,9 +198,11 @@ middleLowered =
     way (middle ++ isNot (line 7 equals line 6) ∷ atRestTie ∷ isNot (isZero (line 12)) ∷ [])
     (middleLines ++ keptLines ++ line 9 - u withSignOf line 9 ∷ []) (line 8) (line 12)
 
--- any other product, NaN too (R5.19), and recomposition
+-- any other product (R5.19), and recomposition
 abbrev pub other : List Test
-other = isNot (isInfinite (line 1)) ∷ isNot (isZero (line 1)) ∷ isNot (line 1 below 2^-125) ∷ isNot (line 1 upTo 2^-102) ∷ []
+other =
+    isNot (isNaN (line 1)) ∷ isNot (isInfinite (line 1)) ∷ isNot (isZero (line 1)) ∷ isNot (line 1 below 2^-125)
+    ∷ isNot (line 1 upTo 2^-102) ∷ []
 
 abbrev pub otherLines : List Instruction
 otherLines =
@@ -214,7 +226,7 @@ otherKeptZero =
 
 abbrev pub productWays : List Way
 productWays =
-    productInfinite ∷ productEdge ∷ productZero ∷ tinyLowered ∷ tinyKept
+    productNaN ∷ productInfinite ∷ productEdge ∷ productZero ∷ tinyLowered ∷ tinyKept
     ∷ middleChanged ∷ middleChangedZero ∷ middleKept ∷ middleKeptZero ∷ middleLowered
     ∷ otherChanged ∷ otherKept ∷ otherKeptZero ∷ []
 

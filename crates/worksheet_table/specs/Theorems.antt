@@ -4,12 +4,13 @@ use mathlib.Core.Path.{_≡_}
 use mathlib.Core.Bool.{Bool, true, false, not, _&&_}
 use mathlib.Core.List.{List, [], _∷_, _++_}
 use Rattle.rounding_spec.specs.Format.{binary32}
-use Rattle.rounding_spec.specs.Value.{decode}
+use Rattle.rounding_spec.specs.Value.{decode, isNaN}
+use Rattle.binary32_spec.specs.Steps.{addStep, mulStep}
 use Rattle.augmented_spec.specs.Direct.{Operation, sum, product}
 use Rattle.errorfree_spec.specs.Comparisons.{lessMagnitude}
 use Rattle.worksheet_spec.specs.Sheets.{sheetOf}
 use Rattle.worksheet_table.specs.Programs.{Way, taken, howManyTaken, sheetAlong, allWellMade}
-use Rattle.worksheet_table.specs.Table.{sumKept, sumWays, otherKept, productWays, sheetByTable}
+use Rattle.worksheet_table.specs.Table.{sumNaN, sumWays, productNaN, productWays, sheetByTable}
 use Rattle.worksheet_table.specs.Sampled.{Sample, sample, sumSamples, productSamples, SampledSheets}
 
 -- ---- both accounts of R5 agree, in lines and foot, on every question
@@ -35,7 +36,7 @@ EachWay = Every SumWritten sumWays × Every ProductWritten productWays
 abbrev pub OneWay : Type 0
 OneWay = ((x y : ℕ) → howManyTaken sumWays x y ≡ 1) × ((x y : ℕ) → howManyTaken productWays x y ≡ 1)
 
--- ---- and each of the 19 is taken: by the sample in its place, in a sum without an exchange
+-- ---- and each of the 21 is taken: by the sample in its place, in a sum without an exchange
 unfoldable pub eachTaken : List Way → List Sample → Bool
 unfolding taken
 eachTaken [] [] = true
@@ -56,9 +57,10 @@ EachTaken =
 abbrev pub WellMade : Type 0
 WellMade = allWellMade (sumWays ++ productWays) ≡ true
 
--- ---- a NaN takes the ways that say so: of opposite infinities, and of zero times infinity
+-- ---- NaN has its own two ways, which are taken exactly where line 1 is NaN; of which operands that is, binary32_spec says
 abbrev pub NaNTaken : Type 0
-NaNTaken = (taken sumKept 0x7f80_0000 0xff80_0000 ≡ true) × (taken otherKept 0x0000_0000 0x7f80_0000 ≡ true)
+NaNTaken =
+    (x y : ℕ) → (taken sumNaN x y ≡ isNaN (decode binary32 (addStep x y))) × (taken productNaN x y ≡ isNaN (decode binary32 (mulStep x y)))
 
 -- ---- all of them
 abbrev pub All : Type 0

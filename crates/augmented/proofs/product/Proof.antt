@@ -1,8 +1,7 @@
 use borrow.Author.Needs.{needs}
-use mathlib.Core.Path.{refl, sym, _∙_}
-use Rattle.rounding_spec.specs.Value.{Fits, encode}
+use mathlib.Core.Path.{sym, _∙_}
 use Rattle.pattern_spec.specs.Classes.{valueOf}
-use Rattle.augmented_spec.proofs.Answered.{product-finite, product-special}
+use Rattle.augmented_spec.proofs.Answered.{product-finite, product-infinite, product-nan}
 use Rattle.augmented.proofs.product.Statement.{statement}
 use Rattle.augmented.proofs.product.Tie as tie
 
@@ -27,6 +26,9 @@ twice-requires c κs = search needs
 enum-told : tie.Need-enum-told
 enum-told c = search needs
 
+nan-of-two-requires : tie.Need-nan-of-two-requires
+nan-of-two-requires c κs = search needs
+
 twice-requires-2 : tie.Need-twice-requires-2
 twice-requires-2 c κs = search needs
 
@@ -40,23 +42,24 @@ returns c =
     c .of-number .ensures ∙ sym (product-finite (b .args .x) (b .args .y) _ _ (e .is))
 
 returns-2 : tie.Need-returns-2
-unfolding valueOf Fits
+unfolding valueOf
 returns-2 c =
     let i = c .before in
     let t = i .before .before in
     let s = t .before .before in
     let b = s .before in
     let e = rw (t .total2 .given .1) at (s .product .ensures) in
-    product-special (b .args .x) (b .args .y) _ (e .is) refl tt _ (i .infinity .ensures) _ (c .twice .ensures)
+    product-infinite (b .args .x) (b .args .y) _ (e .is) _ (i .infinity .ensures) _ (c .twice .ensures)
 
 returns-3 : tie.Need-returns-3
-unfolding valueOf Fits encode
+unfolding valueOf
 returns-3 c =
-    let t = c .before in
+    let n = c .before in
+    let t = n .before in
     let s = t .before .before in
     let b = s .before in
     let e = rw (t .enum-told .given .1) at (s .product .ensures) in
-    product-special (b .args .x) (b .args .y) _ (e .is) refl tt _ refl _ (c .twice2 .ensures)
+    product-nan (b .args .x) (b .args .y) (e .is) _ (n .nan-of-two .ensures) _ (c .twice2 .ensures)
 
 pub product-spec : {M : Type 1} → statement M
 product-spec =
@@ -69,6 +72,7 @@ product-spec =
     infinity-requires
     twice-requires
     enum-told
+    nan-of-two-requires
     twice-requires-2
     returns
     returns-2

@@ -2,14 +2,10 @@ use borrow.Author.Needs.{needs}
 use mathlib.Core.Path.{refl, sym, ap, _∙_}
 use Rattle.rounding_spec.specs.Value.{Fits, encode}
 use Rattle.pattern_spec.specs.Classes.{valueOf}
-use Rattle.augmented_spec.specs.declared.Flags.{Flags}
 use Rattle.augmented_spec.specs.declared.Pair.{Pair}
-use Rattle.augmented_spec.proofs.Answered.{product-finite, product-special}
+use Rattle.augmented_spec.proofs.Answered.{product-finite, special-flags}
 use Rattle.augmented.proofs.product_flags.Statement.{statement}
 use Rattle.augmented.proofs.product_flags.Tie as tie
-
-abbrev flagsOfPair : Pair → Flags
-flagsOfPair p = p .flags
 
 product-requires : tie.Need-product-requires
 product-requires c κs = search needs
@@ -42,7 +38,7 @@ returns c =
     let s = t .before .before in
     let b = s .before in
     let e = rw (t .class .given .1) at (s .product .ensures) in
-    c .flags-of-number .ensures ∙ sym (ap flagsOfPair (product-finite (b .args .x) (b .args .y) _ _ (e .is)))
+    c .flags-of-number .ensures ∙ sym (ap (λ (p : Pair). p .flags) (product-finite (b .args .x) (b .args .y) _ _ (e .is)))
 
 returns-2 : tie.Need-returns-2
 unfolding valueOf Fits
@@ -52,7 +48,7 @@ returns-2 c =
     let s = t .before .before in
     let b = s .before in
     let e = rw (t .class2 .given .1) at (s .product .ensures) in
-    c .of-special .ensures ∙ ap flagsOfPair (product-special (b .args .x) (b .args .y) _ (e .is) refl tt _ (i .infinity .ensures) _ refl)
+    c .of-special .ensures ∙ special-flags (b .args .x) (b .args .y) _ (e .is) refl tt _ (i .infinity .ensures)
 
 returns-3 : tie.Need-returns-3
 unfolding valueOf Fits encode
@@ -61,7 +57,7 @@ returns-3 c =
     let s = t .before .before in
     let b = s .before in
     let e = rw (t .enum-told .given .1) at (s .product .ensures) in
-    c .of-special2 .ensures ∙ ap flagsOfPair (product-special (b .args .x) (b .args .y) _ (e .is) refl tt _ refl _ refl)
+    c .of-special2 .ensures ∙ special-flags (b .args .x) (b .args .y) _ (e .is) refl tt _ refl
 
 pub product-flags-spec : {M : Type 1} → statement M
 product-flags-spec =

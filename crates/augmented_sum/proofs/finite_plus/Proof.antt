@@ -1,5 +1,6 @@
 use borrow.Author.Needs.{needs}
 use mathlib.Core.Path.{refl, sym, ap, ap₂, _∙_}
+use mathlib.Core.List.{[], _∷_}
 use native.Mathlib.Omega.{arith}
 use Rattle.rounding_spec.specs.declared.Ties.the-variants.{ToZero}
 use Rattle.rounding_spec.specs.Format.{binary32}
@@ -94,7 +95,7 @@ returns-2 c =
     let f = finite-class _ _ _ _ _ (k .before .before .classify .ensures) (k .b .given .1) in
     let l = below-class _ _ _ _ _ _ (k .before .before .classify .ensures) (k .b .given .1) (b .pre .1 .1) in
     let t = near-short _ _ _ _ _ _ (b .pre .0) (f .0) l (let g = c .before .before .if1 .left in omega arith) _ _ (c .before .sum .ensures) in
-    c .near .ensures ∙ sym (ap (λ (v : Value). join (pairOf binary32 v)) (ap (finer binary32) (ap₂ plus (b .pre .1 .0) (f .1)) ∙ t .is))
+    c .near .ensures _ ∙ sym (ap (λ (v : Value). join (b .args .p ∷ b .args .q ∷ []) (pairOf binary32 v)) (ap (finer binary32) (ap₂ plus (b .pre .1 .0) (f .1)) ∙ t .is))
 
 returns-3 : tie.Need-returns-3
 returns-3 c = search needs

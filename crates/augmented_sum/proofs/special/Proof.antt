@@ -14,7 +14,7 @@ joined-requires c κs = search needs
 
 returns : tie.Need-returns
 unfolding addValue
-returns c = c .joined .ensures ∙ special-word _ (c .before .before .pre) _ (c .before .add .ensures ∙ add-step _ _)
+returns c = c .joined .ensures ∙ special-word _ _ (c .before .before .pre) _ (c .before .add .ensures ∙ add-step _ _)
 
 pub special-spec : {M : Type 1} → statement M
 special-spec = tie.close (tie.spec add-requires joined-requires returns)

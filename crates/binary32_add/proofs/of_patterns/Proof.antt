@@ -1,16 +1,17 @@
 use borrow.Author.Needs.{needs}
-use mathlib.Core.Path.{_≡_, ap, ap₂, _∙_}
-use Prim.Native.Nat.{_%_, _^_}
-use lib.Dec.{ltb}
+use mathlib.Core.Path.{_≡_, refl, sym, ap, _∙_}
 use Rattle.rounding_spec.specs.Format.{binary32}
-use Rattle.rounding_spec.specs.Value.{Value, encode}
-use Rattle.binary32_spec.specs.Steps.{addValue}
-use Rattle.pattern_spec.specs.Classes.{classOf}
-use Rattle.pattern_spec.specs.Inner.{larger, smaller}
-use Rattle.pattern_spec.proofs.Classified.{class-value, class-operand, chosen-descending}
-use Rattle.binary32_spec.proofs.Near.{add-chosen}
+use Rattle.rounding_spec.specs.Value.{encode}
+use Rattle.pattern_spec.specs.Classes.{classOf, valueOf}
+use Rattle.pattern_spec.specs.Inner.{Descending, larger, smaller}
+use Rattle.pattern_spec.proofs.Classified.{class-operand, chosen-descending}
+use Rattle.binary32_spec.proofs.Special.{add-infinite}
+use Rattle.binary32_spec.proofs.Sums.{ordered-nan, ordered-number}
 use Rattle.binary32_add.proofs.of_patterns.Statement.{statement}
 use Rattle.binary32_add.proofs.of_patterns.Tie as tie
+
+smaller-requires : tie.Need-smaller-requires
+smaller-requires c κs = search needs
 
 larger-requires : tie.Need-larger-requires
 larger-requires c κs = search needs
@@ -18,39 +19,83 @@ larger-requires c κs = search needs
 classify-requires : tie.Need-classify-requires
 classify-requires c κs = search needs
 
-smaller-requires : tie.Need-smaller-requires
-smaller-requires c κs = search needs
+enum-told : tie.Need-enum-told
+enum-told c = search needs
+
+nan-of-two-requires : tie.Need-nan-of-two-requires
+nan-of-two-requires c κs = search needs
+
+enum-known-a : tie.Need-enum-known-a
+enum-known-a c = search needs
 
 classify-requires-2 : tie.Need-classify-requires-2
 classify-requires-2 c κs = search needs
 
-plus-requires : tie.Need-plus-requires
-plus-requires c κs =
-    let b = c .before .before .before .before in
+infinite-plus-requires : tie.Need-infinite-plus-requires
+infinite-plus-requires c κs = search needs
+
+enum-known-a-2 : tie.Need-enum-known-a-2
+enum-known-a-2 c = search needs
+
+classify-requires-3 : tie.Need-classify-requires-3
+classify-requires-3 c κs = search needs
+
+finite-plus-requires : tie.Need-finite-plus-requires
+finite-plus-requires c κs =
+    let k = c .before .before in
+    let f = k .before .before in
+    let b = f .before .before .before in
     let x = b .args .x in
     let y = b .args .y in
-    let first : c .before .before .classify .result ≡ classOf (larger x y) = c .before .before .classify .ensures ∙ ap classOf (c .before .before .before .larger .ensures) in
-    let second : c .classify2 .result ≡ classOf (smaller x y) = c .classify2 .ensures ∙ ap classOf (c .before .smaller .ensures) in
-    (class-operand (larger x y) _ first, (class-operand (smaller x y) _ second, rw (first, second) (chosen-descending x y)))
+    let first = sym (k .a2 .given .1) ∙ f .classify .ensures ∙ ap classOf (f .before .larger .ensures) in
+    let second : c .classify3 .result ≡ classOf (smaller x y) = c .classify3 .ensures ∙ ap classOf (f .before .before .smaller .ensures) in
+    let order : Descending (classOf (larger x y)) (c .classify3 .result) = rw second (chosen-descending x y) in
+    (class-operand (larger x y) _ first, (class-operand (smaller x y) _ second, rw (sym first) at order))
 
 returns : tie.Need-returns
+unfolding valueOf
 returns c =
-    let b = c .before .before .before .before .before in
-    let x = b .args .x in
-    let y = b .args .y in
-    c .plus .ensures
-    ∙ ap₂ (λ (u v : Value). encode binary32 (addValue binary32 u v))
-    (class-value (larger x y) _ (c .before .before .before .classify .ensures ∙ ap classOf (c .before .before .before .before .larger .ensures)))
-    (class-value (smaller x y) _ (c .before .classify2 .ensures ∙ ap classOf (c .before .before .smaller .ensures)))
-    ∙ ap (encode binary32) (add-chosen (ltb (x % 2 ^ 31) (y % 2 ^ 31)) x y)
+    let t = c .before in
+    let f = t .before .before in
+    let b = f .before .before .before in
+    let first = sym (t .enum-told .given .1) ∙ f .classify .ensures ∙ ap classOf (f .before .larger .ensures) in
+    c .nan-of-two .ensures ∙ ordered-nan (b .args .x) (b .args .y) _ _ first refl refl
+
+returns-2 : tie.Need-returns-2
+unfolding valueOf
+returns-2 c =
+    let k = c .before .before .before in
+    let f = k .before .before in
+    let b = f .before .before .before in
+    let first = sym (k .a .given .1) ∙ f .classify .ensures ∙ ap classOf (f .before .larger .ensures) in
+    let second = c .before .classify2 .ensures ∙ ap classOf (f .before .before .smaller .ensures) in
+    c .infinite-plus .ensures ∙ ap (encode binary32) (sym (add-infinite binary32 _ _)) ∙ ordered-number (b .args .x) (b .args .y) _ _ first second refl
+
+returns-3 : tie.Need-returns-3
+unfolding valueOf
+returns-3 c =
+    let k = c .before .before .before in
+    let f = k .before .before in
+    let b = f .before .before .before in
+    let first = sym (k .a2 .given .1) ∙ f .classify .ensures ∙ ap classOf (f .before .larger .ensures) in
+    let second = c .before .classify3 .ensures ∙ ap classOf (f .before .before .smaller .ensures) in
+    c .finite-plus .ensures ∙ ordered-number (b .args .x) (b .args .y) _ _ first second refl
 
 pub of-patterns-spec : {M : Type 1} → statement M
 of-patterns-spec =
     tie.close
     (tie.spec
+    smaller-requires
     larger-requires
     classify-requires
-    smaller-requires
+    enum-told
+    nan-of-two-requires
+    enum-known-a
     classify-requires-2
-    plus-requires
-    returns)
+    infinite-plus-requires
+    enum-known-a-2
+    classify-requires-3
+    finite-plus-requires
+    returns
+    returns-2
+    returns-3)

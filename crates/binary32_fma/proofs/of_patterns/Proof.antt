@@ -1,30 +1,64 @@
 use borrow.Author.Needs.{needs}
-use mathlib.Core.Path.{sym, ap₂, _∙_}
-use Rattle.rounding_spec.specs.declared.Ties.the-variants.{ToEven}
-use Rattle.rounding_spec.specs.Format.{binary32}
-use Rattle.rounding_spec.specs.Value.{Value, encode, round}
-use Rattle.pattern_spec.specs.Exact.{plus, finer}
-use Rattle.binary32_spec.specs.Steps.{fmaValue}
-use Rattle.pattern_spec.proofs.Classified.{class-value, class-operand}
-use Rattle.binary32_spec.proofs.Result.{fma-step}
+use mathlib.Core.Path.{refl, sym, _∙_}
+use Rattle.pattern_spec.specs.Classes.{valueOf}
+use Rattle.binary32_spec.proofs.Infinities.{product-nan}
+use Rattle.binary32_spec.proofs.Fused.{fused-number, fused-infinite}
 use Rattle.binary32_fma.proofs.of_patterns.Statement.{statement}
 use Rattle.binary32_fma.proofs.of_patterns.Tie as tie
 
 product-requires : tie.Need-product-requires
 product-requires c κs = search needs
 
-classify-requires : tie.Need-classify-requires
-classify-requires c κs = search needs
+enum-told : tie.Need-enum-told
+enum-told c = search needs
 
-product-plus-requires : tie.Need-product-plus-requires
-product-plus-requires c κs = (c .before .product .ensures .bounded, class-operand _ _ (c .classify .ensures))
+nan-of-three-requires : tie.Need-nan-of-three-requires
+nan-of-three-requires c κs = search needs
+
+enum-known-p : tie.Need-enum-known-p
+enum-known-p c = search needs
+
+infinite-product-plus-requires : tie.Need-infinite-product-plus-requires
+infinite-product-plus-requires c κs = search needs
+
+enum-known-p-2 : tie.Need-enum-known-p-2
+enum-known-p-2 c = search needs
+
+finite-product-plus-requires : tie.Need-finite-product-plus-requires
+finite-product-plus-requires c κs = (rw (c .before .p2 .given .1) at (c .before .before .before .product .ensures)) .bounded
 
 returns : tie.Need-returns
-unfolding fmaValue
+unfolding valueOf
 returns c =
-    c .product-plus .ensures
-    ∙ ap₂ (λ (u v : Value). encode binary32 (round ToEven binary32 (plus u (finer binary32 v)))) (sym (c .before .before .product .ensures .is)) (class-value _ _ (c .before .classify .ensures))
-    ∙ sym (fma-step _ _ _)
+    let t = c .before in
+    let e = rw (t .enum-told .given .1) at (t .before .before .product .ensures) in
+    c .nan-of-three .ensures ∙ sym (product-nan _ _ _ (e .is))
+
+returns-2 : tie.Need-returns-2
+unfolding valueOf
+returns-2 c =
+    let t = c .before .before in
+    let e = rw (t .p .given .1) at (t .before .before .product .ensures) in
+    c .infinite-product-plus .ensures ∙ fused-infinite _ _ _ _ (e .is)
+
+returns-3 : tie.Need-returns-3
+unfolding valueOf
+returns-3 c =
+    let t = c .before .before in
+    let e = rw (t .p2 .given .1) at (t .before .before .product .ensures) in
+    c .finite-product-plus .ensures ∙ fused-number _ _ _ _ (e .is) refl
 
 pub of-patterns-spec : {M : Type 1} → statement M
-of-patterns-spec = tie.close (tie.spec product-requires classify-requires product-plus-requires returns)
+of-patterns-spec =
+    tie.close
+    (tie.spec
+    product-requires
+    enum-told
+    nan-of-three-requires
+    enum-known-p
+    infinite-product-plus-requires
+    enum-known-p-2
+    finite-product-plus-requires
+    returns
+    returns-2
+    returns-3)

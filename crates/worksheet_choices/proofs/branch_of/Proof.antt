@@ -1,5 +1,5 @@
 use native.Mathlib.Omega.{arith}
-use Rattle.worksheet_choices.proofs.ProductBranches.{zero-branch, tiny-branch, middle-branch, infinite-branch, other-branch}
+use Rattle.worksheet_choices.proofs.ProductBranches.{zero-branch, tiny-branch, middle-branch, other-branch, infinite-branch, nan-branch}
 use Rattle.worksheet_choices.proofs.branch_of.Statement.{statement}
 use Rattle.worksheet_choices.proofs.branch_of.Tie as tie
 
@@ -16,7 +16,10 @@ returns-4 : tie.Need-returns-4
 returns-4 c = middle-branch (c .before .before .before .args .a) (c .before .if1 .left) (omega arith)
 
 returns-5 : tie.Need-returns-5
-returns-5 c = other-branch (c .before .before .before .args .a) (c .if2 .left) (c .before .before .match .rest .1)
+returns-5 c = other-branch (c .before .before .before .before .args .a) (c .before .if2 .left) (c .if3 .taken)
+
+returns-6 : tie.Need-returns-6
+returns-6 c = nan-branch (c .before .before .before .before .args .a) (omega (arith, c .if3 .left, c .before .before .before .match .rest .1))
 
 pub branch-of-spec : {M : Type 1} → statement M
-branch-of-spec = tie.close (tie.spec returns returns-2 returns-3 returns-4 returns-5)
+branch-of-spec = tie.close (tie.spec returns returns-2 returns-3 returns-4 returns-5 returns-6)

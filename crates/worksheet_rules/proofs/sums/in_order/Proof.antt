@@ -1,56 +1,30 @@
 use borrow.Author.Needs.{needs}
 use mathlib.Core.Path.{sym, _∙_}
-use Rattle.worksheet_rules.proofs.SumLines.{not-halved, with-halved}
+use Rattle.worksheet_rules.proofs.SumLines.{ended, gone-on}
 use Rattle.worksheet_rules.proofs.sums.in_order.Statement.{statement}
 use Rattle.worksheet_rules.proofs.sums.in_order.Tie as tie
 
 add-requires : tie.Need-add-requires
 add-requires c κs = search needs
 
-sub-requires : tie.Need-sub-requires
-sub-requires c κs = search needs
+is-nan-requires : tie.Need-is-nan-requires
+is-nan-requires c κs = search needs
 
-sub-requires-2 : tie.Need-sub-requires-2
-sub-requires-2 c κs = search needs
-
-recomposed-finished-requires : tie.Need-recomposed-finished-requires
-recomposed-finished-requires c κs = search needs
-
-overflows-requires : tie.Need-overflows-requires
-overflows-requires c κs = search needs
-
-halved-requires : tie.Need-halved-requires
-halved-requires c κs = search needs
+first-line-requires : tie.Need-first-line-requires
+first-line-requires c κs = search needs
 
 returns : tie.Need-returns
 returns c =
-    let if1 = c .before .before in
-    let overflows = if1 .before in
-    let recomposed-finished = overflows .before in
-    let sub2 = recomposed-finished .before .before in
-    let sub = sub2 .before .before in
-    let add = sub .before .before in
-    with-halved _ _ (add .add .ensures) (sub .sub .ensures) (sub2 .sub2 .ensures) (recomposed-finished .recomposed-finished .ensures)
-    (sym (overflows .overflows .ensures) ∙ (if1 .if1 .taken)) (c .halved .ensures)
+    let if1 = c .before in
+    ended _ _ (if1 .before .before .add .ensures) (sym (if1 .before .is-nan .ensures) ∙ if1 .if1 .taken) (c .first-line .ensures _)
+
+after-sum-requires : tie.Need-after-sum-requires
+after-sum-requires c κs = search needs
 
 returns-2 : tie.Need-returns-2
 returns-2 c =
-    let overflows = c .before in
-    let recomposed-finished = overflows .before in
-    let sub2 = recomposed-finished .before .before in
-    let sub = sub2 .before .before in
-    let add = sub .before .before in
-    not-halved _ _ (add .add .ensures) (sub .sub .ensures) (sub2 .sub2 .ensures) (recomposed-finished .recomposed-finished .ensures) (sym (overflows .overflows .ensures) ∙ (c .if1 .left))
+    let if1 = c .before .before in
+    gone-on _ _ (if1 .before .before .add .ensures) (sym (if1 .before .is-nan .ensures) ∙ if1 .if1 .left) (c .after-sum .ensures)
 
 pub in-order-spec : {M : Type 1} → statement M
-in-order-spec =
-    tie.close
-    (tie.spec
-    add-requires
-    sub-requires
-    sub-requires-2
-    recomposed-finished-requires
-    overflows-requires
-    halved-requires
-    returns
-    returns-2)
+in-order-spec = tie.close (tie.spec add-requires is-nan-requires first-line-requires returns after-sum-requires returns-2)

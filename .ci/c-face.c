@@ -9,6 +9,7 @@
 #define ONE 0x3F800000u
 #define LARGEST 0x7F7FFFFFu
 #define INFINITE 0x7F800000u
+#define SIGNALLING 0xFF812345u
 
 static void print_word(uint32_t word) { printf(" %08lX", (unsigned long)word); }
 
@@ -75,6 +76,7 @@ static void fill_with(uint32_t *words, size_t count, uint32_t word) {
 static void steps(void) {
     print_step("add", jirmeklo_add(ONE, 0x33800001u));
     print_step("sub", jirmeklo_sub(INFINITE, INFINITE));
+    print_step("sub", jirmeklo_sub(ONE, SIGNALLING));
     print_step("mul", jirmeklo_mul(0x80000001u, 0x3F000000u));
     print_step("fma", jirmeklo_fma(0x3F800001u, 0x3F800001u, 0xBF800002u));
 }
@@ -84,6 +86,7 @@ static void pairs(void) {
     print_pair("sum", jirmeklo_sum(LARGEST, 0x73000001u));
     print_pair("difference", jirmeklo_difference(0x3F800001u, 0xB3800000u));
     print_pair("difference", jirmeklo_difference(INFINITE, INFINITE));
+    print_pair("difference", jirmeklo_difference(ONE, SIGNALLING));
     print_pair("product", jirmeklo_product(0x3F800001u, 0x3F800001u));
     print_pair("product", jirmeklo_product(0x80000001u, 0x3F000000u));
 }

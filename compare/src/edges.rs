@@ -79,6 +79,6 @@ fn halfway_makers(all: &mut Vec<u32>) {
 
 /// Quiet ones first, then signalling ones.
 fn not_numbers(all: &mut Vec<u32>) {
-    all.extend([NAN, NAN + 1, 0x7FD5_5555, 0x7FFF_FFFF]);
-    all.extend([INFINITY + 1, INFINITY + 2, 0x7FA0_0000, 0x7FBF_FFFF]);
+    all.extend([NAN, NAN + 1, 0x7FC1_2345, 0x7FD5_5555, 0x7FFF_FFFF]);
+    all.extend([INFINITY + 1, INFINITY + 2, 0x7F81_2345, 0x7FA0_0000, 0x7FBF_FFFF]);
 }

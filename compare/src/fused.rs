@@ -4,7 +4,7 @@ use crate::questions::Shape;
 use crate::random::Random;
 use crate::step::Question;
 use crate::sums::{beside, large, number};
-use crate::{processor, products};
+use crate::{processor, products, special};
 
 pub fn question(shape: Shape, r: &mut Random) -> Question {
     match shape {
@@ -14,6 +14,7 @@ pub fn question(shape: Shape, r: &mut Random) -> Question {
         Shape::Halfway => halfway(r),
         Shape::Subnormal => subnormal(r),
         Shape::Overflow => overflow(r),
+        Shape::Special => Question::three(special::pattern(r), special::pattern(r), special::pattern(r)),
     }
 }
 

@@ -16,6 +16,7 @@ mod questions;
 mod random;
 mod sheets;
 mod software;
+mod special;
 mod step;
 mod steps;
 mod subject;

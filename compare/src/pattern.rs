@@ -5,6 +5,9 @@ pub const INFINITY: u32 = 0x7F80_0000;
 pub const LARGEST: u32 = 0x7F7F_FFFF;
 pub const SMALLEST_NORMAL: u32 = 0x0080_0000;
 pub const FRACTION: u32 = 0x007F_FFFF;
+/// The fraction bit that a quiet NaN has and a signalling one has not.
+pub const QUIET: u32 = 0x0040_0000;
+/// The NaN of operands that are none.
 pub const NAN: u32 = 0x7FC0_0000;
 
 /// A pattern as it is written: eight upper-case hexadecimal digits.
@@ -36,6 +39,10 @@ pub fn magnitude(x: u32) -> u32 {
 
 pub fn is_nan(x: u32) -> bool {
     magnitude(x) > INFINITY
+}
+
+pub fn is_signalling(x: u32) -> bool {
+    is_nan(x) && x & QUIET == 0
 }
 
 pub fn is_finite(x: u32) -> bool {

@@ -1,6 +1,7 @@
 //! The reference: the processor's own binary32 arithmetic.
-use crate::pattern::{is_nan, NAN};
+use crate::pattern::{is_nan, NAN, QUIET, SIGN};
 use crate::step::{Question, Step};
+use std::arch::asm;
 use std::hint::black_box;
 
 #[derive(Clone, Copy)]
@@ -8,23 +9,29 @@ pub struct Processor {
     pub fused_instruction: bool,
 }
 
-// Not inlined, so that no call is computed by the compiler in the place of the processor.
-#[inline(never)]
-pub extern "C" fn add(x: u32, y: u32) -> u32 {
-    (f32::from_bits(x) + f32::from_bits(y)).to_bits()
+/// What an SSE instruction gives where a NaN comes of operands that are none.
+const OWN_NAN: u32 = SIGN | NAN;
+
+/// One SSE instruction of two operands, x in its destination. Of NaN operands it returns the first, quieted; the compiler
+/// might exchange those of `+` and `*`, or work them out itself. Not inlined, as it is timed as a function.
+macro_rules! instruction {
+    ($name:ident, $line:literal) => {
+        #[inline(never)]
+        pub extern "C" fn $name(x: u32, y: u32) -> u32 {
+            // Patterns are moved to the registers as they are: a signalling NaN gets there as such.
+            let (mut result, y) = (f32::from_bits(x), f32::from_bits(y));
+            // SAFETY: the instruction reads and writes these two registers, and every x86-64 processor has it.
+            unsafe { asm!($line, x = inout(xmm_reg) result, y = in(xmm_reg) y, options(pure, nomem, nostack)) };
+            result.to_bits()
+        }
+    };
 }
 
-#[inline(never)]
-pub extern "C" fn sub(x: u32, y: u32) -> u32 {
-    (f32::from_bits(x) - f32::from_bits(y)).to_bits()
-}
+instruction!(add, "addss {x}, {y}");
+instruction!(sub, "subss {x}, {y}");
+instruction!(mul, "mulss {x}, {y}");
 
-#[inline(never)]
-pub extern "C" fn mul(x: u32, y: u32) -> u32 {
-    (f32::from_bits(x) * f32::from_bits(y)).to_bits()
-}
-
-/// One instruction, on a processor that has it.
+/// One instruction, on a processor that has it. Not inlined either.
 ///
 /// # Safety
 /// The processor has the feature `fma`.
@@ -45,23 +52,34 @@ impl Processor {
         Processor { fused_instruction: is_x86_feature_detected!("fma") }
     }
 
-    pub fn fma(self, x: u32, y: u32, z: u32) -> u32 {
-        if self.fused_instruction {
-            // SAFETY: `detect` saw the feature.
-            unsafe { fma(x, y, z) }
-        } else {
-            fma_called(x, y, z)
-        }
-    }
-
-    /// The answer, with every NaN counted as the one that the library gives.
+    /// The answer in every bit, but for the NaN of operands that are none, which has the library's sign.
     pub fn answer(self, step: Step, q: Question) -> u32 {
         let r = match step {
             Step::Add => add(q.x, q.y),
             Step::Sub => sub(q.x, q.y),
             Step::Mul => mul(q.x, q.y),
-            Step::Fma => self.fma(q.x, q.y, q.z),
+            Step::Fma => return self.fused(q.x, q.y, q.z),
         };
+        // The same pattern may be an operand's that is kept.
+        if r == OWN_NAN && !is_nan(q.x) && !is_nan(q.y) {
+            NAN
+        } else {
+            r
+        }
+    }
+
+    /// NaN operands go by the rule, written out: which of them an fma returns lies with the form of the instruction that
+    /// the compiler takes, or with the C library.
+    fn fused(self, x: u32, y: u32, z: u32) -> u32 {
+        if is_nan(x) {
+            return x | QUIET;
+        } else if is_nan(y) {
+            return y | QUIET;
+        } else if is_nan(z) {
+            return z | QUIET;
+        }
+        // SAFETY: `detect` saw the feature.
+        let r = if self.fused_instruction { unsafe { fma(x, y, z) } } else { fma_called(x, y, z) };
         if is_nan(r) {
             NAN
         } else {
@@ -81,8 +99,9 @@ impl Processor {
 }
 
 /// Answers worked out by hand. A processor that flushes subnormals or rounds another way fails the
-/// sums and the products; a fused step that rounds twice, in binary32 or in binary64, fails the rest.
-const KNOWN: [(Step, u32, u32, u32, u32); 19] = [
+/// sums and the products; a fused step that rounds twice, in binary32 or in binary64, fails the next;
+/// one that chooses among NaN, or changes them, otherwise fails the last.
+const KNOWN: [(Step, u32, u32, u32, u32); 36] = [
     // Subnormals: 2^-149 + 2^-149, 2^-126 - 2^-149, 2^-126 * 1/2.
     (Step::Add, 0x0000_0001, 0x0000_0001, 0, 0x0000_0002),
     (Step::Sub, 0x0080_0000, 0x0000_0001, 0, 0x007F_FFFF),
@@ -111,4 +130,26 @@ const KNOWN: [(Step, u32, u32, u32, u32); 19] = [
     // An infinity times 0, and infinities that cancel.
     (Step::Fma, 0x7F80_0000, 0x0000_0000, 0x3F80_0000, 0x7FC0_0000),
     (Step::Fma, 0x7F80_0000, 0x3F80_0000, 0xFF80_0000, 0x7FC0_0000),
+    (Step::Add, 0xFF80_0000, 0x7F80_0000, 0, 0x7FC0_0000),
+    (Step::Sub, 0x7F80_0000, 0x7F80_0000, 0, 0x7FC0_0000),
+    (Step::Mul, 0x8000_0000, 0x7F80_0000, 0, 0x7FC0_0000),
+    // A NaN keeps its sign and payload; a signalling one becomes quiet.
+    (Step::Add, 0x7FC0_0001, 0x0000_0000, 0, 0x7FC0_0001),
+    (Step::Add, 0x3F80_0000, 0xFF81_2345, 0, 0xFFC1_2345),
+    (Step::Mul, 0xBF80_0000, 0x7FC1_2345, 0, 0x7FC1_2345),
+    (Step::Mul, 0xFF80_0001, 0x7F80_0000, 0, 0xFFC0_0001),
+    // One that no payload tells from what infinities give.
+    (Step::Add, 0xFFC0_0000, 0x3F80_0000, 0, 0xFFC0_0000),
+    // A subtraction does not turn the sign of its second operand.
+    (Step::Sub, 0x3F80_0000, 0x7FC1_2345, 0, 0x7FC1_2345),
+    (Step::Sub, 0x7F80_0000, 0xFFBF_FFFF, 0, 0xFFFF_FFFF),
+    // Of two the first, whichever signals.
+    (Step::Add, 0x7FC0_0001, 0xFFC0_0002, 0, 0x7FC0_0001),
+    (Step::Add, 0xFF80_0001, 0x7FC0_0002, 0, 0xFFC0_0001),
+    (Step::Sub, 0x7FC0_0002, 0xFF80_0001, 0, 0x7FC0_0002),
+    (Step::Mul, 0x7FC0_0001, 0x7FFF_FFFF, 0, 0x7FC0_0001),
+    // Of three too, and before what an infinity times 0 would give.
+    (Step::Fma, 0x3F80_0000, 0xFF80_0002, 0x7FC0_0003, 0xFFC0_0002),
+    (Step::Fma, 0x7FC0_0001, 0xFF80_0002, 0x7FC0_0003, 0x7FC0_0001),
+    (Step::Fma, 0x0000_0000, 0x7F80_0000, 0xFF80_0003, 0xFFC0_0003),
 ];

@@ -2,6 +2,7 @@
 use crate::pattern::{exact, exponent_field, is_finite, moved, LARGEST};
 use crate::questions::Shape;
 use crate::random::Random;
+use crate::special;
 use crate::step::Question;
 use crate::sums::number;
 
@@ -13,6 +14,7 @@ pub fn question(shape: Shape, r: &mut Random) -> Question {
         Shape::Halfway => halfway(r),
         Shape::Subnormal => subnormal(r),
         Shape::Overflow => overflow(r),
+        Shape::Special => Question::two(special::pattern(r), special::pattern(r)),
     }
 }
 

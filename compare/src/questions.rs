@@ -18,10 +18,19 @@ pub enum Shape {
     Subnormal,
     /// Results beside the largest number.
     Overflow,
+    /// NaN of any sign and payload, infinities, zeros and the smallest numbers.
+    Special,
 }
 
-pub const SHAPES: [Shape; 6] =
-    [Shape::Uniform, Shape::Near, Shape::Cancelling, Shape::Halfway, Shape::Subnormal, Shape::Overflow];
+pub const SHAPES: [Shape; 7] = [
+    Shape::Uniform,
+    Shape::Near,
+    Shape::Cancelling,
+    Shape::Halfway,
+    Shape::Subnormal,
+    Shape::Overflow,
+    Shape::Special,
+];
 
 impl Shape {
     pub fn name(self) -> &'static str {
@@ -32,6 +41,7 @@ impl Shape {
             Shape::Halfway => "halfway",
             Shape::Subnormal => "subnormal",
             Shape::Overflow => "overflow",
+            Shape::Special => "special",
         }
     }
 }

@@ -2,6 +2,7 @@
 use crate::pattern::{exact, fields, moved, power, FRACTION, LARGEST, SIGN};
 use crate::questions::Shape;
 use crate::random::Random;
+use crate::special;
 use crate::step::Question;
 
 pub fn question(shape: Shape, r: &mut Random) -> Question {
@@ -12,6 +13,7 @@ pub fn question(shape: Shape, r: &mut Random) -> Question {
         Shape::Halfway => halfway(r),
         Shape::Subnormal => subnormal(r),
         Shape::Overflow => overflow(r),
+        Shape::Special => Question::two(special::pattern(r), special::pattern(r)),
     }
 }
 

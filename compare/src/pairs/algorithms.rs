@@ -3,8 +3,9 @@
 //! They follow the paper's lines, without flags. Algorithm 9 leaves the sign of a zero second open: the lines
 //! that the paper adds to algorithm 8 for it are added here too. Its edge remainder is 2^102, not 2^104 as printed.
 use super::pair::{Flags, Operation, Pair};
-use crate::pattern::{is_nan, NAN, SIGN};
+use crate::pattern::{is_nan, SIGN};
 use crate::processor::Processor;
+use crate::step::{Question, Step};
 
 /// 1 - 2^-24.
 const PSI: f32 = f32::from_bits(0x3F7F_FFFF);
@@ -50,7 +51,8 @@ pub extern "C" fn product_called(x: u32, y: u32) -> Pair {
     patterns(augmented_multiplication(f32::from_bits(x), f32::from_bits(y)))
 }
 
-/// First and second, with every NaN counted as the one that the library gives.
+/// First and second. Where the algorithms' first is NaN, it is the one that the processor's sum or product gives, and so is
+/// a NaN second: theirs depend on the order in which the compiler puts operands.
 pub fn answer(processor: Processor, operation: Operation, x: u32, y: u32) -> (u32, u32) {
     let pair = match operation {
         Operation::Sum => sum(x, y),
@@ -59,8 +61,15 @@ pub fn answer(processor: Processor, operation: Operation, x: u32, y: u32) -> (u3
         Operation::Product if processor.fused_instruction => unsafe { product(x, y) },
         Operation::Product => product_called(x, y),
     };
-    let counted = |pattern| if is_nan(pattern) { NAN } else { pattern };
-    (counted(pair.first), counted(pair.second))
+    if !is_nan(pair.first) {
+        return pair.patterns();
+    }
+    let nan = match operation {
+        Operation::Sum => processor.answer(Step::Add, Question::two(x, y)),
+        Operation::Difference => processor.answer(Step::Add, Question::two(x, y ^ SIGN)),
+        Operation::Product => processor.answer(Step::Mul, Question::two(x, y)),
+    };
+    (nan, if is_nan(pair.second) { nan } else { pair.second })
 }
 
 #[inline(always)]

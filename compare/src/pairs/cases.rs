@@ -1,4 +1,5 @@
-//! The cases that the specification lists, which both references have to give before they count as such.
+//! The cases that the specification lists, and some with NaN operands, which both references have to give before they count
+//! as such.
 use super::pair::{Flags, Operation, Pair};
 use super::{algorithms, model};
 use crate::pattern::SIGN;
@@ -34,7 +35,7 @@ const fn case(operation: Operation, x: u32, y: u32, first: u32, second: u32, fla
     (operation, x, y, Pair { first, second, flags })
 }
 
-const CASES: [Case; 11] = [
+const CASES: [Case; 17] = [
     case(Operation::Sum, 0x3F80_0000, 0x3380_0000, 0x3F80_0000, 0x3380_0000, Flags::NONE),
     case(Operation::Sum, 0x7F7F_FFFF, 0x7300_0000, 0x7F7F_FFFF, 0x7300_0000, Flags::NONE),
     case(Operation::Sum, 0x7F7F_FFFF, 0x7300_0001, 0x7F80_0000, 0x7F80_0000, Flags::OX),
@@ -46,4 +47,11 @@ const CASES: [Case; 11] = [
     case(Operation::Product, 0x8000_0001, 0x3F00_0000, 0x8000_0000, 0x8000_0000, Flags::UX),
     case(Operation::Product, 0x3F80_0001, 0x0080_0001, 0x0080_0002, 0x0000_0000, Flags::UX),
     case(Operation::Product, 0x3F80_0001, 0x3F80_0001, 0x3F80_0002, 0x2880_0000, Flags::NONE),
+    // NaN operands: the first keeps its sign and payload and is quiet. A signalling one raises I, kept or not.
+    case(Operation::Sum, 0x7FC0_0001, 0x0000_0000, 0x7FC0_0001, 0x7FC0_0001, Flags::NONE),
+    case(Operation::Sum, 0x7F80_0000, 0xFF81_2345, 0xFFC1_2345, 0xFFC1_2345, Flags::I),
+    case(Operation::Sum, 0xFFC0_0001, 0x7F80_0002, 0xFFC0_0001, 0xFFC0_0001, Flags::I),
+    case(Operation::Product, 0x0000_0000, 0xFFC0_0001, 0xFFC0_0001, 0xFFC0_0001, Flags::NONE),
+    case(Operation::Product, 0xFF80_0001, 0x7FC0_0002, 0xFFC0_0001, 0xFFC0_0001, Flags::I),
+    case(Operation::Product, 0x8000_0000, 0x7F80_0000, 0x7FC0_0000, 0x7FC0_0000, Flags::I),
 ];

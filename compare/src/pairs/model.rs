@@ -4,13 +4,14 @@
 //! normalised to round it, and sums and products are rounded by the same few lines.
 use super::number::{Magnitude, Number, ONE};
 use super::pair::{Flags, Operation, Pair};
-use crate::pattern::{is_finite, is_nan, magnitude, INFINITY, LARGEST, NAN, SIGN};
+use crate::pattern::{is_finite, is_nan, is_signalling, magnitude, INFINITY, LARGEST, NAN, QUIET, SIGN};
 
 pub fn pair(operation: Operation, x: u32, y: u32) -> Pair {
     let y = if operation == Operation::Difference { y ^ SIGN } else { y };
     if is_nan(x) || is_nan(y) {
         let flags = if is_signalling(x) || is_signalling(y) { Flags::I } else { Flags::NONE };
-        return Pair::twice(NAN, flags);
+        let kept = if is_nan(x) { x } else { y };
+        return Pair::twice(kept | QUIET, flags);
     }
     let finite = is_finite(x) && is_finite(y);
     match operation {
@@ -19,10 +20,6 @@ pub fn pair(operation: Operation, x: u32, y: u32) -> Pair {
         _ if finite => sum(x, y),
         _ => infinite_sum(x, y),
     }
-}
-
-fn is_signalling(x: u32) -> bool {
-    is_nan(x) && x & 0x0040_0000 == 0
 }
 
 fn infinite_sum(x: u32, y: u32) -> Pair {

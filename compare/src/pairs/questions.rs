@@ -21,13 +21,14 @@ pub enum Shape {
     Tiny,
 }
 
-const SHAPES: [Shape; 7] = [
+const SHAPES: [Shape; 8] = [
     Shape::Step(StepShape::Uniform),
     Shape::Step(StepShape::Near),
     Shape::Step(StepShape::Cancelling),
     Shape::Halfway,
     Shape::Step(StepShape::Subnormal),
     Shape::Overflow,
+    Shape::Step(StepShape::Special),
     Shape::Tiny,
 ];
 
@@ -46,7 +47,7 @@ impl Shape {
 pub fn shapes(operation: Operation) -> &'static [Shape] {
     match operation {
         Operation::Product => &SHAPES,
-        Operation::Sum | Operation::Difference => &SHAPES[..6],
+        Operation::Sum | Operation::Difference => &SHAPES[..7],
     }
 }
 
@@ -127,13 +128,14 @@ fn number(shape: Shape) -> u64 {
     SHAPES.iter().position(|&s| s == shape).expect("listed") as u64
 }
 
-/// The constructed questions in portions, then a chunk for each first operand.
+/// A chunk for each first operand, then the constructed questions in portions: these are more, and every NaN is among those.
 fn of_edges(edges: &Edges, operation: Operation, chunk: usize) -> Vec<Question> {
-    let constructed = edges.constructed(operation);
-    let portions = constructed.chunks(CHUNK as usize);
-    let questions = match chunk.checked_sub(portions.len()) {
-        Some(row) => edges.patterns.iter().map(|&y| Question::two(edges.patterns[row], y)).collect(),
-        None => constructed.chunks(CHUNK as usize).nth(chunk).expect("a portion").to_vec(),
+    let questions = match chunk.checked_sub(edges.patterns.len()) {
+        None => edges.patterns.iter().map(|&y| Question::two(edges.patterns[chunk], y)).collect(),
+        Some(portion) => {
+            let mut portions = edges.constructed(operation).chunks(CHUNK as usize);
+            portions.nth(portion).expect("a portion").to_vec()
+        }
     };
     match operation {
         Operation::Difference => questions.into_iter().map(turned).collect(),

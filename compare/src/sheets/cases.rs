@@ -1,5 +1,5 @@
-//! What the model has to give before it counts as a reference: the example of R9, the cases of R10, and the steps of
-//! the processor; and the table of branches has to have every way that questions take.
+//! What the model has to give before it counts as a reference: the example of R9, sheets with NaN, the cases of R10, and
+//! the steps of the processor; and the table of branches has to have every way that questions take.
 use super::files::branches;
 use super::{model, steps};
 use crate::processor::Processor;
@@ -21,6 +21,32 @@ total\t3F800001\t33800000
 end\t1\t0
 ";
 
+/// Where line 1 is NaN it is the last; u times an infinity has a NaN behind it, of the sign that -a' has.
+const NAN_QUESTIONS: &str = "sum\t7FC00001\t00000000
+dif\t3F800000\t7F812345
+mul\tFFC12345\t7F800001
+mul\t00000001\t7F800000
+";
+
+const NAN_ANSWERS: &str = "ask\t1\tsum\t7FC00001\t00000000
+step\t1\tadd\t7FC00001\t00000000\t-\t7FC00001
+pair\t7FC00001\t7FC00001\t-
+ask\t2\tdif\t3F800000\t7F812345
+step\t1\tadd\t3F800000\tFF812345\t-\tFFC12345
+pair\tFFC12345\tFFC12345\tI
+ask\t3\tmul\tFFC12345\t7F800001
+step\t1\tmul\tFFC12345\t7F800001\t-\tFFC12345
+pair\tFFC12345\tFFC12345\tI
+ask\t4\tmul\t00000001\t7F800000
+step\t1\tmul\t00000001\t7F800000\t-\t7F800000
+step\t2\tmul\t3F000000\t00000001\t-\t00000000
+step\t3\tmul\t00000000\t7F800000\t-\t7FC00000
+step\t4\tfma\t00000000\t7F800000\tFFC00000\tFFC00000
+pair\t7F800000\t7F800000\t-
+total\t00000000\t00000000
+end\t4\t0
+";
+
 const EMPTY: &str = "total\t00000000\t00000000\nend\t0\t0\n";
 
 /// Questions with the `pair` line that R10 lists.
@@ -40,7 +66,11 @@ const CASES: [(&str, &str); 11] = [
 
 /// The first thing that the model does not give.
 pub fn distrusted(processor: Processor, seed: u64) -> Option<String> {
-    let texts = [("the example", QUESTION, ANSWER), ("empty input", "", EMPTY)];
+    let texts = [
+        ("the example", QUESTION, ANSWER),
+        ("sheets with NaN", NAN_QUESTIONS, NAN_ANSWERS),
+        ("empty input", "", EMPTY),
+    ];
     let text = texts.iter().find(|(_, input, right)| model::printed(input.as_bytes()) != *right);
     text.map(|text| text.0.to_string()).or_else(wrong_pair).or_else(|| wrong_step(processor, seed)).or_else(
         || branches::missing(seed, WAYS).map(|asked| format!("a way without a row: {}", asked.shown())),

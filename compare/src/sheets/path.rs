@@ -7,6 +7,7 @@ pub enum Branch {
     Sum,
     SumInfinite,
     SumEdge,
+    /// NaN on line 1 ends the sheet, of a product too.
     SumNan,
     ProductInfinite,
     ProductEdge,

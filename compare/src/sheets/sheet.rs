@@ -134,8 +134,12 @@ impl Writer {
 
     fn fast_two_sum(&mut self, x: u32, y: u32) -> (u32, u32) {
         let a = self.add(x, y);
+        (a, self.left_of_sum(x, y, a))
+    }
+
+    fn left_of_sum(&mut self, x: u32, y: u32, a: u32) -> u32 {
         let v = self.sub(a, x);
-        (a, self.sub(y, v))
+        self.sub(y, v)
     }
 
     fn fast_two_mult(&mut self, x: u32, y: u32) -> (u32, u32) {
@@ -153,13 +157,23 @@ impl Writer {
         }
     }
 
+    /// After line 1, with `a` twice.
+    fn ended(&mut self, a: u32, branch: Branch) -> (u32, u32) {
+        self.path.branch = branch;
+        (a, a)
+    }
+
     /// For a difference, y is flipped already.
     fn sum(&mut self, x: u32, y: u32) -> (u32, u32) {
         let larger = !is_nan(x) && !is_nan(y) && magnitude(y) > magnitude(x);
         self.path.swapped = larger;
         let (x, y) = if larger { (y, x) } else { (x, y) };
-        let (a, b) = self.fast_two_sum(x, y);
-        self.path.branch = if is_nan(a) { Branch::SumNan } else { Branch::Sum };
+        let a = self.add(x, y);
+        if is_nan(a) {
+            return self.ended(a, Branch::SumNan);
+        }
+        self.path.branch = Branch::Sum;
+        let b = self.left_of_sum(x, y, a);
         let recomposed = self.recompose(a, b);
         let (first, second) = self.zero_finish(recomposed);
         if !is_zero(second) && is_infinite(a) {
@@ -173,20 +187,21 @@ impl Writer {
 
     fn product(&mut self, x: u32, y: u32) -> (u32, u32) {
         let a = self.mul(x, y);
-        if is_infinite(a) {
+        if is_nan(a) {
+            self.ended(a, Branch::ProductNan)
+        } else if is_infinite(a) {
             self.path.branch = Branch::ProductInfinite;
             let h = self.mul(HALF, x);
             let halved = self.fast_two_mult(h, y);
             self.at_overflow(a, halved, Branch::ProductEdge)
         } else if is_zero(a) {
-            self.path.branch = Branch::ProductZero;
-            (a, a)
+            self.ended(a, Branch::ProductZero)
         } else if magnitude(a) < power(-125) {
             self.tiny(x, y, a)
         } else if magnitude(a) <= power(-102) {
             self.middle(x, y)
         } else {
-            self.path.branch = if is_nan(a) { Branch::ProductNan } else { Branch::Otherwise };
+            self.path.branch = Branch::Otherwise;
             let b = self.fma(x, y, opposite(a));
             let recomposed = self.recompose(a, b);
             self.zero_finish(recomposed)

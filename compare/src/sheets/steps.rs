@@ -3,11 +3,15 @@
 //! It has the exact numbers and the search of the pairs' model, and nothing of the processor's floats.
 use crate::pairs::model::largest_not_above;
 use crate::pairs::number::{Magnitude, Number, ONE};
-use crate::pattern::{is_finite, is_nan, magnitude, INFINITY, LARGEST, NAN, SIGN};
+use crate::pattern::{is_finite, is_nan, magnitude, INFINITY, LARGEST, NAN, QUIET, SIGN};
 use crate::step::{Question, Step};
 use std::cmp::Ordering;
 
+/// Where an operand is NaN, the first such is the result, quieted, and neither step nor other operands are looked at.
 pub fn answer(step: Step, q: Question) -> u32 {
+    if let Some(nan) = [q.x, q.y, q.z].into_iter().find(|&operand| is_nan(operand)) {
+        return nan | QUIET;
+    }
     match step {
         Step::Add => add(q.x, q.y),
         Step::Sub => add(q.x, q.y ^ SIGN),
@@ -17,9 +21,6 @@ pub fn answer(step: Step, q: Question) -> u32 {
 }
 
 fn add(x: u32, y: u32) -> u32 {
-    if is_nan(x) || is_nan(y) {
-        return NAN;
-    }
     match (is_finite(x), is_finite(y)) {
         (true, true) => rounded(&Number::of(x).sum(&Number::of(y)), x & y & SIGN),
         (true, false) => y,
@@ -37,11 +38,8 @@ fn mul(x: u32, y: u32) -> u32 {
 
 /// One rounding of the product plus the third operand.
 fn fma(x: u32, y: u32, z: u32) -> u32 {
-    let product = special_product(x, y);
-    if is_nan(z) || product == Some(NAN) {
-        return NAN;
-    }
-    match (product, is_finite(z)) {
+    match (special_product(x, y), is_finite(z)) {
+        (Some(NAN), _) => NAN,
         (None, true) => rounded(&Number::product(x, y).sum(&Number::of(z)), (x ^ y) & z & SIGN),
         (None, false) => z,
         (Some(infinity), true) => infinity,
@@ -51,9 +49,6 @@ fn fma(x: u32, y: u32, z: u32) -> u32 {
 
 /// The NaN or infinity that a product is, unless both factors are finite.
 fn special_product(x: u32, y: u32) -> Option<u32> {
-    if is_nan(x) || is_nan(y) {
-        return Some(NAN);
-    }
     if is_finite(x) && is_finite(y) {
         return None;
     }

@@ -3,6 +3,7 @@ use crate::lists::fills::{before, Shape};
 use crate::lists::model::{operation, Filled, WORDS};
 use crate::lists::subject::{Arrays, Lents, Subject, TESTED};
 use crate::pairs::pair::Flags;
+use crate::pattern::{is_nan, NAN, SIGN};
 use crate::totals::subject::Lent;
 
 /// A fault in filling. The answer and the words are spoilt after a right call.
@@ -27,9 +28,14 @@ pub enum Fault {
     NoFlags,
     SwappedFoot,
     RefusedAnswers,
+    NanGoesOn,
+    NanLosesPayload,
+    NanNotFlipped,
+    NanHalvesUnlike,
+    NanOnLine4,
 }
 
-pub const FAULTS: [(Fault, Shape, &str); 22] = [
+pub const FAULTS: [(Fault, Shape, &str); 30] = [
     (Fault::Touches66th, Shape::Good(1), "the 66th word written"),
     (Fault::TouchesLast, Shape::Good(2), "the last word written"),
     (Fault::LeavesUnused, Shape::Good(1), "unused words left"),
@@ -52,6 +58,14 @@ pub const FAULTS: [(Fault, Shape, &str); 22] = [
     (Fault::NoFlags, Shape::Good(3), "no flags"),
     (Fault::SwappedFoot, Shape::Good(1), "first and second in each other's place"),
     (Fault::RefusedAnswers, Shape::Refused, "a refusal with a foot"),
+    (Fault::NanGoesOn, Shape::Good(1), "a sheet that goes on after a NaN line 1"),
+    (Fault::NanGoesOn, Shape::Good(3), "a sheet that goes on after a NaN line 1"),
+    (Fault::NanLosesPayload, Shape::Good(1), "a NaN's payload lost"),
+    (Fault::NanLosesPayload, Shape::Good(2), "a NaN's payload lost"),
+    (Fault::NanLosesPayload, Shape::Good(3), "a NaN's payload lost"),
+    (Fault::NanNotFlipped, Shape::Good(2), "a difference's NaN not flipped"),
+    (Fault::NanHalvesUnlike, Shape::Good(3), "second 7FC00000 beside another NaN"),
+    (Fault::NanOnLine4, Shape::Good(3), "7FC00000 on line 4 of u times an infinity"),
 ];
 
 impl Fault {
@@ -90,6 +104,26 @@ impl Fault {
             Fault::WrongOperation => words.iter_mut().take(WORDS).step_by(5).for_each(|w| *w = (*w).min(1)),
             Fault::NoFlags => sheet.flags = Flags::NONE,
             Fault::SwappedFoot => (sheet.first, sheet.second) = (sheet.second, sheet.first),
+            Fault::NanOnLine4 if words[18..20] == [SIGN | NAN; 2] => words[19] = NAN,
+            _ if is_nan(sheet.first) => self.spoil_nan(sheet, words),
+            _ => {}
+        }
+    }
+
+    /// Line 1 is NaN, and so is the foot.
+    fn spoil_nan(self, sheet: &mut Filled, words: &mut [u32]) {
+        let (x, y, nan) = (words[1], words[2], sheet.first);
+        match self {
+            Fault::NanGoesOn => {
+                words[5..10].copy_from_slice(&[2, nan, x, 0, nan]);
+                sheet.lines = 2;
+            }
+            Fault::NanLosesPayload => (words[4], sheet.first, sheet.second) = (NAN, NAN, NAN),
+            Fault::NanNotFlipped if !is_nan(x) && is_nan(y) => {
+                let own = nan ^ SIGN;
+                (words[4], sheet.first, sheet.second) = (own, own, own);
+            }
+            Fault::NanHalvesUnlike => sheet.second = NAN,
             _ => {}
         }
     }

@@ -4,7 +4,7 @@ mod listing;
 
 use super::{fills, trial};
 
-const SHEETS: u64 = 4096;
+const SHEETS: u64 = 8192;
 const LISTS: u64 = 64;
 
 /// Runs the comparison on each fault, by its shape. Says which it found, or the first that it missed.

@@ -53,7 +53,7 @@ pub fn missing(seed: u64, count: u64) -> Option<Asked> {
     (0..count).map(|_| drawn::question(&mut r)).find(|&asked| known.binary_search(&way(asked)).is_err())
 }
 
-const QUESTIONS: [(Operation, u32, u32); 154] = [
+const QUESTIONS: [(Operation, u32, u32); 164] = [
     (Sum, 0x3F80_0001, 0x3380_0000),
     (Sum, 0x3300_0000, 0x3F80_0000),
     (Sum, 0xBF80_0000, 0x3F80_0000),
@@ -208,4 +208,14 @@ const QUESTIONS: [(Operation, u32, u32); 154] = [
     (Difference, 0x3F80_0000, 0xB300_0000),
     (Difference, 0x3300_0000, 0xBF80_0000),
     (Product, 0x0196_4000, 0x485A_1700),
+    (Sum, 0x7FC0_0001, 0x0000_0000),
+    (Sum, 0x0000_0000, 0xFFC1_2345),
+    (Sum, 0x7F81_2345, 0xFFC0_0001),
+    (Difference, 0x3F80_0000, 0x7F81_2345),
+    (Difference, 0xFFC1_2345, 0x7FC0_0001),
+    (Difference, 0x7F80_0000, 0xFFFF_FFFF),
+    (Product, 0xFFC1_2345, 0x7F80_0001),
+    (Product, 0x0000_0000, 0x7FC1_2345),
+    (Product, 0xFF80_0000, 0x7FBF_FFFF),
+    (Product, 0x8000_0001, 0xFF80_0000),
 ];

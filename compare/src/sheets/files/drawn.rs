@@ -49,7 +49,7 @@ pub fn shaped(r: &mut Random) -> File {
 }
 
 /// Both signs of each.
-const SPECIALS: [u32; 20] = [
+const SPECIALS: [u32; 22] = [
     0,
     1,
     2,
@@ -70,6 +70,8 @@ const SPECIALS: [u32; 20] = [
     INFINITY + 1,
     NAN - 1,
     NAN,
+    NAN + 1,
+    0x7FC1_2345,
 ];
 
 pub const SPECIAL_FILES: u64 = OPERATIONS.len() as u64;

@@ -53,7 +53,7 @@ pub enum Shape {
     Specials,
     /// Any patterns.
     Uniform,
-    /// The shapes that the pairs are asked: near, cancelling, halfway, subnormal, overflow, tiny.
+    /// The shapes that the pairs are asked.
     Shaped,
     /// Lists whose totals cancel, or are as small or as large as can be.
     Cancelling,

@@ -1,7 +1,7 @@
 //! The step sheet on the processor's floats, each line written as it is worked.
 use super::question::{Kind, Question};
 use super::text::{Operation, Text};
-use crate::pattern::{is_finite, is_nan, magnitude, power, INFINITY, NAN, SIGN};
+use crate::pattern::{is_finite, is_nan, magnitude, power, INFINITY, NAN, QUIET, SIGN};
 
 const PSI: u32 = 0x3F7F_FFFF;
 const TWO: u32 = 0x4000_0000;
@@ -45,35 +45,41 @@ pub fn flags(question: &Question, first: u32, second: u32) -> &'static [u8] {
 
 #[inline(always)]
 fn signals(x: u32) -> bool {
-    is_nan(x) && x & 0x0040_0000 == 0
+    is_nan(x) && x & QUIET == 0
 }
 
+/// The processor's number. Which NaN it gives depends on how the compiler puts the operands, so that NaN goes by the rule.
 #[inline(always)]
-fn result(value: f32) -> u32 {
+fn result<const N: usize>(value: f32, operands: [u32; N]) -> u32 {
     if value.is_nan() {
-        NAN
+        nan_of(&operands)
     } else {
         value.to_bits()
     }
 }
 
+#[cold]
+fn nan_of(operands: &[u32]) -> u32 {
+    operands.iter().find(|&&operand| is_nan(operand)).map_or(NAN, |nan| nan | QUIET)
+}
+
 #[inline(always)]
 fn add(text: &mut Text, x: u32, y: u32) -> u32 {
-    let sum = result(f32::from_bits(x) + f32::from_bits(y));
+    let sum = result(f32::from_bits(x) + f32::from_bits(y), [x, y]);
     text.two(Operation::Add, x, y, sum);
     sum
 }
 
 #[inline(always)]
 fn sub(text: &mut Text, x: u32, y: u32) -> u32 {
-    let difference = result(f32::from_bits(x) - f32::from_bits(y));
+    let difference = result(f32::from_bits(x) - f32::from_bits(y), [x, y]);
     text.two(Operation::Sub, x, y, difference);
     difference
 }
 
 #[inline(always)]
 fn mul(text: &mut Text, x: u32, y: u32) -> u32 {
-    let product = result(f32::from_bits(x) * f32::from_bits(y));
+    let product = result(f32::from_bits(x) * f32::from_bits(y), [x, y]);
     text.two(Operation::Mul, x, y, product);
     product
 }
@@ -82,7 +88,7 @@ fn mul(text: &mut Text, x: u32, y: u32) -> u32 {
 #[inline(always)]
 fn rest(text: &mut Text, x: u32, y: u32, a: u32) -> u32 {
     let z = a ^ SIGN;
-    let fused = result(f32::from_bits(x).mul_add(f32::from_bits(y), f32::from_bits(z)));
+    let fused = result(f32::from_bits(x).mul_add(f32::from_bits(y), f32::from_bits(z)), [x, y, z]);
     text.three(Operation::Fma, [x, y, z], fused);
     fused
 }
@@ -116,8 +122,13 @@ fn zero_finished(text: &mut Text, (first, second): (u32, u32)) -> (u32, u32) {
 #[inline(always)]
 fn fast_two_sum(text: &mut Text, x: u32, y: u32) -> (u32, u32) {
     let a = add(text, x, y);
+    (a, left_of_sum(text, x, y, a))
+}
+
+#[inline(always)]
+fn left_of_sum(text: &mut Text, x: u32, y: u32, a: u32) -> u32 {
     let v = sub(text, a, x);
-    (a, sub(text, y, v))
+    sub(text, y, v)
 }
 
 #[inline(always)]
@@ -132,7 +143,11 @@ fn at_overflow(text: &mut Text, a: u32, (half, left): (u32, u32)) -> (u32, u32) 
 #[inline(always)]
 fn sum(x: u32, y: u32, text: &mut Text) -> (u32, u32) {
     let (x, y) = if f32::from_bits(y).abs() > f32::from_bits(x).abs() { (y, x) } else { (x, y) };
-    let (a, b) = fast_two_sum(text, x, y);
+    let a = add(text, x, y);
+    if is_nan(a) {
+        return (a, a);
+    }
+    let b = left_of_sum(text, x, y, a);
     let pair = recomposed(text, a, b);
     if magnitude(a) == INFINITY {
         return infinite_sum(text, x, y, a);
@@ -155,7 +170,7 @@ fn product(x: u32, y: u32, text: &mut Text) -> (u32, u32) {
         let half = mul(text, h, y);
         let left = rest(text, h, y, half);
         at_overflow(text, a, (half, left))
-    } else if magnitude(a) == 0 {
+    } else if magnitude(a) == 0 || is_nan(a) {
         (a, a)
     } else if magnitude(a) < power(-125) {
         tiny(x, y, a, text)

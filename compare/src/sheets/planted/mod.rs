@@ -1,5 +1,6 @@
 //! The comparison of the program tried on itself: a program with a planted fault has to be found out.
 mod input;
+mod nan;
 mod order;
 mod text;
 mod totals;
@@ -46,7 +47,7 @@ fn faults() -> Vec<(Fault, Shape, &'static str)> {
         digits.map(|way| (Fault::Digit(way), Shape::Branches, "a wrong digit on each way through the rules"));
     let inputs = input::FAULTS.iter().map(|&(fault, shape, name)| (Fault::Input(fault), shape, name));
     let orders = order::FAULTS.iter().map(|&(fault, shape, name)| (Fault::Order(fault), shape, name));
-    let texts = text::FAULTS.iter().chain(&totals::FAULTS);
+    let texts = text::FAULTS.iter().chain(&nan::FAULTS).chain(&totals::FAULTS);
     let texts = texts.map(|&(fault, shape, name)| (Fault::Text(fault), shape, name));
     digits.chain(inputs).chain(orders).chain(texts).collect()
 }

@@ -1,17 +1,12 @@
-//! The comparison of pairs tried on itself: a library with a planted fault has to be found out.
-use super::compare::{compare, Difference};
-use super::edges::Edges;
-use super::pair::{Flags, Operation, Pair, OPERATIONS};
-use super::questions::{Shape, Source};
-use super::subject::{Library, Subject};
-use crate::pattern::{
-    exact, exponent_field, is_finite, is_nan, is_subnormal, magnitude, FRACTION, LARGEST, NAN, SIGN,
-};
-use crate::processor::Processor;
+//! Faults in the numbers of a pair.
+use super::Given;
+use crate::pairs::pair::{Flags, Operation, Pair};
+use crate::pairs::questions::Shape;
+use crate::pattern::{exact, exponent_field, is_finite, magnitude, FRACTION, LARGEST, NAN, SIGN};
 use crate::questions::Shape as StepShape;
 
-#[derive(Clone, Copy, PartialEq)]
-enum Fault {
+#[derive(Clone, Copy)]
+pub enum Fault {
     /// 2^128 - 2^103 itself overflows.
     EdgeOverflows,
     /// At a tie just below a power of two, first is that power less the spacing above it.
@@ -34,18 +29,9 @@ enum Fault {
     Carry,
     /// The addends or factors are handed back: of a difference, y with its sign turned, which adds up.
     Operands,
-    /// No flag is raised.
-    NoFlags,
-    /// A quiet NaN raises I.
-    QuietInvalid,
-    /// U without X. No sum raises U.
-    UnderflowAlone,
-    /// A subnormal product raises U and X though it is exact. No sum raises U.
-    ExactUnderflow,
 }
 
-/// Each fault with the shape that is there to find it, and what a report calls it.
-const FAULTS: [(Fault, Shape, &str); 15] = [
+pub const FAULTS: [(Fault, Shape, &str); 11] = [
     (Fault::EdgeOverflows, Shape::Overflow, "overflow at 2^128 - 2^103 itself"),
     (Fault::SpacingAbove, Shape::Halfway, "the spacing above a power of two"),
     (Fault::TieToEven, Shape::Halfway, "a tie to even"),
@@ -57,39 +43,23 @@ const FAULTS: [(Fault, Shape, &str); 15] = [
     (Fault::MinusZero, Shape::Step(StepShape::Cancelling), "-0 from numbers that cancel"),
     (Fault::Carry, Shape::Step(StepShape::Cancelling), "a wrong bit beside a power of two"),
     (Fault::Operands, Shape::Step(StepShape::Near), "the operands handed back"),
-    (Fault::NoFlags, Shape::Step(StepShape::Uniform), "no flags"),
-    (Fault::QuietInvalid, Shape::Step(StepShape::Uniform), "I for a quiet NaN"),
-    (Fault::UnderflowAlone, Shape::Step(StepShape::Subnormal), "U without X"),
-    (Fault::ExactUnderflow, Shape::Tiny, "UX for an exact product"),
 ];
 
 impl Fault {
-    fn applies(self, operation: Operation) -> bool {
+    pub fn applies(self, operation: Operation) -> bool {
         let product = operation == Operation::Product;
         match self {
-            Fault::RoundedTwice | Fault::SecondToEven | Fault::UnderflowAlone | Fault::ExactUnderflow => {
-                product
-            }
+            Fault::RoundedTwice | Fault::SecondToEven => product,
             Fault::MinusZero => !product,
             _ => true,
         }
     }
 
-    /// The algorithms give no flags, so that only the model can find these.
-    fn in_flags_only(self) -> bool {
-        matches!(self, Fault::NoFlags | Fault::QuietInvalid | Fault::UnderflowAlone | Fault::ExactUnderflow)
-    }
-}
-
-/// The library, with one fault.
-struct Planted(Fault);
-
-impl Subject for Planted {
-    fn pair(&self, operation: Operation, x: u32, y: u32) -> Pair {
-        let right = Library.pair(operation, x, y);
+    pub fn spoilt(self, given: Given) -> Pair {
+        let Given { operation, x, y, right } = given;
         let Pair { first, second, flags } = right;
         let sign = first & SIGN;
-        match self.0 {
+        match self {
             Fault::EdgeOverflows if at_edge(right) => Pair::twice(first + 1, Flags::OX),
             Fault::SpacingAbove if below_power(right) => {
                 let wrong = exact(sign >> 31, 3, half_unit(first)).expect("two bits above a half unit");
@@ -109,10 +79,6 @@ impl Subject for Planted {
                 Pair { first: x, second: y ^ SIGN, flags }
             }
             Fault::Operands => Pair { first: x, second: y, flags },
-            Fault::NoFlags => Pair { flags: Flags::NONE, ..right },
-            Fault::QuietInvalid if is_nan(first) => Pair { flags: Flags::I, ..right },
-            Fault::UnderflowAlone => Pair { flags: Flags { inexact: flags.overflow, ..flags }, ..right },
-            Fault::ExactUnderflow if is_subnormal(first) => Pair { flags: Flags::UX, ..right },
             _ => right,
         }
     }
@@ -167,31 +133,4 @@ fn rounded_twice(x: u32, y: u32) -> Option<u32> {
 fn second_odd_at_tie(x: u32, y: u32, pair: Pair) -> bool {
     let rest = units(product(x, y) - f64::from(f32::from_bits(pair.first))).abs();
     rest - rest.floor() == 0.5 && pair.second & 1 == 1
-}
-
-const COUNT: u64 = 200_000;
-
-/// Runs the comparison on each fault, by the edges and by the fault's shape. Says which it found, or the
-/// first that it did not.
-pub fn tried(processor: Processor, edges: &Edges, seed: u64) -> Result<String, String> {
-    let mut found = Vec::new();
-    for (fault, shape, name) in FAULTS {
-        for operation in OPERATIONS.into_iter().filter(|&operation| fault.applies(operation)) {
-            let random = Source::Random { seed, shape, count: COUNT };
-            for source in [Source::Edges(edges), random] {
-                let differences = compare(&Planted(fault), processor, operation, &source).differences;
-                if !seen(fault, &differences) {
-                    return Err(format!("pair {} {} ({name})", operation.name(), source.name()));
-                }
-            }
-        }
-        found.push(format!("{name} ({})", shape.name()));
-    }
-    Ok(found.join(", "))
-}
-
-/// By each of the two references that can see the fault.
-fn seen(fault: Fault, differences: &[Difference]) -> bool {
-    let by_algorithms = differences.iter().any(Difference::seen_by_algorithms);
-    differences.iter().any(Difference::seen_by_model) && (by_algorithms || fault.in_flags_only())
 }

@@ -40,13 +40,15 @@ struct jirmeklo_filled {
     struct jirmeklo_flags flags;
 };
 
-/* Steps: one rounding to nearest, ties to even. A result that is NaN is 7FC00000. fma is x * y + z. No refusal. */
+/* Steps: one rounding to nearest, ties to even. fma is x * y + z. The first NaN operand is handed on, as it is but for bit 22, which is set
+ * (sub does not flip it); where no operand is NaN, a NaN result is 7FC00000. No refusal. */
 uint32_t jirmeklo_add(uint32_t x, uint32_t y);
 uint32_t jirmeklo_sub(uint32_t x, uint32_t y);
 uint32_t jirmeklo_mul(uint32_t x, uint32_t y);
 uint32_t jirmeklo_fma(uint32_t x, uint32_t y, uint32_t z);
 
-/* Pairs of x + y, x - y and x * y, as IEEE 754-2019, clause 9.5, with flags. No refusal. */
+/* Pairs of x + y, x - y and x * y, as IEEE 754-2019, clause 9.5, with flags. Where first is NaN, both halves are what jirmeklo_add (of
+ * x - y: on x and y with its sign bit flipped) or jirmeklo_mul gives. No refusal. */
 struct jirmeklo_pair jirmeklo_sum(uint32_t x, uint32_t y);
 struct jirmeklo_pair jirmeklo_difference(uint32_t x, uint32_t y);
 struct jirmeklo_pair jirmeklo_product(uint32_t x, uint32_t y);

@@ -47,8 +47,9 @@ uint32_t jirmeklo_sub(uint32_t x, uint32_t y);
 uint32_t jirmeklo_mul(uint32_t x, uint32_t y);
 uint32_t jirmeklo_fma(uint32_t x, uint32_t y, uint32_t z);
 
-/* Pairs of x + y, x - y and x * y, as IEEE 754-2019, clause 9.5, with flags. Where first is NaN, both halves are what jirmeklo_add (of
- * x - y: on x and y with its sign bit flipped) or jirmeklo_mul gives. No refusal. */
+/* Pairs of x + y, x - y and x * y, as IEEE 754-2019, clause 9.5, with flags. Where first is NaN, both halves are what jirmeklo_mul gives,
+ * or jirmeklo_add; for a difference, jirmeklo_add of x and y with y's sign bit flipped: a NaN y comes back with the other sign, unlike
+ * from jirmeklo_sub. No refusal. */
 struct jirmeklo_pair jirmeklo_sum(uint32_t x, uint32_t y);
 struct jirmeklo_pair jirmeklo_difference(uint32_t x, uint32_t y);
 struct jirmeklo_pair jirmeklo_product(uint32_t x, uint32_t y);
@@ -66,8 +67,8 @@ uint32_t jirmeklo_add_product(uint32_t *total, size_t words, uint32_t x, uint32_
 /* Reads a total as a pair: first is the total rounded, second the rest rounded. Refusals: 5 and 6, as in adding. */
 struct jirmeklo_reading jirmeklo_read(const uint32_t *total, size_t words);
 
-/* Writes the step sheet of an operation (1 sum, 2 difference, 3 product) into the first 65 words: up to 13 lines of five
- * words, which are the step (1 add, 2 sub, 3 mul, 4 fma), three operands and the result; then zeros.
+/* Writes the step sheet of an operation (1 sum, 2 difference, 3 product) into the first 65 words: up to 13 lines (one where the
+ * first gives NaN) of five words, which are the step (1 add, 2 sub, 3 mul, 4 fma), three operands and the result; then zeros.
  * Refusals: 10, another operation; 9, fewer than 65 words. */
 struct jirmeklo_filled jirmeklo_fill(uint32_t operation, uint32_t x, uint32_t y, uint32_t *words, size_t count);
 

@@ -7,7 +7,7 @@ pub const SMALLEST_NORMAL: u32 = 0x0080_0000;
 pub const FRACTION: u32 = 0x007F_FFFF;
 /// The fraction bit that a quiet NaN has and a signalling one has not.
 pub const QUIET: u32 = 0x0040_0000;
-/// The NaN of operands that are none.
+/// The NaN of operands that are not NaN.
 pub const NAN: u32 = 0x7FC0_0000;
 
 /// A pattern as it is written: eight upper-case hexadecimal digits.

@@ -9,7 +9,7 @@ pub struct Processor {
     pub fused_instruction: bool,
 }
 
-/// What an SSE instruction gives where a NaN comes of operands that are none.
+/// What an SSE instruction gives where a NaN comes of operands that are not NaN.
 const OWN_NAN: u32 = SIGN | NAN;
 
 /// One SSE instruction of two operands, x in its destination. Of NaN operands it returns the first, quieted; the compiler
@@ -52,7 +52,7 @@ impl Processor {
         Processor { fused_instruction: is_x86_feature_detected!("fma") }
     }
 
-    /// The answer in every bit, but for the NaN of operands that are none, which has the library's sign.
+    /// The answer in every bit, but for the NaN of operands that are not NaN, which has the library's sign.
     pub fn answer(self, step: Step, q: Question) -> u32 {
         let r = match step {
             Step::Add => add(q.x, q.y),
@@ -100,7 +100,7 @@ impl Processor {
 
 /// Answers worked out by hand. A processor that flushes subnormals or rounds another way fails the
 /// sums and the products; a fused step that rounds twice, in binary32 or in binary64, fails the next;
-/// one that chooses among NaN, or changes them, otherwise fails the last.
+/// one that returns another NaN operand, or changes it in another way, fails the last.
 const KNOWN: [(Step, u32, u32, u32, u32); 36] = [
     // Subnormals: 2^-149 + 2^-149, 2^-126 - 2^-149, 2^-126 * 1/2.
     (Step::Add, 0x0000_0001, 0x0000_0001, 0, 0x0000_0002),

@@ -1,4 +1,4 @@
-//! Questions where a pair is likely to go wrong: constructed ones, then every pair of the edge patterns.
+//! Questions where a pair is likely to go wrong: every pair of the edge patterns, and constructed ones.
 use super::pair::Operation;
 use super::{below_power, tiny};
 use crate::pattern::{exact, fields, moved, power, SIGN};

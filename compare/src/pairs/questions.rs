@@ -128,7 +128,8 @@ fn number(shape: Shape) -> u64 {
     SHAPES.iter().position(|&s| s == shape).expect("listed") as u64
 }
 
-/// A chunk for each first operand, then the constructed questions in portions: these are more, and every NaN is among those.
+/// A chunk for each first operand, then the constructed questions in portions. Every NaN is in the former, which are
+/// fewer: its faults are found early.
 fn of_edges(edges: &Edges, operation: Operation, chunk: usize) -> Vec<Question> {
     let questions = match chunk.checked_sub(edges.patterns.len()) {
         None => edges.patterns.iter().map(|&y| Question::two(edges.patterns[chunk], y)).collect(),

@@ -16,7 +16,7 @@ pub const FAULTS: [Row; 10] = [
         "the second NaN before the first",
     ),
     (signalling_first, &STEPS, Shape::Special, "a signalling NaN before a quiet one"),
-    (own_sign, &STEPS, Shape::Special, "FFC00000 of operands that are no NaN"),
+    (own_sign, &STEPS, Shape::Special, "FFC00000 of operands that are not NaN"),
     (turned, &[Step::Sub], Shape::Special, "the sign of a NaN that is subtracted turned"),
     (
         |_, q, right| first_of([q.z, q.x, q.y], right),

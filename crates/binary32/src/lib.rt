@@ -14,7 +14,7 @@ pub fn add(x: u32, y: u32) -> u32
     binary32_add::of_patterns(x, y)
 }
 
-// The addend is flipped; a NaN in its place is handed on as it stands.
+// The addend is flipped; a NaN in its place keeps its sign.
 pub fn sub(x: u32, y: u32) -> u32
     ensures { λ r. ⌜ r ≡ subStep x y ⌝ }
 {

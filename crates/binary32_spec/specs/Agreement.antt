@@ -9,7 +9,7 @@ use Rattle.rounding_spec.specs.Value.{nan, decode}
 use Rattle.binary32_spec.specs.Steps.{addStep, subStep, mulStep}
 
 -- Of the operands x and y, r is our result and q theirs. They are the same pattern wherever r is no NaN; both are NaN or neither is, and a
--- NaN of theirs is 7FC00000; they are the same pattern, NaN too, where no operand is NaN. (A NaN operand's payload theirs has lost.)
+-- NaN of theirs is 7FC00000; they are the same pattern, NaN too, where no operand is NaN. (Theirs has lost a NaN operand's payload.)
 pub record Agreed (x y r q : ℕ) : Type 0 where
   pub number : decode binary32 r ≢ nan → r ≡ q
   pub together : (decode binary32 r ≡ nan) ↔ (decode binary32 q ≡ nan)

@@ -34,7 +34,7 @@ number nan n = absurd (n refl)
 number (infinite s) n = refl
 number (finite s a) n = refl
 
--- what is rounded from a finite number is none
+-- a rounded finite number is no NaN
 pub rounded-number : (t : Ties) (F : Format) (s : Bool) (N : ℕ) → isNaN (roundFinite t F s N) ≡ false
 unfolding roundFinite
 rounded-number t F s N = by (ltb (rounded t (F .fraction) (low F) N) (limit F))
@@ -127,7 +127,7 @@ pub nan-later : (F : Format) (x : ℕ) (xs : List ℕ) → isNaN (decode F x) �
 unfolding nanOf
 nan-later F x xs n = rw n
 
--- of two operands one of which is none, in either order
+-- where the first of two operands is no NaN, their order does not matter
 pub nan-swap : (F : Format) (x y : ℕ) → isNaN (decode F x) ≡ false → nanOf F (x ∷ y ∷ []) ≡ nanOf F (y ∷ x ∷ [])
 unfolding nanOf
 nan-swap F x y n = nan-later F x (y ∷ []) n ∙ ap (λ (d : ℕ). cond (isNaN (decode F y)) (quieted F y) d) (sym (nan-later F x [] n))

@@ -98,7 +98,7 @@ encode F (finite s a) = signed F s (bits (F .fraction) a)
 abbrev pub quieted : Format → ℕ → ℕ
 quieted F x = quietNaN F (leb (signBit F) x) (x % 2 ^ (F .fraction - 1))
 
--- R2.4, R3.7: the pattern of a NaN result, fixed here alone: the first NaN among the operands, quieted; of none the one that `encode` has
+-- R2.4, R3.7: the pattern of a NaN result, fixed here alone: the first NaN among the operands, quieted; where none is NaN, `defaultNaN`
 unfoldable pub nanOf : Format → List ℕ → ℕ
 unfolding decode
 nanOf F [] = defaultNaN F

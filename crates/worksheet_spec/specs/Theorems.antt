@@ -163,8 +163,8 @@ EndsAtNaN =
     → sheetOf difference x y ≡ before (line add x (minus y) a ∷ []) (ends a a))
     × ((x y : ℕ) → let a = mulStep x y in value a ≡ nan → sheetOf product x y ≡ before (line multiply x y a ∷ []) (ends a a))
 
--- An infinite line 1 leads to NaN on later ones. All of them, but for the edge's two (R5.7): of a sum whose x is not the smaller one these
--- eleven (R5.10, R5.11), of a product these four (R5.13).
+-- After an infinite line 1 NaN may stand on later ones. All of them, but for the edge's two (R5.7): of a sum whose x is not the smaller one
+-- these eleven (R5.10, R5.11), of a product these four (R5.13).
 abbrev pub infiniteSumLines : ℕ → ℕ → List Line
 infiniteSumLines x y =
     let a = addStep x y in
@@ -194,7 +194,8 @@ InfiniteLines =
     × (lessMagnitude (value y) (value x) ≡ true → take 11 (sheetOf sum y x .lines) ≡ infiniteSumLines x y))
     × ((x y : ℕ) (s : Bool) → value (mulStep x y) ≡ infinite s → take 4 (sheetOf product x y .lines) ≡ infiniteProductLines x y)
 
--- on later lines a NaN operand stands on line 4 of u or -u times an infinity, with its sign flipped (R5.3), and is the result there
+-- the only later line of a product with a NaN operand: line 4 of u or -u times an infinity, where line 3's NaN stands with its sign
+-- flipped (R5.3) and is the result
 abbrev pub SmallestTimesInfinity : Type 0
 SmallestTimesInfinity =
     (x y : ℕ) (t : Bool) → (x ≡ smallest) ⊎ (x ≡ minus smallest) → value y ≡ infinite t

@@ -1,6 +1,6 @@
 -- A whole sheet for each way through the rules (R5), and four more: the question, every word of every line, and the foot. The words come
--- from implementations that share nothing with the two accounts of R5: a model in whole numbers, and the processor's floats. They agree
--- once the processor's FFC00000 of operands that are not NaN is put as 7FC00000; a fused step with a NaN operand is the rule's in both.
+-- from implementations that share nothing with the two accounts of R5: a model in whole numbers, and the processor's floats. Which
+-- pattern a NaN result has is the rule's in both.
 -- A way's sample is named by its row of Table. Operands and results of a sample differ where such a question was found, and have both
 -- signs, so that a line with another operand is, most often, another line.
 use Prim.Native.Nat.{ℕ}
@@ -376,7 +376,8 @@ Shows sheet [] = Unit {0}
 Shows sheet (sample x y ls first second ∷ samples) =
     (sheet x y ≡ record { lines = ls; first = first; second = second }) × Shows sheet samples
 
--- a sum's too where it is asked the other way round, unless it is NaN, and where it is the difference of x and the flipped y (R5.9)
+-- the sum of a way too where it is asked the other way round, unless it is NaN; every sum where it is the difference of x and the flipped
+-- y (R5.9)
 abbrev pub GivesAll : (Operation → ℕ → ℕ → Sheet) → Type 0
 GivesAll sheet =
     Shows (sheet sum) shownSums × Shows (λ x y. sheet sum y x) notNaNSumSamples × Shows (λ x y. sheet difference x (minus y)) shownSums

@@ -16,7 +16,7 @@ pub enum Fault {
     SecondFirst,
     /// Of a quiet and a signalling one, the signalling one.
     SignallingFirst,
-    /// Operands that are no NaN give FFC00000.
+    /// Operands that are not NaN give FFC00000.
     OwnSign,
     /// The two halves are not alike: second is 7FC00000.
     SecondOther,
@@ -32,7 +32,7 @@ pub const FAULTS: [(Fault, Shape, &str); 8] = [
     (Fault::NotQuieted, SPECIAL, "a signalling NaN not quieted"),
     (Fault::SecondFirst, SPECIAL, "the second NaN before the first"),
     (Fault::SignallingFirst, SPECIAL, "a signalling NaN before a quiet one"),
-    (Fault::OwnSign, SPECIAL, "FFC00000 of operands that are no NaN"),
+    (Fault::OwnSign, SPECIAL, "FFC00000 of operands that are not NaN"),
     (Fault::SecondOther, SPECIAL, "second 7FC00000 beside another NaN"),
     (Fault::NotFlipped, SPECIAL, "a difference's NaN not flipped"),
 ];

@@ -28,7 +28,7 @@ pub const FAULTS: [Row; 12] = [
     (
         |t| ended(t, |line, nan| if line.first_nan().is_none() { nan | SIGN } else { nan }),
         Shape::Specials,
-        "FFC00000 of operands that are no NaN",
+        "FFC00000 of operands that are not NaN",
     ),
     (|t| ended(t, not_flipped), Shape::Specials, "a difference's NaN not flipped"),
     (unlike_halves, Shape::Specials, "second 7FC00000 beside another NaN"),

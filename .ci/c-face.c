@@ -111,6 +111,36 @@ static void totals(void) {
     print_refusal("add_pattern", jirmeklo_add_pattern(total, TOTAL, ONE));
 }
 
+/* -2^-298 and 2, of one term and of two; then each refusal where others could follow it, and 65,536 terms together. */
+static void joins(void) {
+    uint32_t first[TOTAL + 1], second[TOTAL + 1];
+    fill_with(first, TOTAL + 1, 0xA5A5A5A5u);
+    fill_with(second, TOTAL + 1, 0x5A5A5A5Au);
+    jirmeklo_clear(first, TOTAL);
+    jirmeklo_clear(second, TOTAL);
+    jirmeklo_add_product(first, TOTAL, 0x80000001u, 0x00000001u);
+    jirmeklo_add_pattern(second, TOTAL, ONE);
+    jirmeklo_add_pattern(second, TOTAL, ONE);
+    print_refusal("join", jirmeklo_join(first, TOTAL, second, TOTAL));
+    print_total("first", first, TOTAL + 1);
+    print_total("second", second, TOTAL + 1);
+    print_reading("read", jirmeklo_read(first, TOTAL));
+    second[TOTAL - 1] = 65537;
+    print_refusal("join", jirmeklo_join(first, TOTAL + 1, second, TOTAL));
+    first[TOTAL - 1] = 0;
+    print_refusal("join", jirmeklo_join(first, TOTAL, second, TOTAL - 1));
+    first[TOTAL - 1] = 65535;
+    print_refusal("join", jirmeklo_join(first, TOTAL, second, TOTAL + 1));
+    print_refusal("join", jirmeklo_join(first, TOTAL, second, TOTAL));
+    second[TOTAL - 1] = 2;
+    print_refusal("join", jirmeklo_join(first, TOTAL, second, TOTAL));
+    print_total("first", first, TOTAL + 1);
+    print_total("second", second, TOTAL + 1);
+    second[TOTAL - 1] = 1;
+    print_refusal("join", jirmeklo_join(first, TOTAL, second, TOTAL));
+    print_total("first", first, TOTAL + 1);
+}
+
 static void sheets(void) {
     uint32_t words[SHEET + 1];
     fill_with(words, SHEET + 1, 0xA5A5A5A5u);
@@ -152,6 +182,7 @@ int main(void) {
     steps();
     pairs();
     totals();
+    joins();
     sheets();
     lists();
     return 0;

@@ -64,6 +64,12 @@ uint32_t jirmeklo_clear(uint32_t *total, size_t words);
 uint32_t jirmeklo_add_pattern(uint32_t *total, size_t words, uint32_t x);
 uint32_t jirmeklo_add_product(uint32_t *total, size_t words, uint32_t x, uint32_t y);
 
+/* Joins two totals: the first becomes their exact sum, with the terms of both counted; the second stays as it was. Empty totals
+ * are no exception. The two must be different arrays, which do not overlap: no total is joined to itself.
+ * Refusals: 5, the first has other than 21 words; 6, the first is unfit, as in adding; 5 and 6, the same of the second; 12, the
+ * counts together are above 65,536. */
+uint32_t jirmeklo_join(uint32_t *first, size_t words, const uint32_t *second, size_t second_words);
+
 /* Reads a total as a pair: first is the total rounded, second the rest rounded. Refusals: 5 and 6, as in adding. */
 struct jirmeklo_reading jirmeklo_read(const uint32_t *total, size_t words);
 

@@ -1,4 +1,4 @@
--- The number of an answer to an adding call tells the answer.
+-- The number of an answer to adding, and to joining, tells the answer.
 use mathlib.Core.Path.{_≡_, refl}
 use mathlib.Core.Bool.{Bool, true, false, not, cond}
 use mathlib.Core.List.{List}
@@ -7,7 +7,8 @@ use lib.Dec.{eqb}
 use lib.ListN.{length}
 use Rattle.pattern_spec.specs.Answer.{Answer, refused, done, refusalOf}
 use Rattle.accumulator_spec.specs.Totals.{totalSize, mostTerms, count, fit, Term, finiteOperands, adding}
-use Rattle.accumulator.specs.Inner.{numbered}
+use Rattle.accumulator_spec.specs.Joins.{roomForBoth, joining}
+use Rattle.accumulator.specs.Inner.{numbered, joinNumbered}
 
 -- the four refusals, in their order
 abbrev tried : Bool → Bool → Bool → Bool → Answer (Unit {0})
@@ -23,3 +24,20 @@ told t x = go (eqb (length t) totalSize) (fit t) (finiteOperands x) (eqb (count 
     go true true false d = refl
     go true true true true = refl
     go true true true false = refl
+
+-- the five of joining
+abbrev tried-join : Bool → Bool → Bool → Bool → Bool → Answer (Unit {0})
+tried-join a b c d e =
+    cond (not a) (refused 5) (cond (not b) (refused 6) (cond (not c) (refused 5) (cond (not d) (refused 6) (cond (not e) (refused 12) (done tt)))))
+
+pub told-join : (f s : List ℕ) → joinNumbered (refusalOf (joining f s)) ≡ joining f s
+unfolding joining
+told-join f s = go (eqb (length f) totalSize) (fit f) (eqb (length s) totalSize) (fit s) (roomForBoth f s)
+  where
+    go : (a b c d e : Bool) → joinNumbered (refusalOf (tried-join a b c d e)) ≡ tried-join a b c d e
+    go false b c d e = refl
+    go true false c d e = refl
+    go true true false d e = refl
+    go true true true false e = refl
+    go true true true true false = refl
+    go true true true true true = refl

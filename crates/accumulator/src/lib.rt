@@ -4,8 +4,9 @@ pub mod numbers;
 use accumulator_spec::TOTAL_SIZE;
 ghost use mathlib.Core.Path.{_≡_};
 ghost use Rattle.accumulator_spec.specs.Totals.{isCleared, ofPattern, ofProduct, Adds, Clears, reading};
-ghost use Rattle.accumulator.specs.Answers.{answerCleared, answerAdded, answerRead};
-ghost use Rattle.accumulator.specs.Inner.{numbered};
+ghost use Rattle.accumulator_spec.specs.Joins.{Joins};
+ghost use Rattle.accumulator.specs.Answers.{answerCleared, answerAdded, answerJoined, answerRead};
+ghost use Rattle.accumulator.specs.Inner.{numbered, joinNumbered};
 
 pub enum Cleared {
     Done,
@@ -18,6 +19,13 @@ pub enum Added {
     Unfit,
     NotFinite,
     Full,
+}
+
+pub enum Joined {
+    Done,
+    Length,
+    Unfit,
+    TooMany,
 }
 
 pub enum Reading {
@@ -63,6 +71,14 @@ pub fn add_product(total: &mut [u32], x: u32, y: u32) -> Added
     named(accumulator_add::add_product(total, x, y))
 }
 
+// Adds the second's number and count to the first's (R6.9).
+pub fn join(first: &mut [u32], second: &[u32]) -> Joined
+    ensures { λ r. ⌜ Joins (now (first .entry)) (now (second .entry)) (answerJoined r) (now (first .exit)) ⌝ }
+    ensures { λ _. ⌜ now (second .exit) ≡ now (second .entry) ⌝ }
+{
+    named_join(accumulator_join::join(first, second))
+}
+
 pub fn read(total: &[u32]) -> Reading
     ensures { λ r. ⌜ answerRead r ≡ reading (now (total .entry)) ⌝ }
 {
@@ -79,7 +95,7 @@ pub fn read(total: &[u32]) -> Reading
     }
 }
 
-// The answer by its number.
+// The answer to adding by its number.
 fn named(number: u32) -> Added
     ensures { λ r. ⌜ answerAdded r ≡ numbered number ⌝ }
 {
@@ -90,5 +106,18 @@ fn named(number: u32) -> Added
         7 => Added::NotFinite,
         // 8
         _ => Added::Full,
+    }
+}
+
+// The same for joining.
+fn named_join(number: u32) -> Joined
+    ensures { λ r. ⌜ answerJoined r ≡ joinNumbered number ⌝ }
+{
+    match number {
+        0 => Joined::Done,
+        5 => Joined::Length,
+        6 => Joined::Unfit,
+        // 12
+        _ => Joined::TooMany,
     }
 }

@@ -24,7 +24,7 @@ use Rattle.accumulator_spec.proofs.TermBound.{term-bound}
 sub-magnitude : (a b : ℕ) → natAbs (subℕ a b) ≤ a + b
 sub-magnitude a b = rw (abs-sub a b) (omega arith)
 
-sum-magnitude : (y z : ℤ) → natAbs (y +ℤ z) ≤ natAbs y + natAbs z
+pub sum-magnitude : (y z : ℤ) → natAbs (y +ℤ z) ≤ natAbs y + natAbs z
 sum-magnitude (pos a) (pos b) = le-of-eq refl
 sum-magnitude (pos a) (negsuc b) = sub-magnitude a (suc b)
 sum-magnitude (negsuc a) (pos b) = le-trans (sub-magnitude b (suc a)) (omega arith)
@@ -78,7 +78,7 @@ module _ (a b c d : Bool) where
   abbrev tried : Answer (Unit {0})
   tried = cond (not a) (refused 5) (cond (not b) (refused 6) (cond (not c) (refused 7) (cond d (refused 8) (done tt))))
 
-never : {P : Type 0} {n : ℕ} → _≡_ {A = Answer (Unit {0})} (refused n) (done tt) → P
+pub never : {P : Type 0} {n : ℕ} → _≡_ {A = Answer (Unit {0})} (refused n) (done tt) → P
 never e = absurd (let z : _≡_ {A = ℕ} 0 1 = cc in omega arith)
 
 none-met : (a b c d : Bool) → tried a b c d ≡ done tt → (a ≡ true) × (b ≡ true) × (c ≡ true) × (d ≡ false)

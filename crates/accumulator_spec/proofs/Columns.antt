@@ -114,13 +114,13 @@ perm-sum (List·Permᴰ·cons e d) = ap₂ (λ (x : Term) (z : ℤ). whole (exac
 perm-sum (List·Permᴰ·swap {a = x} {b = y} {l = zs} e g) = exchanged x y (columnSum zs) ∙ ap₂ (λ (u v : Term). whole (exactTerm u) +ℤ (whole (exactTerm v) +ℤ columnSum zs)) g e
 perm-sum (List·Permᴰ·trans d c) = perm-sum d ∙ perm-sum c
 
-perm-length : {xs ys : List Term} → List·Permᴰ xs ys → length xs ≡ length ys
+pub perm-length : {xs ys : List Term} → List·Permᴰ xs ys → length xs ≡ length ys
 perm-length List·Permᴰ·nil = refl
 perm-length (List·Permᴰ·cons e d) = ap suc (perm-length d)
 perm-length (List·Permᴰ·swap e g) = refl
 perm-length (List·Permᴰ·trans d c) = perm-length d ∙ perm-length c
 
-perm-finite : {xs ys : List Term} → List·Permᴰ xs ys → AllFinite xs → AllFinite ys
+pub perm-finite : {xs ys : List Term} → List·Permᴰ xs ys → AllFinite xs → AllFinite ys
 unfolding AllFinite
 perm-finite List·Permᴰ·nil f = f
 perm-finite (List·Permᴰ·cons e d) f = (rw e at (f .0), perm-finite d (f .1))

@@ -19,6 +19,9 @@ pub mod TermBound
 pub mod Adding
 pub mod Relations
 pub mod Columns
+pub mod WordSums
+pub mod Joining
+pub mod Builds
 pub mod ReadTotal
 pub mod Landmarks
 pub mod ReadPairs

@@ -10,6 +10,8 @@ use Rattle.accumulator_spec.proofs.Answers.{adding-refused, refused-ter
 use Rattle.accumulator_spec.proofs.Adding.{fit-is, lowest-unfit, accepted-term, exact-adding}
 use Rattle.accumulator_spec.proofs.Relations.{clears-means, adds-means, adds-numbered-means}
 use Rattle.accumulator_spec.proofs.Columns.{column-next, accepted-each, all-finite-is, exact-column, any-order}
+use Rattle.accumulator_spec.proofs.Joining.{joining-refused, accepted-join, exact-join, refused-join, joins-means, joins-numbered-means}
+use Rattle.accumulator_spec.proofs.Builds.{built-by, built-is-column, joined-is-column, columns-join, column-built, empty-joins, join-landmarks}
 use Rattle.accumulator_spec.proofs.ReadTotal.{read-fit, read-column, read-finite, read-zero, read-rounded-to-zero}
 use Rattle.accumulator_spec.proofs.ReadPairs.{read-overflow, read-sum, read-product}
 
@@ -58,4 +60,17 @@ all = (
   read-rounded-to-zero,
   read-sum,
   read-product,
+  joining-refused,
+  accepted-join,
+  exact-join,
+  refused-join,
+  joins-means,
+  joins-numbered-means,
+  built-by,
+  built-is-column,
+  joined-is-column,
+  columns-join,
+  column-built,
+  empty-joins,
+  join-landmarks,
 )

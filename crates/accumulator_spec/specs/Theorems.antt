@@ -1,5 +1,5 @@
 -- What holds of words and of totals: that the definitions mean what is asked (R6, R8.7 to R8.9). Each name is a statement, proved in
--- proofs/ (proofs/Theorems.antt has them together).
+-- proofs/ (proofs/Theorems.antt has them together). Those of joining stand in JoinTheorems.antt.
 use Prim.Native.Nat.{ℕ, suc, _-_, _*_, _/_, _%_, _^_, _≤_, _<_}
 use mathlib.Core.Path.{_≡_}
 use mathlib.Core.Logic.{_≢_, _↔_}
@@ -20,6 +20,9 @@ use Rattle.accumulator_spec.specs.Totals.{Term, ofPattern, ofProduct, fi
 use Rattle.accumulator_spec.specs.Totals.{Adds, AddsNumbered, Clears}
 use Rattle.accumulator_spec.specs.Totals.{clearing, afterClearing, pairRead, exactNumber, pairAnswer, reading}
 use Rattle.accumulator_spec.specs.Columns.{column, Accepted, AllFinite, columnSum}
+use Rattle.accumulator_spec.specs.JoinTheorems.{JoiningRefused, AcceptedJoin, ExactJoin, RefusedJoin, JoinsMeans, JoinsNumberedMeans}
+use Rattle.accumulator_spec.specs.JoinTheorems.{BuiltBy, BuiltIsColumn, JoinedIsColumn, ColumnsJoin, ColumnBuilt, EmptyJoins}
+use Rattle.accumulator_spec.specs.JoinTheorems.{JoinLandmarks}
 
 -- ---- words, however many (R6.1)
 -- word i counts 2 ^ (32 i); the words of -(n + 1) are the complements of n's
@@ -276,4 +279,5 @@ All =
     × TotalLandmarks × FitIs × LowestUnfit × ClearedZeros × FiniteOperandsAre × PatternTerm × ProductTerm × TermLandmarks × AddingRefused
     × AcceptedTerm × ExactAdding × RefusedTerm × ClearingIs × ClearsMeans × AddsMeans × AddsNumberedMeans × ColumnNext × AcceptedEach
     × AllFiniteIs × ExactColumn × AnyOrder × ReadingRefused × ReadFit × ReadColumn × ExactBack × ReadFinite × ReadOverflow × ReadZero
-    × ReadRoundedToZero × ReadSum × ReadProduct
+    × ReadRoundedToZero × ReadSum × ReadProduct × JoiningRefused × AcceptedJoin × ExactJoin × RefusedJoin × JoinsMeans × JoinsNumberedMeans
+    × BuiltBy × BuiltIsColumn × JoinedIsColumn × ColumnsJoin × ColumnBuilt × EmptyJoins × JoinLandmarks

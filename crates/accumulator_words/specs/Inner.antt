@@ -13,7 +13,7 @@ use Rattle.accumulator_spec.specs.Totals.{totalSize, fit}
 abbrev pub carried : List ℕ → Bool → ℕ → ℕ → List ℕ
 carried ws minus sig shift = wordsOfInteger (length ws) (pos (natural ws) +ℤ int minus (sig * 2 ^ shift))
 
--- the number of what is wrong with lent words, whatever the call: 0 for a fit total (R8.7, R8.8)
+-- the number of what is wrong with lent words, whatever the call: 0 for a fit total (R8.7, R8.8, R8.16)
 abbrev pub fault : List ℕ → ℕ
 fault t = cond (not (eqb (length t) totalSize)) 5 (cond (not (fit t)) 6 0)
 

@@ -18,7 +18,7 @@ const NEXT: usize = NUMBER_SIZE - 2;
 
 const THIRD: usize = NUMBER_SIZE - 3;
 
-// What is tried first of lent words, by its refusal: 5, 6, or 0 for a fit total (R8.7, R8.8).
+// What is tried first of lent words, by its refusal: 5, 6, or 0 for a fit total (R8.7, R8.8, R8.16).
 pub fn refusal(total: &[u32]) -> u32
     ensures { λ r. ⌜ r ≡ fault (now (total .entry)) ⌝ }
 {

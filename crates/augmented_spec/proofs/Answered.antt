@@ -20,7 +20,7 @@ use Rattle.augmented_spec.specs.declared.Flags.{Flags}
 use Rattle.augmented_spec.specs.declared.Pair.{Pair}
 use Rattle.augmented_spec.specs.Pairs.{Halves, zeroTakes, secondOf, pairOf, invalid, overflowed, underflowed, flagsOf, answer, exactSum, sumPair, exactProduct, productPair}
 use Rattle.augmented_spec.specs.Direct.{none}
-use Rattle.augmented_spec.specs.Inner.{join, flagsWithoutU, pairWithoutU, finiteAnswer, productAnswer}
+use Rattle.augmented_spec.specs.Inner.{inOneWord, flagsWithoutU, pairWithoutU, finiteAnswer, productAnswer}
 use Rattle.augmented_spec.proofs.Second.{head, first-finite, first-infinite, second-infinite, second-is, side, gap}
 use Rattle.augmented_spec.proofs.FlagSets.{finite-number, finite-flags, underflow-none}
 
@@ -173,7 +173,7 @@ word-first a b h = omega arith
 word-second : (a b : ℕ) → a < 2 ^ 32 → (a + b * 2 ^ 32) / 2 ^ 32 ≡ b
 word-second a b h = omega arith
 
-module _ (x y both : ℕ) (is : both ≡ join (x ∷ y ∷ []) (pairOf binary32 (exactSum binary32 x y))) where
+module _ (x y both : ℕ) (is : both ≡ inOneWord (x ∷ y ∷ []) (pairOf binary32 (exactSum binary32 x y))) where
   abbrev p : Halves
   p = pairOf binary32 (exactSum binary32 x y)
 

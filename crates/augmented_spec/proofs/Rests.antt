@@ -27,7 +27,7 @@ use Rattle.pattern_spec.proofs.Products.{none, some-left}
 use Rattle.augmented_spec.specs.declared.Pair.{Pair}
 use Rattle.binary32_spec.proofs.Result.{result-number}
 use Rattle.augmented_spec.specs.Pairs.{zeroTakes, pairOf, underflowed, flagsOf}
-use Rattle.augmented_spec.specs.Inner.{join, finiteAnswer, productAnswer, ShortRest}
+use Rattle.augmented_spec.specs.Inner.{inOneWord, finiteAnswer, productAnswer, ShortRest}
 use Rattle.augmented_spec.proofs.Second.{head, left, up, tail, tail-le, first-finite, pair-second, first-infinite, second-infinite, underflowed-is}
 use Rattle.augmented_spec.proofs.Patterns.{finite-shows, infinite-shows, zero-pattern}
 use Rattle.augmented_spec.proofs.Answered.{same-pair, first-number, second-number}
@@ -71,7 +71,7 @@ module _ (s : Bool) (N : ℕ) where
   pub halved-pair : {c d : ℕ} {over : Bool} (u : Bool) → Halved c d over → record { first = c; second = d; flags = flagsOf false over u } ≡ finiteAnswer (pairOf binary32 (finite s N)) u
   halved-pair u h = same-pair (h .first) (h .second) (ap (λ (o : Bool). flagsOf false o u) (h .infinite))
 
-  pub halved-word : {c d : ℕ} {over : Bool} → Halved c d over → (operands : List ℕ) → c + d * 2 ^ 32 ≡ join operands (pairOf binary32 (finite s N))
+  pub halved-word : {c d : ℕ} {over : Bool} → Halved c d over → (operands : List ℕ) → c + d * 2 ^ 32 ≡ inOneWord operands (pairOf binary32 (finite s N))
   halved-word h operands =
       ap₂ (λ (a b : ℕ). a + b * 2 ^ 32) (h .first ∙ sym (result-number binary32 operands _ (first-number binary32 s N)))
       (h .second ∙ sym (result-number binary32 operands _ (second-number binary32 s N)))

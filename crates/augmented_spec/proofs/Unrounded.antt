@@ -31,7 +31,7 @@ use Rattle.pattern_spec.proofs.Far.{far-below, far-sum}
 use Rattle.pattern_spec.proofs.Sums.{like?, like-eq, sum-same, sum-left, finer-sum}
 use Rattle.binary32_spec.specs.Steps.{result}
 use Rattle.augmented_spec.specs.Pairs.{zeroTakes, secondOf, pairOf, exactSum}
-use Rattle.augmented_spec.specs.Inner.{join, Apart}
+use Rattle.augmented_spec.specs.Inner.{inOneWord, Apart}
 use Rattle.augmented_spec.proofs.Patterns.{zero-pattern}
 use Rattle.augmented_spec.proofs.Second.{second-is, side, unlike-true, unlike-false}
 
@@ -99,7 +99,7 @@ sign-shows x s a e =
 finite-encodes : (x : ℕ) (s : Bool) (a : ℕ) → x < 2 ^ 32 → decode binary32 x ≡ finite s a → encode binary32 (finite s a) ≡ x
 finite-encodes x s a h e = ap (encode binary32) (sym e) ∙ encode-decode binary32 x h (λ n. let k : _≡_ {A = ℕ} 0 1 = cc in omega arith)
 
-pub apart-word : (p q : ℕ) → p < 2 ^ 32 → q < 2 ^ 32 → Apart p q → p + zeroPattern (leb (2 ^ 31) p) q * 2 ^ 32 ≡ join (p ∷ q ∷ []) (pairOf binary32 (exactSum binary32 p q))
+pub apart-word : (p q : ℕ) → p < 2 ^ 32 → q < 2 ^ 32 → Apart p q → p + zeroPattern (leb (2 ^ 31) p) q * 2 ^ 32 ≡ inOneWord (p ∷ q ∷ []) (pairOf binary32 (exactSum binary32 p q))
 unfolding pairOf Fits result zeroTakes
 apart-word p q hp hq k =
     let a = k .m * 2 ^ k .e in
@@ -119,7 +119,7 @@ apart-word p q hp hq k =
 
 -- ---- an infinite or NaN sum is that of the step
 pub special-word : (operands : List ℕ) (v : Value) → isFinite v ≡ false → (r : ℕ) → r ≡ result binary32 operands (round ToEven binary32 v)
-    → r + r * 2 ^ 32 ≡ join operands (pairOf binary32 v)
+    → r + r * 2 ^ 32 ≡ inOneWord operands (pairOf binary32 v)
 unfolding pairOf secondOf round
 special-word operands nan h r e = rw e
 special-word operands (infinite s) h r e = rw e

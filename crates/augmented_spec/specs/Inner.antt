@@ -14,8 +14,8 @@ use Rattle.augmented_spec.specs.declared.Pair.{Pair}
 use Rattle.augmented_spec.specs.Pairs.{Halves, pairOf, invalid, overflowed, underflowed, flagsOf}
 
 -- both patterns in one word; only a NaN's goes by the operands
-abbrev pub join : List ℕ → Halves → ℕ
-join operands p = result binary32 operands (p .first) + result binary32 operands (p .second) * 2 ^ 32
+abbrev pub inOneWord : List ℕ → Halves → ℕ
+inOneWord operands p = result binary32 operands (p .first) + result binary32 operands (p .second) * 2 ^ 32
 
 -- ---- answers
 -- the flags of two operands whose first has the pattern c, but for U

@@ -19,11 +19,11 @@ ghost use Rattle.rounding_spec.specs.Value.{finite, decode, isFinite};
 ghost use Rattle.pattern_spec.specs.Classes.{classOf};
 ghost use Rattle.pattern_spec.specs.Inner.{Operand, Below};
 ghost use Rattle.augmented_spec.specs.Pairs.{pairOf, exactSum};
-ghost use Rattle.augmented_spec.specs.Inner.{join, Apart, ShortRest};
+ghost use Rattle.augmented_spec.specs.Inner.{inOneWord, Apart, ShortRest};
 
 // The larger magnitude comes first, whose exponent then is not below the other's. A NaN goes by the operands as they stand.
 pub fn of_patterns(x: u32, y: u32) -> u64
-    ensures { λ r. ⌜ r ≡ join (x ∷ y ∷ []) (pairOf binary32 (exactSum binary32 x y)) ⌝ }
+    ensures { λ r. ⌜ r ≡ inOneWord (x ∷ y ∷ []) (pairOf binary32 (exactSum binary32 x y)) ⌝ }
 {
     let p = larger(x, y);
     let q = smaller(x, y);
@@ -56,7 +56,7 @@ fn finite_plus(s: bool, m: u64, e: u16, p: u32, q: u32) -> u64
     requires { ⌜ Operand m e ⌝ }
     requires { ⌜ decode binary32 p ≡ finite s (m * 2 ^ e) ⌝ }
     requires { ⌜ Below e (classOf q) ⌝ }
-    ensures { λ r. ⌜ r ≡ join (p ∷ q ∷ []) (pairOf binary32 (exactSum binary32 p q)) ⌝ }
+    ensures { λ r. ⌜ r ≡ inOneWord (p ∷ q ∷ []) (pairOf binary32 (exactSum binary32 p q)) ⌝ }
 {
     let b = classify(q);
     match b {
@@ -80,35 +80,35 @@ fn finite_plus(s: bool, m: u64, e: u16, p: u32, q: u32) -> u64
 // An infinite or NaN sum needs no rounding, so that it is the step's.
 fn special(x: u32, y: u32) -> u64
     requires { ⌜ isFinite (exactSum binary32 x y) ≡ false ⌝ }
-    ensures { λ r. ⌜ r ≡ join (x ∷ y ∷ []) (pairOf binary32 (exactSum binary32 x y)) ⌝ }
+    ensures { λ r. ⌜ r ≡ inOneWord (x ∷ y ∷ []) (pairOf binary32 (exactSum binary32 x y)) ⌝ }
 {
     let r = binary32::add(x, y);
-    joined(r, r)
+    in_one_word(r, r)
 }
 
 // Two operands so far apart that they are their own pair, but for the sign of a zero.
 fn apart(p: u32, q: u32) -> u64
     requires { ⌜ Apart p q ⌝ }
-    ensures { λ r. ⌜ r ≡ join (p ∷ q ∷ []) (pairOf binary32 (exactSum binary32 p q)) ⌝ }
+    ensures { λ r. ⌜ r ≡ inOneWord (p ∷ q ∷ []) (pairOf binary32 (exactSum binary32 p q)) ⌝ }
 {
-    joined(p, zero_takes(p >= 0x8000_0000, q))
+    in_one_word(p, zero_takes(p >= 0x8000_0000, q))
 }
 
 // The rest of a sum has at most 24 digits, and none below u: it is a number of the format itself. No half is NaN, whatever the operands.
 fn near(sign: bool, sig: u64, exp: u16) -> u64
     requires { ⌜ ShortRest sig exp ⌝ }
-    ensures { λ r. ⌜ ((operands : List ℕ) → r ≡ join operands (pairOf binary32 (finite sign (sig * 2 ^ exp)))) ⌝ }
+    ensures { λ r. ⌜ ((operands : List ℕ) → r ≡ inOneWord operands (pairOf binary32 (finite sign (sig * 2 ^ exp)))) ⌝ }
 {
     let first = round_with_rest(Ties::ToZero, sign, sig, exp);
     let over = is_infinite(first.pattern);
     // The rest of an infinite first is not used, and has to stay in range.
     let unit = choose_exponent(over, 0, exp - 149);
     let second = rest_pattern(sign, first.up, first.rest, unit);
-    joined(first.pattern, choose_pattern(over, first.pattern, second))
+    in_one_word(first.pattern, choose_pattern(over, first.pattern, second))
 }
 
 // First in the lower half of a word, second in the upper.
-fn joined(first: u32, second: u32) -> u64
+fn in_one_word(first: u32, second: u32) -> u64
     ensures { λ r. ⌜ r ≡ first + second * 2 ^ 32 ⌝ }
 {
     (first as u64) + (second as u64) * 0x1_0000_0000

@@ -34,10 +34,10 @@ unfolding Allowed afterEvents
 allowed-parts t [] fs h = (tt, h)
 allowed-parts t (e ∷ es) fs h = let k = allowed-parts (afterEvent t e) es fs (h .1) in ((h .0, k .0), k .1)
 
-pub allowed-join : (t : Totals) (es fs : List Event) → Allowed t es → Allowed (afterEvents t es) fs → Allowed t (es ++ fs)
+pub allowed-append : (t : Totals) (es fs : List Event) → Allowed t es → Allowed (afterEvents t es) fs → Allowed t (es ++ fs)
 unfolding Allowed afterEvents
-allowed-join t [] fs h k = k
-allowed-join t (e ∷ es) fs h k = (h .0, allowed-join (afterEvent t e) es fs (h .1) k)
+allowed-append t [] fs h k = k
+allowed-append t (e ∷ es) fs h k = (h .0, allowed-append (afterEvent t e) es fs (h .1) k)
 
 -- the part before a call, and the call
 pub allowed-here : (t : Totals) (es fs : List Event) (e : Event) → Allowed t (es ++ (e ∷ fs)) → Allowed t es × AllowedNow (afterEvents t es) e
@@ -47,7 +47,7 @@ allowed-here t es fs e h = let k = allowed-parts t es (e ∷ fs) h in (k .0, k .
 -- one call more
 pub allowed-more : (t : Totals) (es : List Event) (e : Event) → Allowed t es → AllowedNow (afterEvents t es) e → Allowed t (es ++ (e ∷ []))
 unfolding Allowed
-allowed-more t es e h k = allowed-join t es (e ∷ []) h (k, tt)
+allowed-more t es e h k = allowed-append t es (e ∷ []) h (k, tt)
 
 more-is : (t : Totals) (es : List Event) (e : Event) (C : Type 0) → AllowedNow (afterEvents t es) e ↔ C → Allowed t (es ++ (e ∷ [])) ↔ (Allowed t es × C)
 more-is t es e C i = (

@@ -6,20 +6,20 @@ use lib.IntN.{ℤ, pos, _+ℤ_, +ℤ-idr, +ℤ-idl, +ℤ-assoc}
 use Rattle.conservation_spec.specs.Lists.{Event, asks, reads, adds, book, enters, exactOfPatterns, operationFor}
 use Rattle.conservation_spec.specs.Theorems.{BookNext}
 
-book-join : (es fs : List Event) → book (es ++ fs) ≡ book es +ℤ book fs
+pub book-append : (es fs : List Event) → book (es ++ fs) ≡ book es +ℤ book fs
 unfolding book
-book-join [] fs = sym (+ℤ-idl (book fs))
-book-join (asks q ∷ es) fs =
-    let z = cond (enters q) (exactOfPatterns (operationFor q) (q .x) (q .y)) (pos 0) in ap (λ (k : ℤ). z +ℤ k) (book-join es fs) ∙ sym (+ℤ-assoc z (book es) (book fs))
-book-join (reads side ∷ es) fs = book-join es fs
-book-join (adds side x ∷ es) fs = book-join es fs
+book-append [] fs = sym (+ℤ-idl (book fs))
+book-append (asks q ∷ es) fs =
+    let z = cond (enters q) (exactOfPatterns (operationFor q) (q .x) (q .y)) (pos 0) in ap (λ (k : ℤ). z +ℤ k) (book-append es fs) ∙ sym (+ℤ-assoc z (book es) (book fs))
+book-append (reads side ∷ es) fs = book-append es fs
+book-append (adds side x ∷ es) fs = book-append es fs
 
 pub book-next : BookNext
 unfolding book
 book-next = (
   refl,
-  λ es q s t a b e left right. book-join es (asks q ∷ []) ∙ ap (λ (k : ℤ). book es +ℤ k) (rw (e, left, right) (+ℤ-idr _)),
-  λ es q e. book-join es (asks q ∷ []) ∙ rw e (+ℤ-idr _),
-  λ es side. book-join es (reads side ∷ []) ∙ +ℤ-idr _,
-  λ es side x. book-join es (adds side x ∷ []) ∙ +ℤ-idr _,
+  λ es q s t a b e left right. book-append es (asks q ∷ []) ∙ ap (λ (k : ℤ). book es +ℤ k) (rw (e, left, right) (+ℤ-idr _)),
+  λ es q e. book-append es (asks q ∷ []) ∙ rw e (+ℤ-idr _),
+  λ es side. book-append es (reads side ∷ []) ∙ +ℤ-idr _,
+  λ es side x. book-append es (adds side x ∷ []) ∙ +ℤ-idr _,
 )

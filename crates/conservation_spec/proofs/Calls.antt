@@ -18,12 +18,12 @@ unfolding Met afterEvents
 met-each t [] after e h = h .0
 met-each t (f ∷ before) after e h = met-each (afterEvent t f) before after e (h .1)
 
-pub questions-join : (es fs : List Event) → questions (es ++ fs) ≡ questions es + questions fs
+pub questions-append : (es fs : List Event) → questions (es ++ fs) ≡ questions es + questions fs
 unfolding questions
-questions-join [] fs = omega arith
-questions-join (asks q ∷ es) fs = omega (arith, questions-join es fs)
-questions-join (reads side ∷ es) fs = questions-join es fs
-questions-join (adds side x ∷ es) fs = questions-join es fs
+questions-append [] fs = omega arith
+questions-append (asks q ∷ es) fs = omega (arith, questions-append es fs)
+questions-append (reads side ∷ es) fs = questions-append es fs
+questions-append (adds side x ∷ es) fs = questions-append es fs
 
 read-on : (side : Side) (t : Totals) (es : List Event) → BothHold t es → reading (totalOn side t) ≡ pairAnswer (pairOf binary32 (exactNumber (book es)))
 read-on onFirst t es h = h .firstRead
@@ -33,6 +33,6 @@ pub read-each : ReadEach
 unfolding questions
 read-each a b before after side la lb few w =
     let t = cleared a b in
-    let n = questions-join before (reads side ∷ after) in
+    let n = questions-append before (reads side ∷ after) in
     let h = allowed-here t before after (reads side) w in
     read-on side (afterEvents t before) before (conserved a b before la lb (omega (arith, n)) (h .0) .0)

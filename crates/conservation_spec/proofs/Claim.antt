@@ -77,7 +77,7 @@ holds es h s s' =
     }
 
 -- ---- the claim
-start : (a b : List ℕ) → length a ≡ totalSize → length b ≡ totalSize → cleared a b ≡ holding (pos 0) 0 0
+pub start : (a b : List ℕ) → length a ≡ totalSize → length b ≡ totalSize → cleared a b ≡ holding (pos 0) 0 0
 start a b p q = ap₂ {C = Totals} (λ (t u : List ℕ). record { first = t; other = u }) (sym (clearing-done a p .1) ∙ cleared-is) (sym (clearing-done b q .1) ∙ cleared-is)
 
 pub conserved : Conserved

@@ -20,9 +20,9 @@ use Rattle.conservation_spec.specs.Lists.{mostQuestions, enters, Totals,
 use Rattle.conservation_spec.specs.Lists.{Event, asks, adds, afterEvent, afterEvents, questions, enteringSums, enteringProducts}
 use Rattle.conservation_spec.specs.Claim.{BothHold, Met}
 use Rattle.conservation_spec.specs.Theorems.{Allowed, cleared, FullWhen, EightLast, withOtherCalls, questionOfOnes, OnesEnter, EightReached}
-use Rattle.conservation_spec.proofs.Allowed.{asks-allowed, adds-allowed, adds-only, allowed-here, allowed-join, allowed-more}
+use Rattle.conservation_spec.proofs.Allowed.{asks-allowed, adds-allowed, adds-only, allowed-here, allowed-append, allowed-more}
 use Rattle.conservation_spec.proofs.Claim.{conserved, enters-exactly, entered}
-use Rattle.conservation_spec.proofs.Calls.{met-each, questions-join}
+use Rattle.conservation_spec.proofs.Calls.{met-each, questions-append}
 
 -- ---- when a total is full, by s sums and differences and p products
 first-full : (c s p : ℕ) → c ≡ 2 * (s + p) → (c ≡ mostTerms) ↔ (s + p ≡ mostQuestions)
@@ -76,7 +76,7 @@ pub eight-last : EightLast
 unfolding questions
 eight-last a b before after side x la lb few w f =
     let t = cleared a b in
-    let n = questions-join before (adds side x ∷ after) in
+    let n = questions-append before (adds side x ∷ after) in
     let h = allowed-here t before after (adds side x) w in
     let c = count-full (totalOn side (afterEvents t before)) x (adds-only (afterEvents t before) side x (h .1)) f in
     let r = filled a b la lb side before (omega (arith, n)) (h .0) c in
@@ -140,7 +140,7 @@ module _ (words : List ℕ) (long : sheetSize ≤ length words) where
         let t = cleared a b in
         let es = repeated n in
         let w = allowed-more t es (adds side x) (repeated-allowed n t) (adds-allowed (afterEvents t es) side x (inr (both-full side))) in
-        eight-last a b es [] side x la lb (le-trans (le-of-eq (questions-join es (adds side x ∷ []))) (omega (arith, few))) w f .0
+        eight-last a b es [] side x la lb (le-trans (le-of-eq (questions-append es (adds side x ∷ []))) (omega (arith, few))) w f .0
 
     two-more : let t = cleared a b in let es = repeated n ++ (adds onFirst x ∷ adds onOther x ∷ []) in
         Allowed t es × (questions es ≡ mostQuestions) × BothHold (afterEvents t es) es × Met t es
@@ -152,8 +152,8 @@ module _ (words : List ℕ) (long : sheetSize ≤ length words) where
         let u = afterEvents t es in
         let first = adds-allowed u onFirst x (inr (both-full onFirst)) in
         let other = adds-allowed (afterEvent u (adds onFirst x)) onOther x (inr (both-full onOther)) in
-        let w = allowed-join t es fs (repeated-allowed n t) (first, (other, tt)) in
-        let q : questions (es ++ fs) ≡ mostQuestions = questions-join es fs ∙ omega (arith, repeated-questions n, most) in
+        let w = allowed-append t es fs (repeated-allowed n t) (first, (other, tt)) in
+        let q : questions (es ++ fs) ≡ mostQuestions = questions-append es fs ∙ omega (arith, repeated-questions n, most) in
         let k = conserved a b (es ++ fs) la lb (le-of-eq q) w in
         (w, q, k .0, k .1)
 

@@ -8,6 +8,7 @@ pub mod Claim
 pub mod Calls
 pub mod Others
 pub mod Full
+pub mod Parts
 pub mod Misfits
 pub mod Refusals
 pub mod Questions

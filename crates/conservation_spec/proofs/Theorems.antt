@@ -2,7 +2,7 @@
 use mathlib.Core.Path.{refl}
 use Rattle.conservation_spec.specs.Theorems.{QuestionLimit, Conserved, BookNext, MetEach, ReadEach, EntersExactly, AllowedNext, AmongOthers, FullWhen, EightLast}
 use Rattle.conservation_spec.specs.Theorems.{OnesEnter, EightReached, ReplayConserves, ReplayRefused, ReplayUnchanged, ReplayQuestions, ReplayWords}
-use Rattle.conservation_spec.specs.Theorems.{ReplaysMeans, All}
+use Rattle.conservation_spec.specs.Theorems.{ReplaysMeans, PartsJoined, All}
 use Rattle.conservation_spec.proofs.Book as books
 use Rattle.conservation_spec.proofs.Allowed as allowed
 use Rattle.conservation_spec.proofs.Claim as claim
@@ -13,6 +13,7 @@ use Rattle.conservation_spec.proofs.Outcome as outcome
 use Rattle.conservation_spec.proofs.Questions as questions
 use Rattle.conservation_spec.proofs.Refusals as refusals
 use Rattle.conservation_spec.proofs.Contract as contract
+use Rattle.conservation_spec.proofs.Parts as parts
 
 pub conserved : Conserved
 conserved = claim.conserved
@@ -65,6 +66,9 @@ replay-words = questions.replay-words
 pub replays-means : ReplaysMeans
 replays-means = contract.replays-means
 
+pub parts-joined : PartsJoined
+parts-joined = parts.parts-joined
+
 pub question-limit : QuestionLimit
 question-limit = refl
 
@@ -88,4 +92,5 @@ all = (
   replay-questions,
   replay-words,
   replays-means,
+  parts-joined,
 )

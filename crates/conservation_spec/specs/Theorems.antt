@@ -19,6 +19,7 @@ use Rattle.worksheet_spec.specs.Filling.{afterFilling}
 use Rattle.accumulator_spec.specs.Words.{Words}
 use Rattle.accumulator_spec.specs.Totals.{totalSize, mostTerms, zeros, count, afterClearing}
 use Rattle.accumulator_spec.specs.Totals.{Term, ofPattern, ofProduct, finiteOperands, adding, exactNumber, pairAnswer, reading}
+use Rattle.accumulator_spec.specs.Joins.{joining, afterJoining}
 use Rattle.conservation_spec.specs.Lists.{mostQuestions, Posed, directFor, enters, Totals, Side, onFirst, onOther, totalOn}
 use Rattle.conservation_spec.specs.Lists.{Event, asks, reads, adds, afterEvent, afterEvents, questions}
 use Rattle.conservation_spec.specs.Lists.{book, enteringSums, enteringProducts}
@@ -251,6 +252,25 @@ ReplaysMeans =
     (q : Asking) (before after : Lent) (answer : Answer (Unit {0})) → Replays q before answer after
     → ReplayBy q before (λ m. (answer ≡ refused m) × (after ≡ before)) ((answer ≡ done tt) × AllAsked q before after)
 
+-- ---- a list in parts (R6.9, R7.13)
+-- each total of one part joined by that of another
+abbrev pub afterJoiningBoth : Totals → Totals → Totals
+afterJoiningBoth t u = record { first = afterJoining (t .first) (u .first); other = afterJoining (t .other) (u .other) }
+
+-- Two lists that the claim is about, each over two totals of its own, of at most 32,768 questions together: both joins are accepted, and
+-- leave what the one list after the other leaves on two totals. The claim is about that list too, so that a part may be of parts.
+abbrev pub PartsJoined : Type 0
+PartsJoined =
+    (a b c d : List ℕ) (es fs : List Event)
+    → length a ≡ totalSize → length b ≡ totalSize → length c ≡ totalSize → length d ≡ totalSize
+    → questions es + questions fs ≤ mostQuestions → Allowed (cleared a b) es → Allowed (cleared c d) fs
+    → let t = afterEvents (cleared a b) es in let u = afterEvents (cleared c d) fs in
+    (joining (t .first) (u .first) ≡ done tt)
+    × (joining (t .other) (u .other) ≡ done tt)
+    × (afterJoiningBoth t u ≡ afterEvents (cleared a b) (es ++ fs))
+    × Allowed (cleared a b) (es ++ fs)
+    × BothHold (afterJoiningBoth t u) (es ++ fs)
+
 -- ---- how many questions a list has at most (R7.6)
 abbrev pub QuestionLimit : Type 0
 QuestionLimit = mostQuestions ≡ 32768
@@ -260,3 +280,4 @@ abbrev pub All : Type 0
 All =
     QuestionLimit × Conserved × BookNext × MetEach × ReadEach × EntersExactly × AllowedNext × AmongOthers × FullWhen × EightLast
     × OnesEnter × EightReached × ReplayConserves × ReplayRefused × ReplayUnchanged × ReplayQuestions × ReplayWords × ReplaysMeans
+    × PartsJoined

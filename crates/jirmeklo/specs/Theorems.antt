@@ -1,5 +1,6 @@
 -- What is proved of the numbers that the exported calls answer: each field of them, and what becomes of the lent words (R8). The calls that
--- add to a total promise `AddsNumbered`, whose statement is accumulator_spec's `AddsNumberedMeans`.
+-- add to a total promise `AddsNumbered`, and the one that joins two `JoinsNumbered`: accumulator_spec has their statements,
+-- `AddsNumberedMeans` and `JoinsNumberedMeans`.
 use Prim.Native.Nat.{ℕ, _≤_, _<_}
 use mathlib.Core.Path.{_≡_}
 use mathlib.Core.Logic.{_⊎_, _≢_}

@@ -3,6 +3,7 @@ use accumulator::Cleared;
 use accumulator::Reading;
 ghost use mathlib.Core.Path.{_≡_};
 ghost use Rattle.accumulator_spec.specs.Totals.{ofPattern, ofProduct, AddsNumbered, reading};
+ghost use Rattle.accumulator_spec.specs.Joins.{JoinsNumbered};
 ghost use Rattle.jirmeklo.specs.Totals.{noReading, readingNumbers, ClearsNumbered};
 
 // The refusal's number and two zeros; or 0 and the pair.
@@ -36,6 +37,14 @@ pub extern "C" fn jirmeklo_add_product(total: &mut [u32], x: u32, y: u32) -> u32
     ensures { λ r. ⌜ AddsNumbered (now (total .entry)) (ofProduct x y) r (now (total .exit)) ⌝ }
 {
     accumulator::numbers::add_product(total, x, y)
+}
+
+#[no_mangle]
+pub extern "C" fn jirmeklo_join(first: &mut [u32], second: &[u32]) -> u32
+    ensures { λ r. ⌜ JoinsNumbered (now (first .entry)) (now (second .entry)) r (now (first .exit)) ⌝ }
+    ensures { λ _. ⌜ now (second .exit) ≡ now (second .entry) ⌝ }
+{
+    accumulator::numbers::join(first, second)
 }
 
 #[no_mangle]

@@ -8,7 +8,7 @@ use Rattle.rounding_spec.specs.Value.{Value}
 use Rattle.pattern_spec.specs.Exact.{plus, finer}
 use Rattle.pattern_spec.specs.Classes.{valueOf}
 use Rattle.augmented_spec.specs.Pairs.{pairOf}
-use Rattle.augmented_spec.specs.Inner.{join}
+use Rattle.augmented_spec.specs.Inner.{inOneWord}
 use Rattle.augmented_spec.proofs.Unrounded.{finite-class, special-class, second-special, below-class, near-short}
 use Rattle.augmented_sum.proofs.finite_plus.Statement.{statement}
 use Rattle.augmented_sum.proofs.finite_plus.Tie as tie
@@ -95,7 +95,7 @@ returns-2 c =
     let f = finite-class _ _ _ _ _ (k .before .before .classify .ensures) (k .b .given .1) in
     let l = below-class _ _ _ _ _ _ (k .before .before .classify .ensures) (k .b .given .1) (b .pre .1 .1) in
     let t = near-short _ _ _ _ _ _ (b .pre .0) (f .0) l (let g = c .before .before .if1 .left in omega arith) _ _ (c .before .sum .ensures) in
-    c .near .ensures _ ∙ sym (ap (λ (v : Value). join (b .args .p ∷ b .args .q ∷ []) (pairOf binary32 v)) (ap (finer binary32) (ap₂ plus (b .pre .1 .0) (f .1)) ∙ t .is))
+    c .near .ensures _ ∙ sym (ap (λ (v : Value). inOneWord (b .args .p ∷ b .args .q ∷ []) (pairOf binary32 v)) (ap (finer binary32) (ap₂ plus (b .pre .1 .0) (f .1)) ∙ t .is))
 
 returns-3 : tie.Need-returns-3
 returns-3 c = search needs

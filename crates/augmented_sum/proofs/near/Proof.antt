@@ -27,8 +27,8 @@ rest-pattern-requires c κs =
 choose-pattern-requires : tie.Need-choose-pattern-requires
 choose-pattern-requires c κs = search needs
 
-joined-requires : tie.Need-joined-requires
-joined-requires c κs = search needs
+in-one-word-requires : tie.Need-in-one-word-requires
+in-one-word-requires c κs = search needs
 
 returns : tie.Need-returns
 returns c operands =
@@ -38,7 +38,7 @@ returns c operands =
     let b = f .before in
     let halves = with-rest-is (b .args .sign) (b .args .sig) (b .args .exp) (b .pre) _ (f .round-with-rest .ensures .1 .0) _ _ (f .round-with-rest .ensures .0) (u .before .is-infinite .ensures) _
     (u .choose-exponent .ensures) _ (f .round-with-rest .ensures .1 .1) _ _ (p .rest-pattern .ensures) (c .before .choose-pattern .ensures) in
-    c .joined .ensures ∙ halved-word (b .args .sign) (b .args .sig * 2 ^ b .args .exp) halves operands
+    c .in-one-word .ensures ∙ halved-word (b .args .sign) (b .args .sig * 2 ^ b .args .exp) halves operands
 
 pub near-spec : {M : Type 1} → statement M
 near-spec =
@@ -50,5 +50,5 @@ near-spec =
     choose-exponent-requires
     rest-pattern-requires
     choose-pattern-requires
-    joined-requires
+    in-one-word-requires
     returns)

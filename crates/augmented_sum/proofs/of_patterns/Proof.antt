@@ -15,7 +15,7 @@ use Rattle.pattern_spec.proofs.Exacts.{ordered-sum}
 use Rattle.binary32_spec.specs.Steps.{result}
 use Rattle.binary32_spec.proofs.Result.{result-same}
 use Rattle.augmented_spec.specs.Pairs.{pairOf, exactSum}
-use Rattle.augmented_spec.specs.Inner.{join}
+use Rattle.augmented_spec.specs.Inner.{inOneWord}
 use Rattle.augmented_spec.proofs.Unrounded.{finite-class, special-class, first-special}
 use Rattle.augmented_sum.proofs.of_patterns.Statement.{statement}
 use Rattle.augmented_sum.proofs.of_patterns.Tie as tie
@@ -36,9 +36,9 @@ module _ (x y p q : ℕ) (larger-is : p ≡ larger x y) (smaller-is : q ≡ smal
       by false n = refl
 
   -- the halves of the operands in order are those of the operands
-  same-halves : isNaN (decode binary32 p) ≡ false → join (p ∷ q ∷ []) (pairOf binary32 (exactSum binary32 p q)) ≡ join (x ∷ y ∷ []) (pairOf binary32 (exactSum binary32 x y))
+  same-halves : isNaN (decode binary32 p) ≡ false → inOneWord (p ∷ q ∷ []) (pairOf binary32 (exactSum binary32 p q)) ≡ inOneWord (x ∷ y ∷ []) (pairOf binary32 (exactSum binary32 x y))
   same-halves n =
-      ap (λ (v : Value). join (p ∷ q ∷ []) (pairOf binary32 v)) same-sum
+      ap (λ (v : Value). inOneWord (p ∷ q ∷ []) (pairOf binary32 v)) same-sum
       ∙ ap₂ (λ (a b : ℕ). a + b * 2 ^ 32) (same (pairOf binary32 (exactSum binary32 x y) .first)) (same (pairOf binary32 (exactSum binary32 x y) .second))
     where
       same : (v : Value) → result binary32 (p ∷ q ∷ []) v ≡ result binary32 (x ∷ y ∷ []) v

@@ -9,12 +9,12 @@ use Rattle.augmented_sum.proofs.special.Tie as tie
 add-requires : tie.Need-add-requires
 add-requires c κs = search needs
 
-joined-requires : tie.Need-joined-requires
-joined-requires c κs = search needs
+in-one-word-requires : tie.Need-in-one-word-requires
+in-one-word-requires c κs = search needs
 
 returns : tie.Need-returns
 unfolding addValue
-returns c = c .joined .ensures ∙ special-word _ _ (c .before .before .pre) _ (c .before .add .ensures ∙ add-step _ _)
+returns c = c .in-one-word .ensures ∙ special-word _ _ (c .before .before .pre) _ (c .before .add .ensures ∙ add-step _ _)
 
 pub special-spec : {M : Type 1} → statement M
-special-spec = tie.close (tie.spec add-requires joined-requires returns)
+special-spec = tie.close (tie.spec add-requires in-one-word-requires returns)

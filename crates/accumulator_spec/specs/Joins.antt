@@ -1,0 +1,48 @@
+-- Joining two totals (R6.9, R8.16), and totals that were built by adding and joining (R6.10).
+use Prim.Native.Nat.{ℕ, _+_}
+use mathlib.Core.Path.{_≡_}
+use mathlib.Core.Bool.{Bool, not, cond}
+use mathlib.Core.List.{List, [], _∷_, _++_}
+use lib.Dec.{eqb, leb}
+use lib.ListN.{length}
+use lib.IntN.{_+ℤ_}
+use Rattle.pattern_spec.specs.Answer.{Answer, refused, done, isDone, refusalOf}
+use Rattle.accumulator_spec.specs.Totals.{zeros, totalSize, mostTerms, number, count, totalOf, fit, Term, adding, afterAdding}
+
+-- ---- R8.16: joining
+-- the terms of both can be counted in one total
+abbrev pub roomForBoth : List ℕ → List ℕ → Bool
+roomForBoth first second = leb (count first + count second) mostTerms
+
+-- the answer: of the first 5, other than a total's words, and 6, unfit; then the same of the second; 12, no room for the terms of both
+unfoldable pub joining : List ℕ → List ℕ → Answer (Unit {0})
+joining first second =
+    cond (not (eqb (length first) totalSize)) (refused 5)
+    (cond (not (fit first)) (refused 6)
+    (cond (not (eqb (length second) totalSize)) (refused 5)
+    (cond (not (fit second)) (refused 6)
+    (cond (not (roomForBoth first second)) (refused 12)
+    (done tt)))))
+
+-- R6.9: the words of a total with the numbers of both added up, and the counts
+abbrev pub joinedTotal : List ℕ → List ℕ → List ℕ
+joinedTotal first second = totalOf (number first +ℤ number second) (count first + count second)
+
+-- the first's words as they end; unchanged where it is refused (R8.1). The second is lent to be looked at only.
+unfoldable pub afterJoining : List ℕ → List ℕ → List ℕ
+afterJoining first second = cond (isDone (joining first second)) (joinedTotal first second) first
+
+-- what a call that joins these words answers, and the words that it leaves in the first
+abbrev pub Joins : List ℕ → List ℕ → Answer (Unit {0}) → List ℕ → Type 0
+Joins first second answer after = (answer ≡ joining first second) × (after ≡ afterJoining first second)
+
+-- the same, with the answer as a number: the refusal's, or 0
+abbrev pub JoinsNumbered : List ℕ → List ℕ → ℕ → List ℕ → Type 0
+JoinsNumbered first second n after = (n ≡ refusalOf (joining first second)) × (after ≡ afterJoining first second)
+
+-- ---- R6.10: totals built from cleared ones by adding and joining
+-- The words, and the terms of the steps that led to them. A refused step changes no word, so that it is none.
+pub data Built : List ℕ → List Term → Type 0 where
+  fromCleared : Built zeros []
+  byAdding : {t : List ℕ} {xs : List Term} (x : Term) → Built t xs → adding t x ≡ done tt → Built (afterAdding t x) (xs ++ (x ∷ []))
+  byJoining : {t u : List ℕ} {xs ys : List Term} → Built t xs → Built u ys → joining t u ≡ done tt → Built (afterJoining t u) (xs ++ ys)

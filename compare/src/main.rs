@@ -34,14 +34,14 @@ use subject::{Library, Subject};
 
 const USAGE: &str = "usage: compare check [OPTION N]... | compare sheets [OPTION N]... | compare lists [OPTION N]...
      | compare bench [--seed N] | compare sheets-bench [--seed N] [--program WORDS]
-     | compare step STEP PATTERN PATTERN [PATTERN] | compare pair OPERATION PATTERN PATTERN | compare total TERM...
+     | compare step STEP PATTERN PATTERN [PATTERN] | compare pair OPERATION PATTERN PATTERN | compare total [TERM | +]...
      | compare sheets-model | compare peer | compare sheets-input SHAPE NUMBER [--seed N]
     check       all comparisons; sheets: that of the program `sheet` alone; lists: those of filling and of lists alone
     sheets-model, peer   answer question lines of standard input as `sheet` does: by the model, on the processor's floats
     sheets-input         prints a file of question lines that a difference names
     STEP        add, sub, mul or fma, which takes three patterns; a pattern is eight upper-case hexadecimal digits
     OPERATION   sum, dif or mul
-    TERM        a pattern, or two with * between, whose product is added
+    TERM        a pattern, or two with * between, whose product is added; + joins a total of the terms before it and one of those after
     --seed N    the seed of the random questions (default 1)
     --count N   random questions a step, shared by the shapes (default 24000000)
     --pairs N   random questions an operation of the pairs, shared by the shapes (default 16800000)
@@ -131,8 +131,26 @@ fn one_pair(words: &[String]) -> Option<String> {
     Some(pairs::subject::Library.pair(operation, x, y).shown("\t"))
 }
 
-/// Adds the terms to a cleared total: what it then reads, first and second, or the first refusal.
+/// Adds up each group of terms, and joins the others to the first: what that reads, first and second, or the first refusal.
 fn one_total(words: &[String]) -> Option<String> {
+    let mut joined: Option<[u32; 21]> = None;
+    for group in words.split(|word| word == "+") {
+        let total = match total_of(group)? {
+            Ok(total) => total,
+            Err(refused) => return Some(refused),
+        };
+        match joined.as_mut().map(|first| totals::subject::join(first, &total)) {
+            None => joined = Some(total),
+            Some(0) => {}
+            Some(refusal) => return Some(format!("+ is refused: {refusal}")),
+        }
+    }
+    let reading = totals::subject::read(&joined?);
+    Some(format!("{:08X}\t{:08X}", reading.first, reading.second))
+}
+
+/// A cleared total with the terms added, or the first refusal.
+fn total_of(words: &[String]) -> Option<Result<[u32; 21], String>> {
     let mut total = [0; 21];
     totals::subject::clear(&mut total);
     for word in words {
@@ -143,11 +161,10 @@ fn one_total(words: &[String]) -> Option<String> {
             _ => return None,
         };
         if refusal != 0 {
-            return Some(format!("{word} is refused: {refusal}"));
+            return Some(Err(format!("{word} is refused: {refusal}")));
         }
     }
-    let reading = totals::subject::read(&total);
-    Some(format!("{:08X}\t{:08X}", reading.first, reading.second))
+    Some(Ok(total))
 }
 
 fn options(words: &[String]) -> Option<Options> {

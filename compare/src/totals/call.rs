@@ -33,6 +33,23 @@ impl Call {
     }
 }
 
+/// A call, and which totals of several it is made on.
+#[derive(Clone, Copy, PartialEq, Eq, Debug)]
+pub enum Turn {
+    On(usize, Call),
+    /// The second is joined to the first, which is another.
+    Join(usize, usize),
+}
+
+impl Turn {
+    pub fn shown(self) -> String {
+        match self {
+            Turn::On(_, call) => call.shown(),
+            Turn::Join(..) => "join".to_string(),
+        }
+    }
+}
+
 impl Reading {
     pub const DONE: Reading = Reading::refused(0);
 

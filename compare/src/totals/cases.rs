@@ -1,6 +1,6 @@
 //! Totals worked by hand, which the model has to give before it counts as a reference.
 use super::call::{Call, Reading};
-use super::model::{answer, Total, LENGTH, MOST};
+use super::model::{answer, join, Total, LENGTH, MOST};
 use super::number::WORDS;
 use std::hint::black_box;
 
@@ -17,7 +17,7 @@ pub fn distrusted() -> Option<String> {
         answer(black_box(call), &mut words);
         (words != held_words(from, held, rest)).then(|| format!("{call:?}: {words:08X?}"))
     });
-    read.or(held).or_else(refused)
+    read.or(held).or_else(refused).or_else(joined).or_else(not_joined)
 }
 
 /// Zeros up to a word, some words from there, and the same word after these; then a count of 1.
@@ -40,6 +40,34 @@ fn refused() -> Option<String> {
         let given = answer(black_box(call), &mut words);
         let right = given == Reading::refused(refusal) && words == before;
         (!right).then(|| format!("{call:?} on {length} words, {lowest} and {count}: {}", given.shown()))
+    })
+}
+
+/// The lowest words of a number, the word that all others are, and a count.
+type Sparse = (&'static [u32], u32, u32);
+
+fn words_of((lowest, rest, count): Sparse) -> Vec<u32> {
+    let mut words = vec![rest; WORDS];
+    words[..lowest.len()].copy_from_slice(lowest);
+    words.push(count);
+    words
+}
+
+fn joined() -> Option<String> {
+    JOINED.iter().find_map(|&(first, second, sum)| {
+        let mut words = words_of(black_box(first));
+        let right = join(&mut words, &words_of(second)) == 0 && words == words_of(sum);
+        (!right).then(|| format!("{second:08X?} joined to {first:08X?}: {words:08X?}"))
+    })
+}
+
+fn not_joined() -> Option<String> {
+    NOT_JOINED.iter().find_map(|&((first, length), (second, second_length), refusal)| {
+        let sized = |total, length| words_of(total).into_iter().chain([0]).take(length).collect::<Vec<u32>>();
+        let mut words = sized(black_box(first), length);
+        let given = join(&mut words, &sized(second, second_length));
+        let right = given == refusal && words == sized(first, length);
+        (!right).then(|| format!("{second:08X?} joined to {first:08X?}: {given}"))
     })
 }
 
@@ -95,4 +123,43 @@ const REFUSED: [(u32, u32, usize, Call, u32); 10] = [
     (0, MOST, LENGTH, Call::Pattern(0x7FC0_0000), 7),
     (0, MOST, LENGTH, Call::Pattern(0), 8),
     (1, MOST, LENGTH, Call::Product(0, 0), 8),
+];
+
+/// Two totals, and their sum.
+const JOINED: [(Sparse, Sparse, Sparse); 11] = [
+    (EMPTY, EMPTY, EMPTY),
+    (EMPTY, (&[7], 0, 3), (&[7], 0, 3)),
+    ((&[7], 0, 3), EMPTY, (&[7], 0, 3)),
+    // 1 and 1 are 2.
+    ((&ONE, 0, 1), (&ONE, 0, 1), (&[0, 0, 0, 0, 0, 0, 0, 0, 0, 0x800], 0, 2)),
+    // Of 2^-298: -1 and -1, -1 and 1, -1 and 2, 1 and -2.
+    (MINUS, MINUS, (&[u32::MAX - 1], u32::MAX, 2)),
+    (MINUS, (&[1], 0, 1), (&[], 0, 2)),
+    (MINUS, (&[2], 0, 5), (&[1], 0, 6)),
+    ((&[1], 0, 1), (&[u32::MAX - 1], u32::MAX, 1), (&[], u32::MAX, 2)),
+    // 2^64 - 1 and 2^32 + 1 are 2^64 + 2^32.
+    ((&[u32::MAX, u32::MAX], 0, 1), (&[1, 1], 0, 1), (&[0, 1, 1], 0, 2)),
+    // -2^32 and 2^32 - 1 are -1.
+    ((&[0], u32::MAX, 9), (&[u32::MAX], 0, 1), (&[], u32::MAX, 10)),
+    ((&[5], 0, MOST - 1), (&[6], 0, 1), (&[11], 0, MOST)),
+];
+
+const EMPTY: Sparse = (&[], 0, 0);
+const ONE: [u32; 10] = [0, 0, 0, 0, 0, 0, 0, 0, 0, 0x400];
+const MINUS: Sparse = (&[], u32::MAX, 1);
+/// A number without terms, and a count that no total has.
+const UNFIT: [Sparse; 2] = [(&[1], 0, 0), (&[], 0, MOST + 1)];
+
+/// Two totals with the lengths that they are cut or lengthened to, and why they are not joined.
+const NOT_JOINED: [((Sparse, usize), (Sparse, usize), u32); 10] = [
+    ((EMPTY, 20), (EMPTY, LENGTH), 5),
+    ((UNFIT[0], 22), (UNFIT[1], 20), 5),
+    ((UNFIT[0], LENGTH), (EMPTY, 20), 6),
+    ((UNFIT[1], LENGTH), (UNFIT[0], LENGTH), 6),
+    ((EMPTY, LENGTH), (UNFIT[0], 0), 5),
+    (((&[], 0, MOST), LENGTH), ((&[], 0, 1), 22), 5),
+    ((EMPTY, LENGTH), (UNFIT[0], LENGTH), 6),
+    (((&[], 0, MOST), LENGTH), (UNFIT[1], LENGTH), 6),
+    (((&[], 0, MOST), LENGTH), (MINUS, LENGTH), 12),
+    (((&ONE, 0, 1), LENGTH), ((&[], 0, MOST), LENGTH), 12),
 ];

@@ -47,6 +47,10 @@ impl Total {
         Total { number: self.number.plus(term), count: self.count + 1 }
     }
 
+    pub fn joined(&self, other: &Total) -> Total {
+        Total { number: self.number.plus(&other.number), count: self.count + other.count }
+    }
+
     pub fn reading(&self) -> Reading {
         let first = nearest(&self.number);
         if !is_finite(first) {
@@ -82,6 +86,24 @@ pub fn answer(call: Call, words: &mut [u32]) -> Reading {
     }
     words.copy_from_slice(&total.with(&term(call)).words());
     Reading::DONE
+}
+
+/// The refusal of joining a second total to the first; where it is 0, the first's words are what that leaves in them.
+pub fn join(first: &mut [u32], second: &[u32]) -> u32 {
+    for words in [&*first, second] {
+        if words.len() != LENGTH {
+            return 5;
+        }
+        if !Total::of(words).fits() {
+            return 6;
+        }
+    }
+    let (total, other) = (Total::of(first), Total::of(second));
+    if total.count + other.count > MOST {
+        return 12;
+    }
+    first.copy_from_slice(&total.joined(&other).words());
+    0
 }
 
 /// What an adding call with finite operands adds.

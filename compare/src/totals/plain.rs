@@ -1,6 +1,6 @@
-//! A plain accumulator of a total's size, for speed alone: the measure that the library's adding is held to.
+//! A plain accumulator of a total's size, for speed alone: the measure that the library's adding and joining are held to.
 //!
-//! It has a total's 640 bits in limbs of 64. It counts no terms, and does not ask what fits or is finite.
+//! It has a total's 640 bits in limbs of 64. It does not ask what fits or is finite, and terms are counted only in joining.
 use crate::pattern::FRACTION;
 
 const LIMBS: usize = 10;
@@ -69,6 +69,39 @@ pub extern "C" fn add_pattern(total: &mut Plain, x: u32) {
 pub extern "C" fn add_product(total: &mut Plain, x: u32, y: u32) {
     let ((a, i), (b, j)) = (parts(x), parts(y));
     total.add((x ^ y) >> 31, a * b, i + j);
+}
+
+/// A number, and how many terms are in it.
+#[repr(C)]
+pub struct Counted {
+    pub number: Plain,
+    pub count: u32,
+}
+
+impl Counted {
+    pub const CLEARED: Counted = Counted { number: Plain::CLEARED, count: 0 };
+
+    /// What a total's words hold.
+    pub fn of(words: &[u32]) -> Counted {
+        let limb = |i: usize| u64::from(words[2 * i]) | u64::from(words[2 * i + 1]) << 32;
+        Counted { number: Plain { limbs: std::array::from_fn(limb) }, count: words[2 * LIMBS] }
+    }
+
+    pub fn words(&self) -> Vec<u32> {
+        let mut words = self.number.words();
+        words.push(self.count);
+        words
+    }
+}
+
+pub extern "C" fn join(first: &mut Counted, second: &Counted) {
+    let mut carry = false;
+    for (limb, other) in first.number.limbs.iter_mut().zip(&second.number.limbs) {
+        let (sum, over) = limb.overflowing_add(*other);
+        let (sum, again) = sum.overflowing_add(u64::from(carry));
+        (*limb, carry) = (sum, over | again);
+    }
+    first.count = first.count.wrapping_add(second.count);
 }
 
 /// The sum that a program without care would keep.

@@ -2,8 +2,8 @@
 use super::call::{Call, Reading};
 use crate::library;
 
-// SAFETY, for the four: the functions are proved for every slice and every pattern, touch no memory but the
-// slice's, and keep none of it.
+// SAFETY, for the five: the functions are proved for every slice and every pattern, touch no memory but the
+// slices', and keep none of it. No two slices overlap, as one of them is lent to be written.
 pub fn clear(total: &mut [u32]) -> u32 {
     unsafe { library::jirmeklo_clear(total.as_mut_ptr(), total.len()) }
 }
@@ -14,6 +14,10 @@ pub fn add_pattern(total: &mut [u32], x: u32) -> u32 {
 
 pub fn add_product(total: &mut [u32], x: u32, y: u32) -> u32 {
     unsafe { library::jirmeklo_add_product(total.as_mut_ptr(), total.len(), x, y) }
+}
+
+pub fn join(first: &mut [u32], second: &[u32]) -> u32 {
+    unsafe { library::jirmeklo_join(first.as_mut_ptr(), first.len(), second.as_ptr(), second.len()) }
 }
 
 pub fn read(total: &[u32]) -> Reading {
@@ -61,6 +65,9 @@ impl Lent {
 /// Whatever keeps totals: the library, or the library with a planted fault.
 pub trait Subject: Sync {
     fn answer(&self, call: Call, lent: &mut Lent) -> Reading;
+
+    /// The refusal. Only a fault writes to the second.
+    fn join(&self, first: &mut Lent, second: &mut Lent) -> u32;
 }
 
 pub struct Library;
@@ -73,5 +80,9 @@ impl Subject for Library {
             Call::Product(x, y) => Reading::refused(add_product(lent.words_mut(), x, y)),
             Call::Read => read(lent.words()),
         }
+    }
+
+    fn join(&self, first: &mut Lent, second: &mut Lent) -> u32 {
+        join(first.words_mut(), second.words())
     }
 }

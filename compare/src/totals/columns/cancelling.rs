@@ -1,6 +1,6 @@
 //! Columns that come back to zero: terms and their opposites.
 use super::terms::{self, Window};
-use super::{read_after, Column};
+use super::{read_after, shuffled, Column};
 use crate::random::Random;
 use crate::totals::call::Call;
 use crate::totals::model::MOST;
@@ -45,12 +45,4 @@ fn column(order: Order, count: usize, window: Window, r: &mut Random) -> Vec<Cal
         Order::Reversed => terms.iter().copied().chain(opposites.rev()).collect(),
         Order::Shuffled => shuffled(terms.iter().copied().chain(opposites).collect(), r),
     }
-}
-
-fn shuffled(mut calls: Vec<Call>, r: &mut Random) -> Vec<Call> {
-    for i in (1..calls.len()).rev() {
-        let other = r.within(0, i as i32);
-        calls.swap(i, other as usize);
-    }
-    calls
 }

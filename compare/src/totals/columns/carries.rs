@@ -56,14 +56,18 @@ const TERMS: usize = 10;
 
 /// Words of all ones, of zeros and the like, and any terms.
 pub fn drawn(r: &mut Random) -> Column {
+    let number = number(r);
+    let calls = (0..TERMS).flat_map(|_| read_after(terms::term(r, terms::ANY))).collect();
+    Column::new(Total { number, count: COUNT }, calls)
+}
+
+/// Such words, of a number below 2^569.
+pub fn number(r: &mut Random) -> Number {
     let mut words: Vec<u32> = (0..WORDS).map(|_| word(r)).collect();
-    // The number stays below 2^569.
     let highest = if r.once_in(2) { -r.within(0, 1) } else { r.within(1 - (1 << 25), (1 << 25) - 1) };
     let sign = if highest < 0 { u32::MAX } else { 0 };
     words[17..].copy_from_slice(&[highest as u32, sign, sign]);
-    let number = Number::of_words(&words);
-    let calls = (0..TERMS).flat_map(|_| read_after(terms::term(r, terms::ANY))).collect();
-    Column::new(Total { number, count: COUNT }, calls)
+    Number::of_words(&words)
 }
 
 fn word(r: &mut Random) -> u32 {

@@ -22,20 +22,26 @@ pub const EVERY_CALL: [Call; 11] = [
 ];
 
 /// A chunk for each word of each of ten totals, then one for the outermost numbers.
-pub const CHUNKS: u64 = (TOTALS * LENGTH + 1) as u64;
+pub const CHUNKS: u64 = DISTURBED + 1;
+pub const DISTURBED: u64 = (TOTALS * LENGTH) as u64;
 const TOTALS: usize = 10;
 
 pub fn constructed(chunk: usize, r: &mut Random) -> Vec<Column> {
     if chunk == TOTALS * LENGTH {
         return outermost();
     }
+    disturbed(chunk, r).iter().flat_map(|words| apart(words, &EVERY_CALL)).collect()
+}
+
+/// One of the totals, with every other value that is tried in one of its words.
+pub fn disturbed(chunk: usize, r: &mut Random) -> Vec<Vec<u32>> {
     let (start, word) = (total(chunk / LENGTH, r), chunk % LENGTH);
-    let disturbed = |value: u32| {
+    let with = |value: u32| {
         let mut words = start.clone();
         words[word] = value;
-        apart(&words, &EVERY_CALL)
+        words
     };
-    values(start[word]).into_iter().flat_map(disturbed).collect()
+    values(start[word]).into_iter().map(with).collect()
 }
 
 /// What a word becomes: also the counts about 65,536.
@@ -58,7 +64,8 @@ fn total(number: usize, r: &mut Random) -> Vec<u32> {
     Total { number, ..total }.words()
 }
 
-fn after(calls: impl Iterator<Item = Call>) -> Total {
+/// A total of these terms.
+pub fn after(calls: impl Iterator<Item = Call>) -> Total {
     let mut words = Total::CLEARED.words();
     for call in calls {
         answer(call, &mut words);
@@ -91,16 +98,20 @@ pub fn drawn(r: &mut Random) -> Vec<Column> {
 pub const LENGTHS: u64 = 66;
 
 pub fn of_length(chunk: usize, r: &mut Random) -> Vec<Column> {
+    contents(chunk, r).iter().flat_map(|words| apart(words, &EVERY_CALL)).collect()
+}
+
+/// Words of one of the lengths.
+pub fn contents(chunk: usize, r: &mut Random) -> Vec<Vec<u32>> {
     let length = match chunk {
         0..LENGTH => chunk,
         LENGTH..64 => chunk + 1,
         64 => (1 << 8) + LENGTH,
         _ => (1 << 16) + LENGTH,
     };
-    let contents = [vec![0; length], vec![u32::MAX; length], any(length, r), any(length, r), any(length, r)];
-    contents.iter().flat_map(|words| apart(words, &EVERY_CALL)).collect()
+    vec![vec![0; length], vec![u32::MAX; length], any(length, r), any(length, r), any(length, r)]
 }
 
-fn any(length: usize, r: &mut Random) -> Vec<u32> {
+pub fn any(length: usize, r: &mut Random) -> Vec<u32> {
     (0..length).map(|_| r.pattern()).collect()
 }

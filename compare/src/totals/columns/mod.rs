@@ -4,29 +4,46 @@ mod carries;
 mod damaged;
 mod full;
 mod halfway;
+mod joins;
 mod limits;
+mod misfits;
 mod overflow;
 mod random;
 mod terms;
 mod tiny;
+mod trees;
 
-use super::call::Call;
+use super::call::{Call, Turn};
 use super::model::Total;
 use crate::random::Random;
 
-/// Words, and calls that are made on them in turn.
+/// Totals, most often one, and calls that are made on them in turn.
 pub struct Column {
-    pub start: Vec<u32>,
-    pub calls: Vec<Call>,
+    /// The words that each begins with.
+    pub totals: Vec<Vec<u32>>,
+    pub turns: Vec<Turn>,
+    /// The totals that hold the same words in the end, whatever the model has.
+    pub alike: Vec<usize>,
 }
 
 impl Column {
     pub fn new(start: Total, calls: Vec<Call>) -> Column {
-        Column { start: start.words(), calls }
+        Column::of_words(start.words(), &calls)
     }
 
     pub fn cleared(calls: Vec<Call>) -> Column {
         Column::new(Total::CLEARED, calls)
+    }
+
+    fn of_words(start: Vec<u32>, calls: &[Call]) -> Column {
+        let turns = calls.iter().map(|&call| Turn::On(0, call)).collect();
+        Column { totals: vec![start], turns, alike: Vec::new() }
+    }
+
+    /// The second joined to the first, which is then read.
+    fn joined(first: Vec<u32>, second: Vec<u32>) -> Column {
+        let turns = vec![Turn::Join(0, 1), Turn::On(0, Call::Read)];
+        Column { totals: vec![first, second], turns, alike: Vec::new() }
     }
 }
 
@@ -54,9 +71,15 @@ pub enum Shape {
     Limits,
     /// Other lengths than 21.
     Lengths,
+    /// Terms added and totals joined, in trees of any shape.
+    Trees,
+    /// Totals at the limits, and carries from word to word, in joining.
+    Joins,
+    /// Joining where either total does not fit or has another length, or there is no room.
+    Misfits,
 }
 
-pub const SHAPES: [Shape; 11] = [
+pub const SHAPES: [Shape; 14] = [
     Shape::Random,
     Shape::Long,
     Shape::Largest,
@@ -68,6 +91,9 @@ pub const SHAPES: [Shape; 11] = [
     Shape::Damaged,
     Shape::Limits,
     Shape::Lengths,
+    Shape::Trees,
+    Shape::Joins,
+    Shape::Misfits,
 ];
 
 impl Shape {
@@ -84,6 +110,9 @@ impl Shape {
             Shape::Damaged => "damaged",
             Shape::Limits => "limits",
             Shape::Lengths => "lengths",
+            Shape::Trees => "trees",
+            Shape::Joins => "joins",
+            Shape::Misfits => "misfits",
         }
     }
 
@@ -101,6 +130,9 @@ impl Shape {
             Shape::Damaged => damaged::CHUNKS,
             Shape::Limits => limits::COUNTS.len() as u64,
             Shape::Lengths => damaged::LENGTHS,
+            Shape::Trees => trees::FULL.len() as u64,
+            Shape::Joins => joins::chunks(),
+            Shape::Misfits => misfits::chunks(),
         }
     }
 
@@ -122,6 +154,9 @@ impl Shape {
             Shape::Damaged => damaged::constructed(chunk as usize, r),
             Shape::Limits => limits::constructed(limits::COUNTS[chunk as usize]),
             Shape::Lengths => damaged::of_length(chunk as usize, r),
+            Shape::Trees => vec![trees::full(trees::FULL[chunk as usize], r)],
+            Shape::Joins => joins::constructed(chunk as usize),
+            Shape::Misfits => misfits::constructed(chunk as usize, r),
         }
     }
 
@@ -134,6 +169,9 @@ impl Shape {
             Shape::Halfway => vec![halfway::drawn(r)],
             Shape::Overflow => vec![overflow::drawn(r)],
             Shape::Damaged => damaged::drawn(r),
+            Shape::Trees => vec![trees::drawn(r)],
+            Shape::Joins => vec![joins::drawn(r)],
+            Shape::Misfits => vec![misfits::drawn(r)],
             Shape::Long | Shape::Largest | Shape::Limits | Shape::Lengths => unreachable!("none is drawn"),
         }
     }
@@ -171,5 +209,13 @@ fn read_after(call: Call) -> [Call; 2] {
 
 /// Each call on the same words, not on what the last one left.
 fn apart(start: &[u32], calls: &[Call]) -> Vec<Column> {
-    calls.iter().map(|&call| Column { start: start.to_vec(), calls: vec![call] }).collect()
+    calls.iter().map(|&call| Column::of_words(start.to_vec(), &[call])).collect()
+}
+
+fn shuffled(mut calls: Vec<Call>, r: &mut Random) -> Vec<Call> {
+    for i in (1..calls.len()).rev() {
+        let other = r.within(0, i as i32);
+        calls.swap(i, other as usize);
+    }
+    calls
 }

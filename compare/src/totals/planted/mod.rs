@@ -1,11 +1,12 @@
 //! The comparison of totals tried on itself: a library with a planted fault has to be found out.
+mod joins;
 mod reading;
 mod refusals;
 mod words;
 
-use super::call::{Call, Reading};
+use super::call::{Call, Reading, Turn};
 use super::columns::{Shape, Source};
-use super::compare::compare;
+use super::compare::{compare, compared};
 use super::model::{term, Total};
 use super::number::WORDS;
 use super::subject::{Lent, Library, Subject};
@@ -16,6 +17,7 @@ enum Fault {
     Words(words::Fault),
     Refusal(refusals::Fault),
     Reading(reading::Fault),
+    Join(joins::Fault),
 }
 
 /// A call that the library has carried out or refused, to be spoilt.
@@ -74,8 +76,16 @@ impl Subject for Planted {
             Fault::Words(fault) => fault.spoil(&mut done),
             Fault::Refusal(fault) => fault.spoil(&mut done),
             Fault::Reading(fault) => fault.spoil(&mut done),
+            Fault::Join(_) => {}
         }
         done.answer
+    }
+
+    fn join(&self, first: &mut Lent, second: &mut Lent) -> u32 {
+        match self.0 {
+            Fault::Join(fault) => fault.join(first, second),
+            _ => Library.join(first, second),
+        }
     }
 }
 
@@ -84,7 +94,8 @@ fn faults() -> Vec<(Fault, Shape, &'static str)> {
     let words = words::faults().into_iter().map(|(fault, shape, name)| (Fault::Words(fault), shape, name));
     let refusals = refusals::FAULTS.map(|(fault, shape, name)| (Fault::Refusal(fault), shape, name));
     let reading = reading::FAULTS.map(|(fault, shape, name)| (Fault::Reading(fault), shape, name));
-    words.chain(refusals).chain(reading).collect()
+    let joins = joins::faults().into_iter().map(|(fault, shape, name)| (Fault::Join(fault), shape, name));
+    words.chain(refusals).chain(reading).chain(joins).collect()
 }
 
 const COLUMNS: u64 = 400;
@@ -99,7 +110,22 @@ pub fn tried(seed: u64) -> Result<String, String> {
         }
         found.push(format!("{name} ({})", shape.name()));
     }
+    if !finds_unlike(seed) {
+        return Err("totals that are to be alike, one of them with a term more".to_string());
+    }
+    found.push("a term more in one of the totals that are to be alike (trees)".to_string());
     // Those for each of the words have one name.
     found.dedup();
     Ok(found.join(", "))
+}
+
+/// The model has that term too: only the other totals of the tree tell that it is one too many.
+fn finds_unlike(seed: u64) -> bool {
+    let source = Source { shape: Shape::Trees, seed, columns: 1 };
+    let mut columns = source.columns(source.chunks() - 1);
+    columns.iter_mut().all(|column| {
+        let last = *column.alike.last().expect("trees end alike");
+        column.turns.push(Turn::On(last, Call::Pattern(0)));
+        compared(&Library, column).1.is_some()
+    })
 }

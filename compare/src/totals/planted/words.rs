@@ -102,7 +102,7 @@ impl Fault {
 }
 
 /// Words that stand for a number, moved by 1, or by -1 as all ones are.
-fn moved(words: &mut [u32], by: u32) {
+pub fn moved(words: &mut [u32], by: u32) {
     for word in words {
         *word = word.wrapping_add(by);
         let goes_on = if by == 1 { *word == 0 } else { *word == u32::MAX };

@@ -1,16 +1,15 @@
 //! Times adding to a total beside a plain accumulator of the same size and a sum of floats.
-use super::plain::{self, Plain};
-use super::subject;
-use crate::bench::{median, ratio, shown, QUESTIONS, REPETITIONS, SWEEPS};
+use super::{measured, near_one};
+use crate::bench::{median, ratio, shown, QUESTIONS, REPETITIONS};
 use crate::pattern::{is_finite, magnitude};
 use crate::random::Random;
 use crate::step::Question;
-use crate::sums::number;
 use crate::totals::model::{Total, MOST};
 use crate::totals::number::WORDS;
+use crate::totals::plain::{self, Plain};
+use crate::totals::subject;
 use std::hint::black_box;
 use std::process::ExitCode;
-use std::time::Instant;
 
 #[derive(Clone, Copy, PartialEq)]
 enum Inputs {
@@ -42,12 +41,6 @@ impl Inputs {
             Inputs::NearPlus => magnitude(near_one(r)),
         }
     }
-}
-
-/// A number whose exponent lies within 3 of 1's.
-fn near_one(r: &mut Random) -> u32 {
-    let exponent = r.within(124, 130);
-    number(r, exponent)
 }
 
 #[derive(Clone, Copy, PartialEq)]
@@ -158,15 +151,6 @@ fn by_floats(term: Term, operands: &[Question]) -> f32 {
         }
     }
     total
-}
-
-/// Nanoseconds a term.
-fn measured<T>(operands: &[Question], sweep: impl Fn(&[Question]) -> T) -> f64 {
-    let start = Instant::now();
-    for _ in 0..SWEEPS {
-        black_box(sweep(black_box(operands)));
-    }
-    start.elapsed().as_nanos() as f64 / (SWEEPS * operands.len()) as f64
 }
 
 /// The library and the plain accumulator hold the same number, of all the terms.

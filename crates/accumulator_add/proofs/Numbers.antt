@@ -3,22 +3,26 @@ use mathlib.Core.Path.{_≡_, refl, ap, _∙_}
 use mathlib.Core.Bool.{Bool, true, false, cond}
 use mathlib.Core.List.{List}
 use Prim.Native.Nat.{ℕ}
-use Rattle.pattern_spec.specs.Answer.{Answer, refused, done, refusalOf}
-use Rattle.accumulator_spec.specs.Totals.{Term, AddsNumbered}
-use Rattle.accumulator_spec.proofs.Answers.{adding-length, adding-unfit, refuses}
-use Rattle.accumulator_words.specs.Inner.{fault}
-use Rattle.accumulator_words.proofs.Lent.{by-number}
+use lib.Dec.{eqb}
+use Rattle.pattern_spec.specs.Answer.{Answer, refused, refusalOf}
+use Rattle.accumulator_spec.specs.Totals.{Term, finiteOperands, AddsNumbered}
+use Rattle.accumulator_spec.proofs.Answers.{adding-length, adding-unfit, adding-special, adding-full, refuses}
+use Rattle.accumulator_words.specs.Inner.{faultToAdd}
+use Rattle.accumulator_words.proofs.Lent.{Full, to-add}
 
 -- an answer by its number
 pub by-refusal : {P : Type 0} {n : ℕ} {b : Answer (Unit {0})} (a : Answer (Unit {0})) → n ≡ refusalOf a → (a ≡ b) × P → (n ≡ refusalOf b) × P
 by-refusal a e r = (e ∙ ap (refusalOf {A = Unit {0}}) (r .0), r .1)
 
-pub fault-adds : (t : List ℕ) → (fault t ≡ 0 → ⊥) → (x : Term) → AddsNumbered t x (fault t) t
-fault-adds t z x =
-    by-number t (λ h n. by-refusal (refused 5) n (refuses t x 5 (adding-length t x h)))
-    (λ h n. by-refusal (refused 6) n (refuses t x 6 (adding-unfit t x (h .0) (h .1))))
-    (λ h n. absurd (z n))
+-- the refusal that stands first, of a total that takes no term
+module _ (t : List ℕ) (x : Term) where
+  of-full : Full t → (finite : Bool) → finiteOperands x ≡ finite → AddsNumbered t x (cond finite 8 7) t
+  of-full h true o = by-refusal (refused 8) refl (refuses t x 8 (adding-full t x (h .0 .0) (h .0 .1) o (h .1)))
+  of-full h false o = by-refusal (refused 7) refl (refuses t x 7 (adding-special t x (h .0 .0) (h .0 .1) o))
 
-pub room-number : (b : Bool) → cond b 0 8 ≡ refusalOf {A = Unit {0}} (cond b (done tt) (refused 8))
-room-number true = refl
-room-number false = refl
+  pub fault-adds : (n : ℕ) → n ≡ faultToAdd t → (n ≡ 0 → ⊥) → AddsNumbered t x (cond (eqb n 8) (cond (finiteOperands x) 8 7) n) t
+  fault-adds n is z =
+      to-add t (λ h e. rw (is ∙ e) (by-refusal (refused 5) refl (refuses t x 5 (adding-length t x h))))
+      (λ h e. rw (is ∙ e) (by-refusal (refused 6) refl (refuses t x 6 (adding-unfit t x (h .0) (h .1)))))
+      (λ h e. rw (is ∙ e) (of-full h (finiteOperands x) refl))
+      (λ h e. absurd (z (is ∙ e)))

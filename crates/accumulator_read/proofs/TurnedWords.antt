@@ -31,7 +31,7 @@ module _ (s : Bool) (ws : List ℕ) where
 
     pub next : (xs : List ℕ) (m : ℕ) → Words ws → m ≡ cond s 0xffff_ffff 0 → xs ≡ upto i → set xs i (bitXor (getD xs i 0) m) ≡ upto (i + 1)
     next xs m k e h =
-        let turning = turn-xor s (getD ws i 0) m (k i) e in
+        let turning = turn-xor 32 s (getD ws i 0) m (k i) e in
         ap (λ (ys : List ℕ). set ys i (bitXor (getD ys i 0) m)) h ∙ ap (λ (w : ℕ). set (upto i) i (bitXor w m)) read ∙ ap (set (upto i) i) turning ∙ write
         ∙ ap upto (sym (add-one i))
 

@@ -1,5 +1,6 @@
 // The magnitude of a total's number, and its leading digits: what rounding asks of it.
 use accumulator_spec::NUMBER_SIZE;
+use accumulator_words::place;
 use accumulator_words::wide;
 use choose::choose;
 use choose::choose_pattern;
@@ -22,7 +23,10 @@ pub fn magnitude(number: [u32; NUMBER_SIZE]) -> [u32; NUMBER_SIZE]
 {
     let minus = number[TOP] >= 0x8000_0000;
     let mut words = turned(number, minus);
-    accumulator_words::add(&mut words[0..NUMBER_SIZE], false, choose(minus, 1, 0), 0);
+    accumulator_words::add(
+        &mut words[0..NUMBER_SIZE],
+        place(false, choose(minus, 1, 0), 0),
+    );
     words
 }
 

@@ -3,6 +3,7 @@ mod leading;
 
 use accumulator_spec::NUMBER_SIZE;
 use accumulator_words::fit::refusal;
+use accumulator_words::place;
 use leading::TOP;
 use leading::first_digits;
 use leading::magnitude;
@@ -11,7 +12,7 @@ use pattern::zero_takes;
 use pattern_spec::Class;
 use rounding_spec::Ties;
 ghost use mathlib.Core.Path.{_≡_};
-ghost use Prim.Native.Nat.{_*_, _^_, _≤_, _<_};
+ghost use Prim.Native.Nat.{_+_, _*_, _^_, _≤_, _<_};
 ghost use lib.ListN.{length, take};
 ghost use lib.IntN.{natAbs, _+ℤ_};
 ghost use Rattle.rounding_spec.specs.declared.Ties.the-variants.{ToZero};
@@ -87,13 +88,13 @@ fn of_number(number: [u32; NUMBER_SIZE]) -> Reply
     }
 }
 
-// The number and ±sig * 2^exp.
+// The number and ±sig * 2^exp, which reaches into three of its words.
 fn moved(number: [u32; NUMBER_SIZE], minus: bool, sig: u64, exp: u16) -> [u32; NUMBER_SIZE]
-    requires { ⌜ exp ≤ 32 * numberSize ⌝ }
+    requires { ⌜ exp + 96 ≤ 32 * numberSize ⌝ }
     ensures { λ r. ⌜ r ≡ wordsOfInteger numberSize (integer number +ℤ int minus (sig * 2 ^ exp)) ⌝ }
 {
     let mut sum = number;
-    accumulator_words::add(&mut sum[0..NUMBER_SIZE], minus, sig, exp);
+    accumulator_words::add(&mut sum[0..NUMBER_SIZE], place(minus, sig, exp));
     sum
 }
 

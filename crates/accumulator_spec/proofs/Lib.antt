@@ -4,6 +4,7 @@ pub mod Complements
 pub mod Signed
 pub mod TwosComplement
 pub mod Parts
+pub mod TwoWords
 pub mod Top
 pub mod Limit
 pub mod Fitness

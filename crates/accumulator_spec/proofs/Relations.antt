@@ -5,7 +5,7 @@ use Prim.Native.Nat.{ℕ}
 use lib.ListN.{length}
 use Rattle.pattern_spec.specs.Answer.{Answer, refused, done, refusalOf}
 use Rattle.accumulator_spec.specs.Totals.{Term, adding, afterAdding, clearing, afterClearing}
-use Rattle.accumulator_spec.specs.Theorems.{ClearedAs, AddedAs, ClearsMeans, AddsMeans, AddsNumberedMeans}
+use Rattle.accumulator_spec.specs.Theorems.{ClearedAs, AddedAs, ClearsMeans, AddsMeans, AddsNumberedMeans, AddsAlike}
 use Rattle.accumulator_spec.proofs.Answers.{clearing-is, adding-length, adding-unfit, adding-special, adding-full, adding-done, after-refused}
 use Rattle.accumulator_spec.proofs.Adding.{exact-adding}
 
@@ -41,3 +41,6 @@ adds-means before after x answer h = added-as (λ a. a) before x answer after (h
 
 pub adds-numbered-means : AddsNumberedMeans
 adds-numbered-means before after x n h = added-as refusalOf before x n after (h .0) (h .1)
+
+pub adds-alike : AddsAlike
+adds-alike before after other x n m h k = (h .0 ∙ sym (k .0), h .1 ∙ sym (k .1))

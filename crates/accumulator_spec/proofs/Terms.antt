@@ -3,8 +3,6 @@ use mathlib.Core.Path.{_≡_, refl, sym, ap, _∙_}
 use mathlib.Core.Bool.{Bool, true, false, not, cond, _&&_}
 use mathlib.Core.List.{List}
 use Prim.Native.Nat.{ℕ, suc}
-use native.Mathlib.Decide.{ℕ-discrete}
-use borrow.Author.Tests.{eq-eqb, ne-eqb}
 use lib.Dec.{eqb}
 use lib.IntN.{_+ℤ_}
 use lib.ListN.{length}
@@ -13,7 +11,7 @@ use Rattle.rounding_spec.specs.Format.{binary32}
 use Rattle.rounding_spec.specs.Value.{Value, nan, infinite, finite, decode, isFinite}
 use Rattle.pattern_spec.specs.Exact.{whole, int, times, finer}
 use Rattle.accumulator_spec.specs.Totals.{totalSize, mostTerms, number, count, totalOf, fit, Term, ofPattern, ofProduct, finiteOperands, exactTerm, adding, afterAdding}
-use Rattle.accumulator_spec.proofs.Answers.{adding-special, adding-full, adding-done, after-refused, after-done}
+use Rattle.accumulator_spec.proofs.Answers.{adding-special, adding-done, after-refused, after-done}
 
 -- ---- a product is finite where both operands are
 special-choice : (c s : Bool) → isFinite (cond c nan (infinite s)) ≡ false
@@ -53,17 +51,7 @@ module _ (t : List ℕ) (x : Term) (full : length t ≡ totalSize) (fits : fit t
     finite-term : finiteOperands x ≡ true
     finite-term = term-finite x ∙ ap isFinite is
 
-    -- with what adding it promises: whether there is room, and the words as they end
-    pub tried : (room : Bool) (a : Answer (Unit {0})) (ws : List ℕ) → room ≡ not (eqb (count t) mostTerms) → a ≡ cond room (done tt) (refused 8)
-        → ws ≡ cond room (totalOf (number t +ℤ int s N) (suc (count t))) t → Ends a ws
-    tried room a ws r ea ews =
-        elim (ℕ-discrete (count t) mostTerms) [
-          | yes n ↦
-              let e = adding-full t x full fits finite-term n in
-              let q : room ≡ false = r ∙ ap not (eq-eqb (count t) mostTerms n) in
-              ((rw q at ea) ∙ sym e, (rw q at ews) ∙ sym (after-refused t x 8 e))
-          | no n ↦
-              let e = adding-done t x full fits finite-term n in
-              let q : room ≡ true = r ∙ ap not (ne-eqb (count t) mostTerms n) in
-              ((rw q at ea) ∙ sym e, (rw q at ews) ∙ ap (λ (v : Value). totalOf (number t +ℤ whole v) (suc (count t))) (sym is) ∙ sym (after-done t x e))
-        ]
+    pub added : (count t ≡ mostTerms → ⊥) → (ws : List ℕ) → ws ≡ totalOf (number t +ℤ int s N) (suc (count t)) → Ends (done tt) ws
+    added n ws e =
+        let d = adding-done t x full fits finite-term n in
+        (sym d, e ∙ ap (λ (v : Value). totalOf (number t +ℤ whole v) (suc (count t))) (sym is) ∙ sym (after-done t x d))

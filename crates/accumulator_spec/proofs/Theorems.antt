@@ -8,7 +8,7 @@ use Rattle.accumulator_spec.proofs.Held.{number-and-count, number-held,
 use Rattle.accumulator_spec.proofs.Landmarks.{total-landmarks, finite-operands-are, pattern-term, product-term, term-landmarks, exact-back}
 use Rattle.accumulator_spec.proofs.Answers.{adding-refused, refused-term, clearing-is, reading-refused}
 use Rattle.accumulator_spec.proofs.Adding.{fit-is, lowest-unfit, accepted-term, exact-adding}
-use Rattle.accumulator_spec.proofs.Relations.{clears-means, adds-means, adds-numbered-means}
+use Rattle.accumulator_spec.proofs.Relations.{clears-means, adds-means, adds-numbered-means, adds-alike}
 use Rattle.accumulator_spec.proofs.Columns.{column-next, accepted-each, all-finite-is, exact-column, any-order}
 use Rattle.accumulator_spec.proofs.Joining.{joining-refused, accepted-join, exact-join, refused-join, joins-means, joins-numbered-means}
 use Rattle.accumulator_spec.proofs.Builds.{built-by, built-is-column, joined-is-column, columns-join, column-built, empty-joins, join-landmarks}
@@ -45,6 +45,7 @@ all = (
   clears-means,
   adds-means,
   adds-numbered-means,
+  adds-alike,
   column-next,
   accepted-each,
   all-finite-is,

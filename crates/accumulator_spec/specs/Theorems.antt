@@ -186,6 +186,14 @@ abbrev pub AddsNumberedMeans : Type 0
 AddsNumberedMeans =
     (before after : List ℕ) (x : Term) (n : ℕ) → AddsNumbered before x n after → AddedAs (λ k. k) 0 before x n after
 
+-- Any two builds that keep this answer alike and leave the same words. So either makes and reads what the other stores: reading, too, is
+-- an equation, with a definition of the words alone (`reading`). It holds across the request for faster columns (R12.3), which touched the
+-- inside of adding and no promise; totals that were stored before it are compared.
+abbrev pub AddsAlike : Type 0
+AddsAlike =
+    (before after other : List ℕ) (x : Term) (n m : ℕ) → AddsNumbered before x n after → AddsNumbered before x m other
+    → (n ≡ m) × (after ≡ other)
+
 -- ---- columns
 -- a column is one adding after the other, each on the words as they then are
 abbrev pub ColumnNext : Type 0
@@ -277,7 +285,7 @@ abbrev pub All : Type 0
 All =
     TotalSizes × WordAt × WordsFormed × NaturalWords × IntegerHeld × WordsUnique × NumberAndCount × NumberHeld × TotalUnique
     × TotalLandmarks × FitIs × LowestUnfit × ClearedZeros × FiniteOperandsAre × PatternTerm × ProductTerm × TermLandmarks × AddingRefused
-    × AcceptedTerm × ExactAdding × RefusedTerm × ClearingIs × ClearsMeans × AddsMeans × AddsNumberedMeans × ColumnNext × AcceptedEach
-    × AllFiniteIs × ExactColumn × AnyOrder × ReadingRefused × ReadFit × ReadColumn × ExactBack × ReadFinite × ReadOverflow × ReadZero
-    × ReadRoundedToZero × ReadSum × ReadProduct × JoiningRefused × AcceptedJoin × ExactJoin × RefusedJoin × JoinsMeans × JoinsNumberedMeans
-    × BuiltBy × BuiltIsColumn × JoinedIsColumn × ColumnsJoin × ColumnBuilt × EmptyJoins × JoinLandmarks
+    × AcceptedTerm × ExactAdding × RefusedTerm × ClearingIs × ClearsMeans × AddsMeans × AddsNumberedMeans × AddsAlike × ColumnNext
+    × AcceptedEach × AllFiniteIs × ExactColumn × AnyOrder × ReadingRefused × ReadFit × ReadColumn × ExactBack × ReadFinite × ReadOverflow
+    × ReadZero × ReadRoundedToZero × ReadSum × ReadProduct × JoiningRefused × AcceptedJoin × ExactJoin × RefusedJoin × JoinsMeans
+    × JoinsNumberedMeans × BuiltBy × BuiltIsColumn × JoinedIsColumn × ColumnsJoin × ColumnBuilt × EmptyJoins × JoinLandmarks

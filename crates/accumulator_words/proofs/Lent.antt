@@ -1,14 +1,15 @@
 -- What is wrong with lent words, by its number.
 use mathlib.Core.Path.{_≡_, refl}
-use mathlib.Core.Bool.{Bool, true, false}
+use mathlib.Core.Bool.{Bool, true, false, cond}
 use mathlib.Core.List.{List}
-use Prim.Native.Nat.{ℕ}
+use Prim.Native.Nat.{ℕ, _<_}
+use native.Mathlib.Decide.{ℕ-discrete}
 use native.Mathlib.Omega.{arith}
-use borrow.Author.Tests.{eqb-true, eqb-false}
+use borrow.Author.Tests.{eq-eqb, ne-eqb, eqb-true, eqb-false}
 use lib.Dec.{eqb}
 use lib.ListN.{length}
-use Rattle.accumulator_spec.specs.Totals.{totalSize, fit}
-use Rattle.accumulator_words.specs.Inner.{fault}
+use Rattle.accumulator_spec.specs.Totals.{totalSize, mostTerms, count, fit}
+use Rattle.accumulator_words.specs.Inner.{fault, faultToAdd}
 
 module _ (t : List ℕ) where
   abbrev pub Length : Type 0
@@ -31,3 +32,31 @@ module _ (t : List ℕ) where
 
   pub sound : fault t ≡ 0 → Sound
   sound e = by-number (λ h n. absurd (omega arith)) (λ h n. absurd (omega arith)) (λ h n. h)
+
+  -- ---- of a total that a term is to go into
+  abbrev pub Full : Type 0
+  Full = Sound × (count t ≡ mostTerms)
+
+  abbrev pub Roomy : Type 0
+  Roomy = Sound × (count t ≡ mostTerms → ⊥)
+
+  pub to-add : {G : Type 0} → (Length → faultToAdd t ≡ 5 → G) → (Unfit → faultToAdd t ≡ 6 → G) → (Full → faultToAdd t ≡ 8 → G) → (Roomy → faultToAdd t ≡ 0 → G) → G
+  to-add {G} five six eight none =
+      by-number (λ h n. five h (rw n)) (λ h n. six h (rw n))
+      (λ h n.
+      elim (ℕ-discrete (count t) mostTerms) [
+        | yes k ↦ eight (h, k) (rw (n, eq-eqb (count t) mostTerms k))
+        | no k ↦ none (h, k) (rw (n, ne-eqb (count t) mostTerms k))
+      ])
+
+  pub fault-first : (fault t ≡ 0 → ⊥) → fault t ≡ faultToAdd t
+  fault-first h = rw (ne-eqb (fault t) 0 h)
+
+  pub fault-none : fault t ≡ 0 → cond (eqb (count t) mostTerms) 8 0 ≡ faultToAdd t
+  fault-none h = rw (eq-eqb (fault t) 0 h)
+
+  pub has-room : faultToAdd t ≡ 0 → Roomy
+  has-room e = to-add (λ h n. absurd (omega arith)) (λ h n. absurd (omega arith)) (λ h n. absurd (omega arith)) (λ h n. h)
+
+  pub roomy : length t ≡ totalSize → fit t ≡ true → count t < mostTerms → faultToAdd t ≡ 0
+  roomy l f k = rw (eq-eqb (length t) totalSize l, f, ne-eqb (count t) mostTerms (λ e. absurd (omega arith)))

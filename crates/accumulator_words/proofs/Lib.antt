@@ -1,3 +1,4 @@
-pub mod Significand
 pub mod Limit
 pub mod Lent
+pub mod Significand
+pub mod Placing

@@ -1,16 +1,33 @@
 -- With nothing in the two top words, what is left of a total's fitness.
-use mathlib.Core.Path.{_≡_, refl, _∙_}
+use mathlib.Core.Path.{_≡_, refl, sym, _∙_}
 use mathlib.Core.Bool.{Bool, true, false, cond}
 use mathlib.Core.List.{List}
-use Prim.Native.Nat.{ℕ, _*_, _≤_}
-use borrow.Author.Tests.{ltb-true, ltb-false}
+use Prim.Native.Nat.{ℕ, _+_, _*_, _%_, _^_, _≤_, _<_}
+use native.Mathlib.Decide.{decLe}
+use native.Mathlib.Nat.{mod-eq-of-lt}
+use native.Mathlib.Omega.{arith}
+use borrow.Author.Tests.{le-leb, lt-leb, ltb-true, ltb-false}
+use lib.Bits.{bitXor}
 use lib.Dec.{leb, ltb}
 use lib.ListN.{length, take, getD}
 use Rattle.accumulator_spec.specs.Words.{Words, complement}
 use Rattle.accumulator_spec.specs.Totals.{totalSize, mostTerms, fit, count}
+use Rattle.accumulator_spec.proofs.Carry.{turn-xor}
 use Rattle.accumulator_spec.proofs.Fitness.{inside, below, above, at-limit}
 use Rattle.accumulator_spec.proofs.Zeros.{zero-natural}
 use Rattle.accumulator_words.specs.Inner.{belowLimit}
+
+-- two words as one number, which is a step below 0 or 1
+module _ (v w : ℕ) (fits : v < 2 ^ 32) (also : w < 2 ^ 32) where
+  all-ones : 2147483648 ≤ w → (v + w * 4294967296 + 1) % 2 ^ 64 ≤ 1 → (w ≡ 4294967295) × (v ≡ 4294967295)
+  all-ones k h =
+      elim (decLe (2 ^ 64) (v + w * 4294967296 + 1)) [
+        | yes g ↦ (omega arith, omega arith)
+        | no g ↦ let e = mod-eq-of-lt {n = v + w * 4294967296 + 1} {m = 2 ^ 64} (omega arith) in absurd (omega arith)
+      ]
+
+  all-zeros : w < 2147483648 → (v + w * 4294967296 + 1) % 2 ^ 64 ≤ 1 → (w ≡ 0) × (v ≡ 0)
+  all-zeros k h = let e = mod-eq-of-lt {n = v + w * 4294967296 + 1} {m = 2 ^ 64} (omega arith) in (omega arith, omega arith)
 
 module _ (t : List ℕ) (full : length t ≡ totalSize) (words : Words t) (room : count t ≤ mostTerms) where
   abbrev limit : ℕ
@@ -37,3 +54,17 @@ module _ (t : List ℕ) (full : length t ≡ totalSize) (words : Words t) (room 
       → belowLimit (take 17 t) s (cond s (complement (getD t 17 0)) (getD t 17 0)) limit ≡ fit t
   within-fit true e z y = negative e z y
   within-fit false e z y = positive e z y
+
+  -- the code reads the two words at once, and turns the third by the top one
+  pub well-within : (getD t 18 0 + getD t 19 0 * 4294967296 + 1) % 2 ^ 64 ≤ 1 → bitXor (getD t 17 0) (getD t 19 0) < limit → true ≡ fit t
+  well-within h l =
+      elim (decLe 2147483648 (getD t 19 0)) [
+        | yes k ↦
+            let (a, b) = all-ones (getD t 18 0) (getD t 19 0) (words 18) (words 19) k h in
+            let x = turn-xor 32 true (getD t 17 0) (getD t 19 0) (words 17) a in
+            inside t full words room true (sym (le-leb 2147483648 (getD t 19 0) k)) (omega arith) (omega arith) (omega (arith, l, x))
+        | no k ↦
+            let (a, b) = all-zeros (getD t 18 0) (getD t 19 0) (words 18) (words 19) (omega arith) h in
+            let x = turn-xor 32 false (getD t 17 0) (getD t 19 0) (words 17) a in
+            inside t full words room false (sym (lt-leb 2147483648 (getD t 19 0) (omega arith))) a b (omega (arith, l, x))
+      ]

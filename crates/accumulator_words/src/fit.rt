@@ -1,15 +1,16 @@
 // Whether lent words are a fit total (R6.3): its top words tell, but at the limit itself.
 use crate::is_zero;
+use crate::wide;
 use accumulator_spec::MOST_TERMS;
 use accumulator_spec::NUMBER_SIZE;
 use accumulator_spec::TOTAL_SIZE;
 use choose::choose_pattern;
 ghost use mathlib.Core.Path.{_≡_};
-ghost use mathlib.Core.Bool.{cond};
+ghost use mathlib.Core.Bool.{true, cond};
 ghost use lib.ListN.{length};
 ghost use Rattle.accumulator_spec.specs.Words.{complement};
 ghost use Rattle.accumulator_spec.specs.Totals.{totalSize, fit};
-ghost use Rattle.accumulator_words.specs.Inner.{fault, belowLimit};
+ghost use Rattle.accumulator_words.specs.Inner.{fault, faultToAdd, belowLimit};
 
 // The top three words of the number: the limit counts the weight of the third.
 const TOP: usize = NUMBER_SIZE - 1;
@@ -29,6 +30,40 @@ pub fn refusal(total: &[u32]) -> u32
         return 6;
     }
     0
+}
+
+// What is tried of a total that a term is to go into: 5, 6, and then 8, a full one (R8.7); or 0. The top words alone show that there is
+// nothing to refuse, but in a total that is full, empty or about its limit: only of these the rest is looked at.
+pub fn refusal_to_add(total: &[u32]) -> u32
+    ensures { λ r. ⌜ r ≡ faultToAdd (now (total .entry)) ⌝ }
+{
+    if has_room(total) {
+        return 0;
+    }
+    // Lent as a part, the slice is written to memory for this call only, and not for those that end above.
+    let wrong = refusal(&total[0..]);
+    if wrong != 0 {
+        return wrong;
+    }
+    choose_pattern(total[NUMBER_SIZE] == MOST_TERMS, 8, 0)
+}
+
+// The two top words have nothing but the sign, all zeros or all ones, and the third is below the limit.
+fn has_room(total: &[u32]) -> bool
+    ensures { λ r. ⌜ (r ≡ true → faultToAdd (now (total .entry)) ≡ 0) ⌝ }
+{
+    if total.len() != TOTAL_SIZE {
+        return false;
+    }
+    let n = total[NUMBER_SIZE];
+    if n >= MOST_TERMS {
+        return false;
+    }
+    let top = wide(total[NEXT]) + wide(total[TOP]) * 0x1_0000_0000;
+    if std::num::wrapping_add_u64(top, 1) > 1 {
+        return false;
+    }
+    (total[THIRD] ^ total[TOP]) < n * 1024
 }
 
 // The limit is count * 1024 times the weight of the third. A negative number is below it where its complement, which is smaller

@@ -16,9 +16,13 @@ enum Inputs {
     Finite,
     Near,
     NearPlus,
+    Like,
 }
 
-const INPUTS: [Inputs; 3] = [Inputs::Finite, Inputs::Near, Inputs::NearPlus];
+const INPUTS: [Inputs; 4] = [Inputs::Finite, Inputs::Near, Inputs::NearPlus, Inputs::Like];
+
+/// The term of a column of like ones, or either factor of it: odd in its last place, so that every word that it reaches changes.
+const LIKE: u32 = 0x3FC9_0FDB;
 
 impl Inputs {
     fn name(self) -> &'static str {
@@ -26,6 +30,7 @@ impl Inputs {
             Inputs::Finite => "finite",
             Inputs::Near => "near",
             Inputs::NearPlus => "near, plus",
+            Inputs::Like => "like",
         }
     }
 
@@ -39,6 +44,7 @@ impl Inputs {
             },
             Inputs::Near => near_one(r),
             Inputs::NearPlus => magnitude(near_one(r)),
+            Inputs::Like => LIKE,
         }
     }
 }
@@ -175,5 +181,6 @@ fn print_table(rows: &[Row]) {
     println!("Nanoseconds a term, measured as the steps are, over {TERMS} terms a sweep. The total is cleared before each sweep,");
     println!("and each term goes onto what the last one left, so that calls wait for each other.");
     println!("plain: 640 bits in limbs of 64, with no count and no check; floats: one binary32 number, rounded at every term.");
-    println!("finite: finite patterns, any exponents; near: exponents within 3 of 1's, any signs; near, plus: without signs.");
+    println!("finite: finite patterns, any exponents; near: exponents within 3 of 1's, any signs; near, plus: without signs;");
+    println!("like: one term over and over.");
 }

@@ -1,35 +1,45 @@
 use borrow.Author.Needs.{needs}
 use mathlib.Core.Path.{refl, sym, ap, _∙_}
+use mathlib.Core.Bool.{Bool, cond}
 use native.Mathlib.Omega.{arith}
+use lib.Dec.{eqb}
 use Rattle.rounding_spec.specs.Format.{binary32}
 use Rattle.rounding_spec.specs.Value.{isFinite}
-use Rattle.pattern_spec.specs.Answer.{refused}
+use Rattle.pattern_spec.specs.Answer.{refused, done}
 use Rattle.pattern_spec.specs.declared.Class.{Class}
 use Rattle.pattern_spec.specs.Exact.{finer}
 use Rattle.pattern_spec.specs.Classes.{valueOf}
 use Rattle.pattern_spec.proofs.Classified.{class-operand}
 use Rattle.accumulator_spec.specs.Totals.{ofPattern}
 use Rattle.accumulator_spec.proofs.Adding.{fit-bounds}
-use Rattle.accumulator_spec.proofs.Terms.{tried, special}
-use Rattle.accumulator_words.proofs.Lent.{sound}
-use Rattle.accumulator_add.specs.Inner.{hasRoom}
-use Rattle.accumulator_add.proofs.Numbers.{by-refusal, fault-adds, room-number}
+use Rattle.accumulator_spec.proofs.Terms.{added, special}
+use Rattle.accumulator_words.proofs.Lent.{has-room}
+use Rattle.accumulator_words.proofs.Placing.{same-integer}
+use Rattle.accumulator_add.specs.Inner.{withTerm}
+use Rattle.accumulator_add.proofs.Numbers.{by-refusal, fault-adds}
 use Rattle.accumulator_add.proofs.Scaled.{pattern-value, finer-digits}
 use Rattle.accumulator_add.proofs.add_pattern.Statement.{statement}
 use Rattle.accumulator_add.proofs.add_pattern.Tie as tie
 
-refusal-requires : tie.Need-refusal-requires
-refusal-requires c κs = search needs
+refusal-to-add-requires : tie.Need-refusal-to-add-requires
+refusal-to-add-requires c κs = search needs
+
+is-finite-requires : tie.Need-is-finite-requires
+is-finite-requires c κs = search needs
+
+in-order-requires : tie.Need-in-order-requires
+in-order-requires c κs = search needs
 
 same-length : tie.Need-same-length
 same-length c = search needs
 
 returns : tie.Need-returns
 returns c =
-    let k = c .before in
+    let k = c .before .before .before in
     let a = k .before .before .before .args in
-    let r = fault-adds (a .total .now) (λ e. c .if1 .taken (k .refusal .ensures ∙ e)) (ofPattern (a .x)) in
-    (k .refusal .ensures ∙ r .0, r .1)
+    let r = fault-adds (a .total .now) (ofPattern (a .x)) _ (k .refusal-to-add .ensures) (c .before .before .if1 .taken) in
+    let n = k .refusal-to-add .result in
+    (c .in-order .ensures ∙ ap (λ (b : Bool). cond (eqb n 8) (cond b 8 7) n) (c .before .is-finite .ensures) ∙ r .0, r .1)
 
 classify-requires : tie.Need-classify-requires
 classify-requires c κs = search needs
@@ -37,20 +47,25 @@ classify-requires c κs = search needs
 enum-known-a : tie.Need-enum-known-a
 enum-known-a c = search needs
 
-add-add : tie.Need-add-add
-add-add c =
+add-place : tie.Need-add-place
+add-place c =
     let k = class-operand _ _ (c .before .before .before .before .classify .ensures) in
     let o = rw (c .before .before .a .given .1) at k in
     omega (arith, o .exp)
 
-add-requires : tie.Need-add-requires
-add-requires c κs =
-    let k = class-operand _ _ (c .before .before .before .before .classify .ensures) in
-    let o = rw (c .before .before .a .given .1) at k in
-    let f = c .before .before .before .before .before in
+place-requires : tie.Need-place-requires
+place-requires c κs = search needs
+
+add-short-requires : tie.Need-add-short-requires
+add-short-requires c κs =
+    let d = c .before in
+    let k = class-operand _ _ (d .before .before .before .before .classify .ensures) in
+    let o = rw (d .before .before .a .given .1) at k in
+    let f = d .before .before .before .before .before in
     let t = f .before .before .before .before .args .total .now in
-    let s = sound t (sym (f .before .refusal .ensures) ∙ f .if1 .left) in
-    (s .0, fit-bounds t (s .1) .0, omega (arith, o .exp))
+    let s = has-room t (sym (f .before .refusal-to-add .ensures) ∙ f .if1 .left) .0 in
+    let p = c .place .ensures in
+    ((s .0, fit-bounds t (s .1) .0), (omega (arith, p .2, o .exp), p .3, omega (arith, p .1, o .sig)))
 
 enum-told : tie.Need-enum-told
 enum-told c = search needs
@@ -65,14 +80,14 @@ returns-2 : tie.Need-returns-2
 unfolding finer valueOf
 returns-2 c =
     let k = c .before .before in
-    let e = k .before .before .before in
+    let e = k .before .before .before .before in
+    let p = k .before .place .ensures in
     let f = e .before .before .before in
     let a = f .before .before .before .before .args in
-    let s = sound (a .total .now) (sym (f .before .refusal .ensures) ∙ f .if1 .left) in
+    let r = has-room (a .total .now) (sym (f .before .refusal-to-add .ensures) ∙ f .if1 .left) in
     let v = pattern-value _ _ (e .before .before .classify .ensures) ∙ ap (λ (v : Class). finer binary32 (valueOf v)) (e .a .given .1) ∙ finer-digits _ _ _ in
-    let room = hasRoom (a .total .now) in
-    by-refusal _ (k .add .ensures .0 ∙ room-number room)
-    (tried (a .total .now) (ofPattern (a .x)) (s .0) (s .1) _ _ v room _ _ refl refl (k .add .ensures .1))
+    let w = k .add-short .ensures ∙ ap (withTerm (a .total .now)) (same-integer (p .0) (p .1) (p .2)) in
+    by-refusal (done tt) refl (added (a .total .now) (ofPattern (a .x)) (r .0 .0) (r .0 .1) _ _ v (r .1) _ w)
 
 same-length-3 : tie.Need-same-length-3
 same-length-3 c = search needs
@@ -82,7 +97,7 @@ unfolding finer valueOf
 returns-3 c =
     let f = c .before .before .before in
     let a = f .before .before .before .before .args in
-    let s = sound (a .total .now) (sym (f .before .refusal .ensures) ∙ f .if1 .left) in
+    let s = has-room (a .total .now) (sym (f .before .refusal-to-add .ensures) ∙ f .if1 .left) .0 in
     let v = pattern-value _ _ (c .before .before .classify .ensures) ∙ ap (λ (v : Class). finer binary32 (valueOf v)) (c .enum-told .given .1) in
     by-refusal (refused 7) refl (special (a .total .now) (ofPattern (a .x)) (s .0) (s .1) (ap isFinite v))
 
@@ -94,7 +109,7 @@ unfolding finer valueOf
 returns-4 c =
     let f = c .before .before .before in
     let a = f .before .before .before .before .args in
-    let s = sound (a .total .now) (sym (f .before .refusal .ensures) ∙ f .if1 .left) in
+    let s = has-room (a .total .now) (sym (f .before .refusal-to-add .ensures) ∙ f .if1 .left) .0 in
     let v = pattern-value _ _ (c .before .before .classify .ensures) ∙ ap (λ (v : Class). finer binary32 (valueOf v)) (c .enum-told2 .given .1) in
     by-refusal (refused 7) refl (special (a .total .now) (ofPattern (a .x)) (s .0) (s .1) (ap isFinite v))
 
@@ -102,13 +117,16 @@ pub add-pattern-spec : {M : Type 1} → statement M
 add-pattern-spec =
     tie.close
     (tie.spec
-    refusal-requires
+    refusal-to-add-requires
+    is-finite-requires
+    in-order-requires
     same-length
     returns
     classify-requires
     enum-known-a
-    add-add
-    add-requires
+    add-place
+    place-requires
+    add-short-requires
     enum-told
     enum-told-2
     same-length-2

@@ -1,30 +1,40 @@
 use borrow.Author.Needs.{needs}
 use mathlib.Core.Path.{refl, sym, ap, _∙_}
+use mathlib.Core.Bool.{Bool, cond}
 use native.Mathlib.Omega.{arith}
+use lib.Dec.{eqb}
 use Rattle.rounding_spec.specs.Value.{isFinite}
-use Rattle.pattern_spec.specs.Answer.{refused}
+use Rattle.pattern_spec.specs.Answer.{refused, done}
 use Rattle.pattern_spec.specs.Classes.{valueOf}
 use Rattle.accumulator_spec.specs.Totals.{ofProduct}
 use Rattle.accumulator_spec.proofs.Adding.{fit-bounds}
-use Rattle.accumulator_spec.proofs.Terms.{tried, special}
-use Rattle.accumulator_words.proofs.Lent.{sound}
-use Rattle.accumulator_add.specs.Inner.{hasRoom}
-use Rattle.accumulator_add.proofs.Numbers.{by-refusal, fault-adds, room-number}
+use Rattle.accumulator_spec.proofs.Terms.{added, special}
+use Rattle.accumulator_words.proofs.Lent.{has-room}
+use Rattle.accumulator_words.proofs.Placing.{same-integer}
+use Rattle.accumulator_add.specs.Inner.{withTerm}
+use Rattle.accumulator_add.proofs.Numbers.{by-refusal, fault-adds}
 use Rattle.accumulator_add.proofs.add_product.Statement.{statement}
 use Rattle.accumulator_add.proofs.add_product.Tie as tie
 
-refusal-requires : tie.Need-refusal-requires
-refusal-requires c κs = search needs
+refusal-to-add-requires : tie.Need-refusal-to-add-requires
+refusal-to-add-requires c κs = search needs
+
+both-finite-requires : tie.Need-both-finite-requires
+both-finite-requires c κs = search needs
+
+in-order-requires : tie.Need-in-order-requires
+in-order-requires c κs = search needs
 
 same-length : tie.Need-same-length
 same-length c = search needs
 
 returns : tie.Need-returns
 returns c =
-    let k = c .before in
+    let k = c .before .before .before in
     let a = k .before .before .before .args in
-    let r = fault-adds (a .total .now) (λ e. c .if1 .taken (k .refusal .ensures ∙ e)) (ofProduct (a .x) (a .y)) in
-    (k .refusal .ensures ∙ r .0, r .1)
+    let r = fault-adds (a .total .now) (ofProduct (a .x) (a .y)) _ (k .refusal-to-add .ensures) (c .before .before .if1 .taken) in
+    let n = k .refusal-to-add .result in
+    (c .in-order .ensures ∙ ap (λ (b : Bool). cond (eqb n 8) (cond b 8 7) n) (c .before .both-finite .ensures) ∙ r .0, r .1)
 
 product-requires : tie.Need-product-requires
 product-requires c κs = search needs
@@ -32,13 +42,18 @@ product-requires c κs = search needs
 enum-known-p : tie.Need-enum-known-p
 enum-known-p c = search needs
 
+place-requires : tie.Need-place-requires
+place-requires c κs = search needs
+
 add-requires : tie.Need-add-requires
 add-requires c κs =
-    let o = rw (c .before .before .p .given .1) at (c .before .before .before .before .product .ensures) in
-    let f = c .before .before .before .before .before in
+    let d = c .before in
+    let o = rw (d .before .before .p .given .1) at (d .before .before .before .before .product .ensures) in
+    let f = d .before .before .before .before .before in
     let t = f .before .before .before .before .args .total .now in
-    let s = sound t (sym (f .before .refusal .ensures) ∙ f .if1 .left) in
-    (s .0, fit-bounds t (s .1) .0, omega (arith, o .bounded .exp))
+    let s = has-room t (sym (f .before .refusal-to-add .ensures) ∙ f .if1 .left) .0 in
+    let p = c .place .ensures in
+    ((s .0, fit-bounds t (s .1) .0), (omega (arith, p .2, o .bounded .exp), p .3))
 
 enum-told : tie.Need-enum-told
 enum-told c = search needs
@@ -53,14 +68,14 @@ returns-2 : tie.Need-returns-2
 unfolding valueOf
 returns-2 c =
     let k = c .before .before in
-    let e = k .before .before .before in
+    let e = k .before .before .before .before in
+    let p = k .before .place .ensures in
     let f = e .before .before .before in
     let a = f .before .before .before .before .args in
-    let s = sound (a .total .now) (sym (f .before .refusal .ensures) ∙ f .if1 .left) in
+    let r = has-room (a .total .now) (sym (f .before .refusal-to-add .ensures) ∙ f .if1 .left) in
     let v = rw (e .p .given .1) at (e .before .before .product .ensures) in
-    let room = hasRoom (a .total .now) in
-    by-refusal _ (k .add .ensures .0 ∙ room-number room)
-    (tried (a .total .now) (ofProduct (a .x) (a .y)) (s .0) (s .1) _ _ (v .is) room _ _ refl refl (k .add .ensures .1))
+    let w = k .add .ensures ∙ ap (withTerm (a .total .now)) (same-integer (p .0) (p .1) (p .2)) in
+    by-refusal (done tt) refl (added (a .total .now) (ofProduct (a .x) (a .y)) (r .0 .0) (r .0 .1) _ _ (v .is) (r .1) _ w)
 
 same-length-3 : tie.Need-same-length-3
 same-length-3 c = search needs
@@ -70,7 +85,7 @@ unfolding valueOf
 returns-3 c =
     let f = c .before .before .before in
     let a = f .before .before .before .before .args in
-    let s = sound (a .total .now) (sym (f .before .refusal .ensures) ∙ f .if1 .left) in
+    let s = has-room (a .total .now) (sym (f .before .refusal-to-add .ensures) ∙ f .if1 .left) .0 in
     let v = rw (c .enum-told .given .1) at (c .before .before .product .ensures) in
     by-refusal (refused 7) refl (special (a .total .now) (ofProduct (a .x) (a .y)) (s .0) (s .1) (ap isFinite (v .is)))
 
@@ -82,7 +97,7 @@ unfolding valueOf
 returns-4 c =
     let f = c .before .before .before in
     let a = f .before .before .before .before .args in
-    let s = sound (a .total .now) (sym (f .before .refusal .ensures) ∙ f .if1 .left) in
+    let s = has-room (a .total .now) (sym (f .before .refusal-to-add .ensures) ∙ f .if1 .left) .0 in
     let v = rw (c .enum-told2 .given .1) at (c .before .before .product .ensures) in
     by-refusal (refused 7) refl (special (a .total .now) (ofProduct (a .x) (a .y)) (s .0) (s .1) (ap isFinite (v .is)))
 
@@ -90,11 +105,14 @@ pub add-product-spec : {M : Type 1} → statement M
 add-product-spec =
     tie.close
     (tie.spec
-    refusal-requires
+    refusal-to-add-requires
+    both-finite-requires
+    in-order-requires
     same-length
     returns
     product-requires
     enum-known-p
+    place-requires
     add-requires
     enum-told
     enum-told-2

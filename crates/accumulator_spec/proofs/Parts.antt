@@ -1,4 +1,4 @@
--- What the carrying add on a part of the words says of all of them.
+-- What a walk over a part of the words says of all of them.
 use mathlib.Core.Path.{_≡_, sym, ap, ap₂, _∙_}
 use mathlib.Core.Bool.{Bool}
 use mathlib.Core.List.{List, [], _∷_, _++_, append-nil}

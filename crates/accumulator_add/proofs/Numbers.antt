@@ -1,5 +1,5 @@
 -- Answers to an adding call, by their numbers.
-use mathlib.Core.Path.{_≡_, refl, ap, _∙_}
+use mathlib.Core.Path.{_≡_, refl, sym, ap, _∙_}
 use mathlib.Core.Bool.{Bool, true, false, cond}
 use mathlib.Core.List.{List}
 use Prim.Native.Nat.{ℕ}
@@ -20,9 +20,9 @@ module _ (t : List ℕ) (x : Term) where
   of-full h true o = by-refusal (refused 8) refl (refuses t x 8 (adding-full t x (h .0 .0) (h .0 .1) o (h .1)))
   of-full h false o = by-refusal (refused 7) refl (refuses t x 7 (adding-special t x (h .0 .0) (h .0 .1) o))
 
-  pub fault-adds : (n : ℕ) → n ≡ faultToAdd t → (n ≡ 0 → ⊥) → AddsNumbered t x (cond (eqb n 8) (cond (finiteOperands x) 8 7) n) t
-  fault-adds n is z =
-      to-add t (λ h e. rw (is ∙ e) (by-refusal (refused 5) refl (refuses t x 5 (adding-length t x h))))
-      (λ h e. rw (is ∙ e) (by-refusal (refused 6) refl (refuses t x 6 (adding-unfit t x (h .0) (h .1)))))
-      (λ h e. rw (is ∙ e) (of-full h (finiteOperands x) refl))
-      (λ h e. absurd (z (is ∙ e)))
+  pub fault-adds : (n m : ℕ) (finite : Bool) → n ≡ faultToAdd t → (n ≡ 0 → ⊥) → finite ≡ finiteOperands x → m ≡ cond (eqb n 8) (cond finite 8 7) n → AddsNumbered t x m t
+  fault-adds n m finite is z f e =
+      to-add t (λ h k. rw (e, is ∙ k) (by-refusal (refused 5) refl (refuses t x 5 (adding-length t x h))))
+      (λ h k. rw (e, is ∙ k) (by-refusal (refused 6) refl (refuses t x 6 (adding-unfit t x (h .0) (h .1)))))
+      (λ h k. rw (e, is ∙ k) (of-full h finite (sym f)))
+      (λ h k. absurd (z (is ∙ k)))

@@ -67,7 +67,7 @@ fn in_order(wrong: u32, finite: bool) -> u32
 
 // Adds the term to a total with room for one more.
 fn add(total: &mut [u32], term: Placed)
-    requires { ⌜ (length (now total) ≡ totalSize) × (count (now total) ≤ mostTerms) ⌝ }
+    requires { ⌜ (length (now total) ≡ totalSize) × (count (now total) < mostTerms) ⌝ }
     requires { ⌜ (term .word + 3 ≤ numberSize) × (term .shift < 32) ⌝ }
     ensures { λ _. ⌜ now (total .exit) ≡ withTerm (now (total .entry)) (placedInteger term) ⌝ }
 {
@@ -77,7 +77,7 @@ fn add(total: &mut [u32], term: Placed)
 
 // The same for a significand of at most a word.
 fn add_short(total: &mut [u32], term: Placed)
-    requires { ⌜ (length (now total) ≡ totalSize) × (count (now total) ≤ mostTerms) ⌝ }
+    requires { ⌜ (length (now total) ≡ totalSize) × (count (now total) < mostTerms) ⌝ }
     requires { ⌜ (term .word + 2 ≤ numberSize) × (term .shift < 32) × (term .sig < 2 ^ 32) ⌝ }
     ensures { λ _. ⌜ now (total .exit) ≡ withTerm (now (total .entry)) (placedInteger term) ⌝ }
 {
@@ -86,7 +86,7 @@ fn add_short(total: &mut [u32], term: Placed)
 }
 
 fn count_term(total: &mut [u32])
-    requires { ⌜ (length (now total) ≡ totalSize) × (count (now total) ≤ mostTerms) ⌝ }
+    requires { ⌜ (length (now total) ≡ totalSize) × (count (now total) < mostTerms) ⌝ }
     ensures { λ _. ⌜ now (total .exit) ≡ set (now (total .entry)) numberSize (suc (count (now (total .entry)))) ⌝ }
 {
     total[NUMBER_SIZE] = total[NUMBER_SIZE] + 1;

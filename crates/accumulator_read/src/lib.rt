@@ -88,7 +88,7 @@ fn of_number(number: [u32; NUMBER_SIZE]) -> Reply
     }
 }
 
-// The number and ±sig * 2^exp, which reaches into three of its words.
+// The number and ±sig * 2^exp, which may reach into three words: all of them the number's.
 fn moved(number: [u32; NUMBER_SIZE], minus: bool, sig: u64, exp: u16) -> [u32; NUMBER_SIZE]
     requires { ⌜ exp + 96 ≤ 32 * numberSize ⌝ }
     ensures { λ r. ⌜ r ≡ wordsOfInteger numberSize (integer number +ℤ int minus (sig * 2 ^ exp)) ⌝ }

@@ -1,8 +1,7 @@
 -- What the relations of the contracts say: of `clearing` and `adding` by the theorems about them, whatever stands for an answer.
-use mathlib.Core.Path.{_≡_, sym, ap, subst, _∙_}
+use mathlib.Core.Path.{_≡_, sym, ap, _∙_}
 use mathlib.Core.List.{List}
 use Prim.Native.Nat.{ℕ}
-use lib.ListN.{length}
 use Rattle.pattern_spec.specs.Answer.{Answer, refused, done, refusalOf}
 use Rattle.accumulator_spec.specs.Totals.{Term, adding, afterAdding, clearing, afterClearing}
 use Rattle.accumulator_spec.specs.Theorems.{ClearedAs, AddedAs, ClearsMeans, AddsMeans, AddsNumberedMeans, AddsAlike}

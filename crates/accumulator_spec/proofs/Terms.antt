@@ -1,8 +1,9 @@
 -- A term of a fit total, by its class as the code has it: what is answered, and the words as they end.
 use mathlib.Core.Path.{_≡_, refl, sym, ap, _∙_}
-use mathlib.Core.Bool.{Bool, true, false, not, cond, _&&_}
+use mathlib.Core.Bool.{Bool, true, false, cond, _&&_}
 use mathlib.Core.List.{List}
-use Prim.Native.Nat.{ℕ, suc}
+use Prim.Native.Nat.{ℕ, suc, _<_}
+use native.Mathlib.Omega.{arith}
 use lib.Dec.{eqb}
 use lib.IntN.{_+ℤ_}
 use lib.ListN.{length}
@@ -51,7 +52,7 @@ module _ (t : List ℕ) (x : Term) (full : length t ≡ totalSize) (fits : fit t
     finite-term : finiteOperands x ≡ true
     finite-term = term-finite x ∙ ap isFinite is
 
-    pub added : (count t ≡ mostTerms → ⊥) → (ws : List ℕ) → ws ≡ totalOf (number t +ℤ int s N) (suc (count t)) → Ends (done tt) ws
+    pub added : count t < mostTerms → (ws : List ℕ) → ws ≡ totalOf (number t +ℤ int s N) (suc (count t)) → Ends (done tt) ws
     added n ws e =
-        let d = adding-done t x full fits finite-term n in
+        let d = adding-done t x full fits finite-term (λ e. absurd (omega arith)) in
         (sym d, e ∙ ap (λ (v : Value). totalOf (number t +ℤ whole v) (suc (count t))) (sym is) ∙ sym (after-done t x d))

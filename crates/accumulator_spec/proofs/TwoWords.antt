@@ -1,4 +1,4 @@
--- The two lowest words of a walk at once: one sum of 64 bits, each read and written as it is or as its complement.
+-- The two lowest words of a walk in one sum of 64 bits, each word read and written as it is or as its complement.
 use mathlib.Core.Path.{_≡_, refl, sym, ap, ap₂, _∙_}
 use mathlib.Core.Bool.{Bool, true, false, cond}
 use mathlib.Core.List.{List, [], _∷_, _++_}
@@ -8,11 +8,10 @@ use native.Mathlib.Omega.{arith}
 use borrow.Author.Tests.{lt-ltb, le-ltb}
 use lib.Bits.{bitXor}
 use lib.Dec.{ltb}
-use lib.IntN.{pos, _+ℤ_}
 use lib.ListN.{length, take, drop, set, getD, length-set}
 use lib.Seq.{drop-set-lt}
-use Rattle.pattern_spec.specs.Exact.{int}
-use Rattle.accumulator_spec.specs.Words.{Words, natural, wordsOfInteger}
+use Rattle.accumulator_spec.specs.Words.{Words}
+use Rattle.accumulator_spec.specs.Inner.{carried}
 use Rattle.accumulator_spec.proofs.Carry.{turn, turn-lt, turn-xor, walk}
 use Rattle.accumulator_spec.proofs.Parts.{drop-words, walk-is}
 
@@ -64,12 +63,7 @@ pair-walked s (v ∷ w ∷ ws) low high sum carry a b l e h p q =
     let x : sum % 4294967296 ≡ (turn s v + n) % 4294967296 = omega arith in
     let k : (turn s v + n) / 4294967296 ≡ (turn s v + low) / 4294967296 + 4294967296 * high = omega arith in
     let j : sum / 4294967296 + 4294967296 * carry ≡ turn s w + (turn s v + low) / 4294967296 = omega arith in
-    let y : sum / 4294967296 ≡ (turn s w + (turn s v + n) / 4294967296) % 4294967296 =
-    upper (sum / 4294967296) carry (turn s w) ((turn s v + low) / 4294967296) high ((turn s v + n) / 4294967296) (omega arith) j k .0
-    in
-    let z : high + carry ≡ (turn s w + (turn s v + n) / 4294967296) / 4294967296 =
-    upper (sum / 4294967296) carry (turn s w) ((turn s v + low) / 4294967296) high ((turn s v + n) / 4294967296) (omega arith) j k .1
-    in
+    let (y, z) = upper (sum / 4294967296) carry (turn s w) ((turn s v + low) / 4294967296) high ((turn s v + n) / 4294967296) (omega arith) j k in
     ap₂ (λ (i : ℕ) (is : List ℕ). i ∷ is) (p ∙ ap (turn s) x)
     (ap₂ (λ (i : ℕ) (is : List ℕ). i ∷ is) (q ∙ ap (turn s) y) (ap (walk s ws) z))
   where
@@ -97,11 +91,10 @@ module _ (s : Bool) (m : ℕ) (is : m ≡ cond s 0xffff_ffff_ffff_ffff 0) (ws : 
   behind : Words (drop 2 after)
   behind = rw (drop-set-lt 2 (set ws 0 (bitXor sum m % 4294967296)) 1 _ (omega arith), drop-set-lt 2 ws 0 _ (omega arith)) (drop-words 2 ws words)
 
-  pub pair-added : (length after ≡ length ws) × (carry ≤ 1)
+  pub two-words-added : (length after ≡ length ws) × (carry ≤ 1)
       × ((high : ℕ)
-      → take 2 after ++ wordsOfInteger (length (drop 2 after)) (pos (natural (drop 2 after)) +ℤ int s (high + carry))
-      ≡ wordsOfInteger (length ws) (pos (natural ws) +ℤ int s (low + 2 ^ 64 * high)))
-  pair-added =
+      → take 2 after ++ carried (drop 2 after) s (high + carry) ≡ carried ws s (low + 2 ^ 64 * high))
+  two-words-added =
       let l : sum < 2 ^ 64 = omega arith in (
         simp length-set refl,
         beyond .1,

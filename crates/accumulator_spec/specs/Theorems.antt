@@ -186,9 +186,9 @@ abbrev pub AddsNumberedMeans : Type 0
 AddsNumberedMeans =
     (before after : List ℕ) (x : Term) (n : ℕ) → AddsNumbered before x n after → AddedAs (λ k. k) 0 before x n after
 
--- Any two builds that keep this answer alike and leave the same words. So either makes and reads what the other stores: reading, too, is
--- an equation, with a definition of the words alone (`reading`). It holds across the request for faster columns (R12.3), which touched the
--- inside of adding and no promise; totals that were stored before it are compared.
+-- Whatever keeps `AddsNumbered` gives the same answer and leaves the same words. What a reading promises is an equation too, with a
+-- definition of the words alone (`reading`). So builds with these contracts make the same words of the same terms, and each reads what
+-- another has stored, however adding is done inside (R12.3). The comparison holds the library to totals that an earlier build stored.
 abbrev pub AddsAlike : Type 0
 AddsAlike =
     (before after other : List ℕ) (x : Term) (n m : ℕ) → AddsNumbered before x n after → AddsNumbered before x m other

@@ -1,14 +1,16 @@
 -- What is wrong with lent words, by its number.
-use mathlib.Core.Path.{_≡_, refl}
+use mathlib.Core.Path.{_≡_, refl, sym, _∙_}
 use mathlib.Core.Bool.{Bool, true, false, cond}
+use mathlib.Core.Logic.{inl, inr}
 use mathlib.Core.List.{List}
 use Prim.Native.Nat.{ℕ, _<_}
-use native.Mathlib.Decide.{ℕ-discrete}
+use native.Mathlib.Nat.{eq-or-lt-of-le}
 use native.Mathlib.Omega.{arith}
 use borrow.Author.Tests.{eq-eqb, ne-eqb, eqb-true, eqb-false}
 use lib.Dec.{eqb}
 use lib.ListN.{length}
 use Rattle.accumulator_spec.specs.Totals.{totalSize, mostTerms, count, fit}
+use Rattle.accumulator_spec.proofs.Adding.{fit-bounds}
 use Rattle.accumulator_words.specs.Inner.{fault, faultToAdd}
 
 module _ (t : List ℕ) where
@@ -37,16 +39,16 @@ module _ (t : List ℕ) where
   abbrev pub Full : Type 0
   Full = Sound × (count t ≡ mostTerms)
 
-  abbrev pub Roomy : Type 0
-  Roomy = Sound × (count t ≡ mostTerms → ⊥)
+  abbrev pub Takes : Type 0
+  Takes = Sound × (count t < mostTerms)
 
-  pub to-add : {G : Type 0} → (Length → faultToAdd t ≡ 5 → G) → (Unfit → faultToAdd t ≡ 6 → G) → (Full → faultToAdd t ≡ 8 → G) → (Roomy → faultToAdd t ≡ 0 → G) → G
+  pub to-add : {G : Type 0} → (Length → faultToAdd t ≡ 5 → G) → (Unfit → faultToAdd t ≡ 6 → G) → (Full → faultToAdd t ≡ 8 → G) → (Takes → faultToAdd t ≡ 0 → G) → G
   to-add {G} five six eight none =
       by-number (λ h n. five h (rw n)) (λ h n. six h (rw n))
       (λ h n.
-      elim (ℕ-discrete (count t) mostTerms) [
-        | yes k ↦ eight (h, k) (rw (n, eq-eqb (count t) mostTerms k))
-        | no k ↦ none (h, k) (rw (n, ne-eqb (count t) mostTerms k))
+      elim (eq-or-lt-of-le (fit-bounds t (h .1) .0)) [
+        | inl k ↦ eight (h, k) (rw (n, eq-eqb (count t) mostTerms k))
+        | inr k ↦ none (h, k) (rw (n, ne-eqb (count t) mostTerms (λ e. absurd (omega arith))))
       ])
 
   pub fault-first : (fault t ≡ 0 → ⊥) → fault t ≡ faultToAdd t
@@ -55,8 +57,10 @@ module _ (t : List ℕ) where
   pub fault-none : fault t ≡ 0 → cond (eqb (count t) mostTerms) 8 0 ≡ faultToAdd t
   fault-none h = rw (eq-eqb (fault t) 0 h)
 
-  pub has-room : faultToAdd t ≡ 0 → Roomy
-  has-room e = to-add (λ h n. absurd (omega arith)) (λ h n. absurd (omega arith)) (λ h n. absurd (omega arith)) (λ h n. h)
+  pub takes-term : (n : ℕ) → n ≡ faultToAdd t → n ≡ 0 → Takes
+  takes-term n is z =
+      let e = sym is ∙ z in
+      to-add (λ h k. absurd (omega arith)) (λ h k. absurd (omega arith)) (λ h k. absurd (omega arith)) (λ h k. h)
 
-  pub roomy : length t ≡ totalSize → fit t ≡ true → count t < mostTerms → faultToAdd t ≡ 0
-  roomy l f k = rw (eq-eqb (length t) totalSize l, f, ne-eqb (count t) mostTerms (λ e. absurd (omega arith)))
+  pub no-fault : length t ≡ totalSize → fit t ≡ true → count t < mostTerms → faultToAdd t ≡ 0
+  no-fault l f k = rw (eq-eqb (length t) totalSize l, f, ne-eqb (count t) mostTerms (λ e. absurd (omega arith)))

@@ -17,7 +17,7 @@ use Rattle.accumulator_spec.proofs.Fitness.{inside, below, above, at-limit}
 use Rattle.accumulator_spec.proofs.Zeros.{zero-natural}
 use Rattle.accumulator_words.specs.Inner.{belowLimit}
 
--- two words as one number, which is a step below 0 or 1
+-- two words as one number of 64 bits, which with 1 added is 0 or 1
 module _ (v w : ℕ) (fits : v < 2 ^ 32) (also : w < 2 ^ 32) where
   all-ones : 2147483648 ≤ w → (v + w * 4294967296 + 1) % 2 ^ 64 ≤ 1 → (w ≡ 4294967295) × (v ≡ 4294967295)
   all-ones k h =

@@ -4,10 +4,11 @@ use mathlib.Core.Path.{_≡_}
 use mathlib.Core.Bool.{Bool, true, false, not, cond}
 use mathlib.Core.List.{List, _++_}
 use lib.Dec.{eqb, ltb}
-use lib.IntN.{ℤ, pos, _+ℤ_}
+use lib.IntN.{ℤ, _+ℤ_}
 use lib.ListN.{length, take, drop}
 use Rattle.pattern_spec.specs.Exact.{int}
-use Rattle.accumulator_spec.specs.Words.{allZero, natural, wordsOfInteger}
+use Rattle.accumulator_spec.specs.Words.{allZero, integer, wordsOfInteger}
+use Rattle.accumulator_spec.specs.Inner.{carried}
 use Rattle.accumulator_spec.specs.Totals.{totalSize, mostTerms, count, fit}
 use Rattle.accumulator_words.specs.declared.Placed.{Placed}
 
@@ -15,13 +16,14 @@ use Rattle.accumulator_words.specs.declared.Placed.{Placed}
 abbrev pub placedInteger : Placed → ℤ
 placedInteger term = int (term .minus) (term .sig * 2 ^ (32 * term .word + term .shift))
 
--- the words after the walk that adds ±n to the natural number that they hold
-abbrev pub carried : List ℕ → Bool → ℕ → List ℕ
-carried ws minus n = wordsOfInteger (length ws) (pos (natural ws) +ℤ int minus n)
+-- R6.4: the words of a number after a placed term went into them; what goes beyond the last word is lost
+abbrev pub afterPlaced : List ℕ → Placed → List ℕ
+afterPlaced ws term = wordsOfInteger (length ws) (integer ws +ℤ placedInteger term)
 
--- two words and more, of which the lowest two have taken ±low: whatever else is to be added two words higher goes on with the carry
-abbrev pub PairAdded : List ℕ → Bool → ℕ → ℕ → List ℕ → Type 0
-PairAdded before minus low carry after =
+-- The lowest two words have taken ±low: whatever else is to be added two words higher goes on with the carry. Free is how much of the
+-- carry has gone on already.
+abbrev pub TwoWordsAdded : List ℕ → Bool → ℕ → ℕ → List ℕ → Type 0
+TwoWordsAdded before minus low carry after =
     (length after ≡ length before) × (carry ≤ 1)
     × ((high : ℕ) → take 2 after ++ carried (drop 2 after) minus (high + carry) ≡ carried before minus (low + 2 ^ 64 * high))
 

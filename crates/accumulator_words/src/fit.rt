@@ -1,4 +1,4 @@
-// Whether lent words are a fit total (R6.3): its top words tell, but at the limit itself.
+// Whether lent words are a fit total (R6.3), and one that takes a term: the top words tell, but at the limit itself.
 use crate::is_zero;
 use crate::wide;
 use accumulator_spec::MOST_TERMS;
@@ -32,15 +32,15 @@ pub fn refusal(total: &[u32]) -> u32
     0
 }
 
-// What is tried of a total that a term is to go into: 5, 6, and then 8, a full one (R8.7); or 0. The top words alone show that there is
-// nothing to refuse, but in a total that is full, empty or about its limit: only of these the rest is looked at.
+// Of a total that a term is to go into: 5, 6, 8 or 0 (R8.7); 7, which stands before 8, is the operand's. Length, count and top words
+// mostly show that nothing is to be refused. The rest is looked at where the total is empty, full, at its limit, or to be refused.
 pub fn refusal_to_add(total: &[u32]) -> u32
     ensures { λ r. ⌜ r ≡ faultToAdd (now (total .entry)) ⌝ }
 {
     if has_room(total) {
         return 0;
     }
-    // Lent as a part, the slice is written to memory for this call only, and not for those that end above.
+    // Lent as a part, so that the slice's address and length go to memory on this path only.
     let wrong = refusal(&total[0..]);
     if wrong != 0 {
         return wrong;
@@ -48,7 +48,8 @@ pub fn refusal_to_add(total: &[u32]) -> u32
     choose_pattern(total[NUMBER_SIZE] == MOST_TERMS, 8, 0)
 }
 
-// The two top words have nothing but the sign, all zeros or all ones, and the third is below the limit.
+// Count and number are below their limits, by words that nearly every total has: of the top two nothing but the sign, all zeros or all
+// ones. False leaves it open.
 fn has_room(total: &[u32]) -> bool
     ensures { λ r. ⌜ (r ≡ true → faultToAdd (now (total .entry)) ≡ 0) ⌝ }
 {
@@ -59,8 +60,8 @@ fn has_room(total: &[u32]) -> bool
     if n >= MOST_TERMS {
         return false;
     }
-    let top = wide(total[NEXT]) + wide(total[TOP]) * 0x1_0000_0000;
-    if std::num::wrapping_add_u64(top, 1) > 1 {
+    let upper = wide(total[NEXT]) + wide(total[TOP]) * 0x1_0000_0000;
+    if std::num::wrapping_add_u64(upper, 1) > 1 {
         return false;
     }
     (total[THIRD] ^ total[TOP]) < n * 1024

@@ -7,8 +7,8 @@ ghost use mathlib.Core.Path.{_≡_};
 ghost use Prim.Native.Nat.{_+_, _*_, _^_, _≤_, _<_};
 ghost use lib.ListN.{length};
 ghost use Rattle.accumulator_spec.specs.Words.{allZero};
-ghost use Rattle.accumulator_spec.specs.Inner.{afterTerm};
-ghost use Rattle.accumulator_words.specs.Inner.{carried, PairAdded};
+ghost use Rattle.accumulator_spec.specs.Inner.{carried};
+ghost use Rattle.accumulator_words.specs.Inner.{afterPlaced, TwoWordsAdded};
 
 // A term and where it goes in the words of a number: ±sig * 2^shift from `word` on. Worked out once, before the walk over the words.
 pub struct Placed {
@@ -33,16 +33,16 @@ pub fn place(minus: bool, sig: u64, exp: u16) -> Placed
 // Adds the term. The words from its lowest one on are lent to the walk (R6.4).
 pub fn add(number: &mut [u32], term: Placed)
     requires { ⌜ (term .word + 3 ≤ length (now number)) × (term .shift < 32) ⌝ }
-    ensures { λ _. ⌜ now (number .exit) ≡ afterTerm (now (number .entry)) (term .minus) (term .sig) (32 * term .word + term .shift) ⌝ }
+    ensures { λ _. ⌜ now (number .exit) ≡ afterPlaced (now (number .entry)) term ⌝ }
 {
     let w = term.word;
     walk(&mut number[w..], term.minus, term.sig, term.shift);
 }
 
-// The same for a significand of at most a word, as a pattern's is: it reaches into two words, and another one's into three.
+// The same for a significand below 2^32, which reaches into two words; any other may reach into three.
 pub fn add_short(number: &mut [u32], term: Placed)
     requires { ⌜ (term .word + 2 ≤ length (now number)) × (term .shift < 32) × (term .sig < 2 ^ 32) ⌝ }
-    ensures { λ _. ⌜ now (number .exit) ≡ afterTerm (now (number .entry)) (term .minus) (term .sig) (32 * term .word + term .shift) ⌝ }
+    ensures { λ _. ⌜ now (number .exit) ≡ afterPlaced (now (number .entry)) term ⌝ }
 {
     let w = term.word;
     walk_short(&mut number[w..], term.minus, term.sig, term.shift);
@@ -54,8 +54,8 @@ fn walk(words: &mut [u32], minus: bool, sig: u64, shift: u16)
     requires { ⌜ (3 ≤ length (now words)) × (shift < 32) ⌝ }
     ensures { λ _. ⌜ now (words .exit) ≡ carried (now (words .entry)) minus (sig * 2 ^ shift) ⌝ }
 {
-    let carry = add_pair(words, minus, sig << shift);
-    // The digits that the shift moves beyond 64.
+    let carry = add_two_words(words, minus, sig << shift);
+    // The digits that the shift moves beyond 64. Halved first: without a shift this would be one by 64.
     let high = sig / 2 >> 63 - shift;
     add_word(&mut words[2..], minus, high + carry);
 }
@@ -65,23 +65,23 @@ fn walk_short(words: &mut [u32], minus: bool, sig: u64, shift: u16)
     requires { ⌜ (2 ≤ length (now words)) × (shift < 32) × (sig < 2 ^ 32) ⌝ }
     ensures { λ _. ⌜ now (words .exit) ≡ carried (now (words .entry)) minus (sig * 2 ^ shift) ⌝ }
 {
-    let carry = add_pair(words, minus, sig << shift);
+    let carry = add_two_words(words, minus, sig << shift);
     if carry != 0 {
         add_one(&mut words[2..], minus);
     }
 }
 
 // Adds to the two lowest words at once, or takes away; the answer is what is carried on.
-fn add_pair(words: &mut [u32], minus: bool, low: u64) -> u64
+fn add_two_words(words: &mut [u32], minus: bool, low: u64) -> u64
     requires { ⌜ 2 ≤ length (now words) ⌝ }
-    ensures { λ r. ⌜ PairAdded (now (words .entry)) minus low r (now (words .exit)) ⌝ }
+    ensures { λ r. ⌜ TwoWordsAdded (now (words .entry)) minus low r (now (words .exit)) ⌝ }
 {
     let mask = choose(minus, 0xffff_ffff_ffff_ffff, 0);
     let held = wide(words[0]) + wide(words[1]) * 0x1_0000_0000 ^ mask;
     let sum = std::num::wrapping_add_u64(held, low);
-    let pair = sum ^ mask;
-    words[0] = (pair % 0x1_0000_0000) as u32;
-    words[1] = (pair / 0x1_0000_0000) as u32;
+    let written = sum ^ mask;
+    words[0] = (written % 0x1_0000_0000) as u32;
+    words[1] = (written / 0x1_0000_0000) as u32;
     choose(sum < low, 1, 0)
 }
 

@@ -21,7 +21,7 @@ enum Inputs {
 
 const INPUTS: [Inputs; 4] = [Inputs::Finite, Inputs::Near, Inputs::NearPlus, Inputs::Like];
 
-/// The term of a column of like ones, or either factor of it: odd in its last place, so that every word that it reaches changes.
+/// The term of a column of like ones, or either factor of it: no power of two, so that every word that it reaches changes.
 const LIKE: u32 = 0x3FC9_0FDB;
 
 impl Inputs {

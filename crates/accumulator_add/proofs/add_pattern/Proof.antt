@@ -1,8 +1,6 @@
 use borrow.Author.Needs.{needs}
-use mathlib.Core.Path.{refl, sym, ap, _∙_}
-use mathlib.Core.Bool.{Bool, cond}
+use mathlib.Core.Path.{refl, ap, _∙_}
 use native.Mathlib.Omega.{arith}
-use lib.Dec.{eqb}
 use Rattle.rounding_spec.specs.Format.{binary32}
 use Rattle.rounding_spec.specs.Value.{isFinite}
 use Rattle.pattern_spec.specs.Answer.{refused, done}
@@ -11,9 +9,8 @@ use Rattle.pattern_spec.specs.Exact.{finer}
 use Rattle.pattern_spec.specs.Classes.{valueOf}
 use Rattle.pattern_spec.proofs.Classified.{class-operand}
 use Rattle.accumulator_spec.specs.Totals.{ofPattern}
-use Rattle.accumulator_spec.proofs.Adding.{fit-bounds}
 use Rattle.accumulator_spec.proofs.Terms.{added, special}
-use Rattle.accumulator_words.proofs.Lent.{has-room}
+use Rattle.accumulator_words.proofs.Lent.{takes-term}
 use Rattle.accumulator_words.proofs.Placing.{same-integer}
 use Rattle.accumulator_add.specs.Inner.{withTerm}
 use Rattle.accumulator_add.proofs.Numbers.{by-refusal, fault-adds}
@@ -37,9 +34,7 @@ returns : tie.Need-returns
 returns c =
     let k = c .before .before .before in
     let a = k .before .before .before .args in
-    let r = fault-adds (a .total .now) (ofPattern (a .x)) _ (k .refusal-to-add .ensures) (c .before .before .if1 .taken) in
-    let n = k .refusal-to-add .result in
-    (c .in-order .ensures ∙ ap (λ (b : Bool). cond (eqb n 8) (cond b 8 7) n) (c .before .is-finite .ensures) ∙ r .0, r .1)
+    fault-adds (a .total .now) (ofPattern (a .x)) _ _ _ (k .refusal-to-add .ensures) (c .before .before .if1 .taken) (c .before .is-finite .ensures) (c .in-order .ensures)
 
 classify-requires : tie.Need-classify-requires
 classify-requires c κs = search needs
@@ -63,9 +58,9 @@ add-short-requires c κs =
     let o = rw (d .before .before .a .given .1) at k in
     let f = d .before .before .before .before .before in
     let t = f .before .before .before .before .args .total .now in
-    let s = has-room t (sym (f .before .refusal-to-add .ensures) ∙ f .if1 .left) .0 in
+    let s = takes-term t _ (f .before .refusal-to-add .ensures) (f .if1 .left) in
     let p = c .place .ensures in
-    ((s .0, fit-bounds t (s .1) .0), (omega (arith, p .2, o .exp), p .3, omega (arith, p .1, o .sig)))
+    ((s .0 .0, s .1), (omega (arith, p .2, o .exp), p .3, omega (arith, p .1, o .sig)))
 
 enum-told : tie.Need-enum-told
 enum-told c = search needs
@@ -84,7 +79,7 @@ returns-2 c =
     let p = k .before .place .ensures in
     let f = e .before .before .before in
     let a = f .before .before .before .before .args in
-    let r = has-room (a .total .now) (sym (f .before .refusal-to-add .ensures) ∙ f .if1 .left) in
+    let r = takes-term (a .total .now) _ (f .before .refusal-to-add .ensures) (f .if1 .left) in
     let v = pattern-value _ _ (e .before .before .classify .ensures) ∙ ap (λ (v : Class). finer binary32 (valueOf v)) (e .a .given .1) ∙ finer-digits _ _ _ in
     let w = k .add-short .ensures ∙ ap (withTerm (a .total .now)) (same-integer (p .0) (p .1) (p .2)) in
     by-refusal (done tt) refl (added (a .total .now) (ofPattern (a .x)) (r .0 .0) (r .0 .1) _ _ v (r .1) _ w)
@@ -97,7 +92,7 @@ unfolding finer valueOf
 returns-3 c =
     let f = c .before .before .before in
     let a = f .before .before .before .before .args in
-    let s = has-room (a .total .now) (sym (f .before .refusal-to-add .ensures) ∙ f .if1 .left) .0 in
+    let s = takes-term (a .total .now) _ (f .before .refusal-to-add .ensures) (f .if1 .left) .0 in
     let v = pattern-value _ _ (c .before .before .classify .ensures) ∙ ap (λ (v : Class). finer binary32 (valueOf v)) (c .enum-told .given .1) in
     by-refusal (refused 7) refl (special (a .total .now) (ofPattern (a .x)) (s .0) (s .1) (ap isFinite v))
 
@@ -109,7 +104,7 @@ unfolding finer valueOf
 returns-4 c =
     let f = c .before .before .before in
     let a = f .before .before .before .before .args in
-    let s = has-room (a .total .now) (sym (f .before .refusal-to-add .ensures) ∙ f .if1 .left) .0 in
+    let s = takes-term (a .total .now) _ (f .before .refusal-to-add .ensures) (f .if1 .left) .0 in
     let v = pattern-value _ _ (c .before .before .classify .ensures) ∙ ap (λ (v : Class). finer binary32 (valueOf v)) (c .enum-told2 .given .1) in
     by-refusal (refused 7) refl (special (a .total .now) (ofPattern (a .x)) (s .0) (s .1) (ap isFinite v))
 

@@ -1,15 +1,12 @@
 use borrow.Author.Needs.{needs}
-use mathlib.Core.Path.{refl, sym, ap, _∙_}
-use mathlib.Core.Bool.{Bool, cond}
+use mathlib.Core.Path.{refl, ap, _∙_}
 use native.Mathlib.Omega.{arith}
-use lib.Dec.{eqb}
 use Rattle.rounding_spec.specs.Value.{isFinite}
 use Rattle.pattern_spec.specs.Answer.{refused, done}
 use Rattle.pattern_spec.specs.Classes.{valueOf}
 use Rattle.accumulator_spec.specs.Totals.{ofProduct}
-use Rattle.accumulator_spec.proofs.Adding.{fit-bounds}
 use Rattle.accumulator_spec.proofs.Terms.{added, special}
-use Rattle.accumulator_words.proofs.Lent.{has-room}
+use Rattle.accumulator_words.proofs.Lent.{takes-term}
 use Rattle.accumulator_words.proofs.Placing.{same-integer}
 use Rattle.accumulator_add.specs.Inner.{withTerm}
 use Rattle.accumulator_add.proofs.Numbers.{by-refusal, fault-adds}
@@ -32,9 +29,7 @@ returns : tie.Need-returns
 returns c =
     let k = c .before .before .before in
     let a = k .before .before .before .args in
-    let r = fault-adds (a .total .now) (ofProduct (a .x) (a .y)) _ (k .refusal-to-add .ensures) (c .before .before .if1 .taken) in
-    let n = k .refusal-to-add .result in
-    (c .in-order .ensures ∙ ap (λ (b : Bool). cond (eqb n 8) (cond b 8 7) n) (c .before .both-finite .ensures) ∙ r .0, r .1)
+    fault-adds (a .total .now) (ofProduct (a .x) (a .y)) _ _ _ (k .refusal-to-add .ensures) (c .before .before .if1 .taken) (c .before .both-finite .ensures) (c .in-order .ensures)
 
 product-requires : tie.Need-product-requires
 product-requires c κs = search needs
@@ -51,9 +46,9 @@ add-requires c κs =
     let o = rw (d .before .before .p .given .1) at (d .before .before .before .before .product .ensures) in
     let f = d .before .before .before .before .before in
     let t = f .before .before .before .before .args .total .now in
-    let s = has-room t (sym (f .before .refusal-to-add .ensures) ∙ f .if1 .left) .0 in
+    let s = takes-term t _ (f .before .refusal-to-add .ensures) (f .if1 .left) in
     let p = c .place .ensures in
-    ((s .0, fit-bounds t (s .1) .0), (omega (arith, p .2, o .bounded .exp), p .3))
+    ((s .0 .0, s .1), (omega (arith, p .2, o .bounded .exp), p .3))
 
 enum-told : tie.Need-enum-told
 enum-told c = search needs
@@ -72,7 +67,7 @@ returns-2 c =
     let p = k .before .place .ensures in
     let f = e .before .before .before in
     let a = f .before .before .before .before .args in
-    let r = has-room (a .total .now) (sym (f .before .refusal-to-add .ensures) ∙ f .if1 .left) in
+    let r = takes-term (a .total .now) _ (f .before .refusal-to-add .ensures) (f .if1 .left) in
     let v = rw (e .p .given .1) at (e .before .before .product .ensures) in
     let w = k .add .ensures ∙ ap (withTerm (a .total .now)) (same-integer (p .0) (p .1) (p .2)) in
     by-refusal (done tt) refl (added (a .total .now) (ofProduct (a .x) (a .y)) (r .0 .0) (r .0 .1) _ _ (v .is) (r .1) _ w)
@@ -85,7 +80,7 @@ unfolding valueOf
 returns-3 c =
     let f = c .before .before .before in
     let a = f .before .before .before .before .args in
-    let s = has-room (a .total .now) (sym (f .before .refusal-to-add .ensures) ∙ f .if1 .left) .0 in
+    let s = takes-term (a .total .now) _ (f .before .refusal-to-add .ensures) (f .if1 .left) .0 in
     let v = rw (c .enum-told .given .1) at (c .before .before .product .ensures) in
     by-refusal (refused 7) refl (special (a .total .now) (ofProduct (a .x) (a .y)) (s .0) (s .1) (ap isFinite (v .is)))
 
@@ -97,7 +92,7 @@ unfolding valueOf
 returns-4 c =
     let f = c .before .before .before in
     let a = f .before .before .before .before .args in
-    let s = has-room (a .total .now) (sym (f .before .refusal-to-add .ensures) ∙ f .if1 .left) .0 in
+    let s = takes-term (a .total .now) _ (f .before .refusal-to-add .ensures) (f .if1 .left) .0 in
     let v = rw (c .enum-told2 .given .1) at (c .before .before .product .ensures) in
     by-refusal (refused 7) refl (special (a .total .now) (ofProduct (a .x) (a .y)) (s .0) (s .1) (ap isFinite (v .is)))
 

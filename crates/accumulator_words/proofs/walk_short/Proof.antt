@@ -5,16 +5,16 @@ use Prim.Native.Nat.{ℕ, _+_}
 use native.Mathlib.Omega.{arith}
 use lib.ListN.{take, drop, take-append-drop}
 use Rattle.accumulator_spec.proofs.Parts.{drop-words, lent-on, nothing-added}
-use Rattle.accumulator_words.specs.Inner.{carried}
+use Rattle.accumulator_spec.specs.Inner.{carried}
 use Rattle.accumulator_words.proofs.Significand.{short-parts}
 use Rattle.accumulator_words.proofs.walk_short.Statement.{statement}
 use Rattle.accumulator_words.proofs.walk_short.Tie as tie
 
-shl-add-pair : tie.Need-shl-add-pair
-shl-add-pair c = search needs
+shl-add-two-words : tie.Need-shl-add-two-words
+shl-add-two-words c = search needs
 
-add-pair-requires : tie.Need-add-pair-requires
-add-pair-requires c κs = search needs
+add-two-words-requires : tie.Need-add-two-words-requires
+add-two-words-requires c κs = search needs
 
 sub-add-one : tie.Need-sub-add-one
 sub-add-one c = search needs
@@ -36,10 +36,10 @@ returns c =
     let b = c .before .before .before .before .before .before .before in
     let a = b .before .before .before .args in
     let s = a .minus in
-    let A = b .add-pair .last .0 in
-    let one : 1 ≡ 0 + b .add-pair .result = omega (arith, b .add-pair .ensures .1, c .before .before .before .before .if1 .taken) in
+    let A = b .add-two-words .last .0 in
+    let one : 1 ≡ 0 + b .add-two-words .result = omega (arith, b .add-two-words .ensures .1, c .before .before .before .before .if1 .taken) in
     lent-on A 2 (λ (xs : List ℕ). carried xs s 1) (c .before .before .add-one .last .0) (c .before .before .add-one .ensures)
-    ∙ ap (λ (n : ℕ). take 2 A ++ carried (drop 2 A) s n) one ∙ b .add-pair .ensures .2 0
+    ∙ ap (λ (n : ℕ). take 2 A ++ carried (drop 2 A) s n) one ∙ b .add-two-words .ensures .2 0
     ∙ ap (carried (a .words .now) s) (short-parts (a .sig) (a .shift) (b .before .before .before .pre .1) (b .before .before .before .pre .2))
 
 same-length-2 : tie.Need-same-length-2
@@ -50,18 +50,18 @@ returns-2 c =
     let b = c .before .before .before in
     let a = b .before .before .before .args in
     let s = a .minus in
-    let A = b .add-pair .last .0 in
-    let none : 0 ≡ 0 + b .add-pair .result = omega (arith, c .if1 .left) in
+    let A = b .add-two-words .last .0 in
+    let none : 0 ≡ 0 + b .add-two-words .result = omega (arith, c .if1 .left) in
     sym (take-append-drop 2 A) ∙ ap (λ (xs : List ℕ). take 2 A ++ xs) (nothing-added s (drop 2 A) (drop-words 2 A (λ i. c .before .slice-known2 .given i .fits)))
-    ∙ ap (λ (n : ℕ). take 2 A ++ carried (drop 2 A) s n) none ∙ b .add-pair .ensures .2 0
+    ∙ ap (λ (n : ℕ). take 2 A ++ carried (drop 2 A) s n) none ∙ b .add-two-words .ensures .2 0
     ∙ ap (carried (a .words .now) s) (short-parts (a .sig) (a .shift) (b .before .before .before .pre .1) (b .before .before .before .pre .2))
 
 pub walk-short-spec : {M : Type 1} → statement M
 walk-short-spec =
     tie.close
     (tie.spec
-    shl-add-pair
-    add-pair-requires
+    shl-add-two-words
+    add-two-words-requires
     sub-add-one
     part-add-one-start
     part-add-one-end

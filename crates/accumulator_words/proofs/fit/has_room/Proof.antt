@@ -6,7 +6,7 @@ use native.Mathlib.Nat.{le-of-eq, le-trans}
 use native.Mathlib.Omega.{arith}
 use borrow.Author.Tests.{ltb-true}
 use Rattle.accumulator_spec.specs.Words.{Words}
-use Rattle.accumulator_words.proofs.Lent.{roomy}
+use Rattle.accumulator_words.proofs.Lent.{no-fault}
 use Rattle.accumulator_words.proofs.Limit.{well-within}
 use Rattle.accumulator_words.proofs.fit.has_room.Statement.{statement}
 use Rattle.accumulator_words.proofs.fit.has_room.Tie as tie
@@ -32,13 +32,13 @@ shared-slice-read-wide-2 c = search needs
 wide-requires-2 : tie.Need-wide-requires-2
 wide-requires-2 c κs = search needs
 
-mul-top : tie.Need-mul-top
-mul-top c =
+mul-upper : tie.Need-mul-upper
+mul-upper c =
     let w = c .before .shared-slice-known4 .given 19 .fits in
     omega (arith, w, c .wide2 .ensures)
 
-add-top : tie.Need-add-top
-add-top c =
+add-upper : tie.Need-add-upper
+add-upper c =
     let v = c .before .before .before .shared-slice-known3 .given 18 .fits in
     let w = c .before .shared-slice-known4 .given 19 .fits in
     omega (arith, v, w, c .before .before .wide .ensures, c .wide2 .ensures)
@@ -68,7 +68,7 @@ returns-4 c e =
     let words : Words t = λ i. k .shared-slice-known .given i .fits in
     let full = r .before .before .if1 .left in
     let top = h .before .wrapping-add-u64 .ensures ∙ ap₂ (λ (x y : ℕ). (x + y * 4294967296 + 1) % 2 ^ 64) (w .before .before .wide .ensures) (w .wide2 .ensures) in
-    roomy t full (sym (well-within t full words (omega (arith, r .if2 .left)) (le-trans (le-of-eq (sym top)) (h .if3 .left)) (ltb-true _ _ e))) (omega (arith, r .if2 .left))
+    no-fault t full (sym (well-within t full words (omega (arith, r .if2 .left)) (le-trans (le-of-eq (sym top)) (h .if3 .left)) (ltb-true _ _ e))) (omega (arith, r .if2 .left))
 
 pub has-room-spec : {M : Type 1} → statement M
 has-room-spec =
@@ -81,8 +81,8 @@ has-room-spec =
     wide-requires
     shared-slice-read-wide-2
     wide-requires-2
-    mul-top
-    add-top
+    mul-upper
+    add-upper
     wrapping-add-u64-requires
     returns-3
     shared-slice-read-result

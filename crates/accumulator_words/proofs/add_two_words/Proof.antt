@@ -1,9 +1,9 @@
 use borrow.Author.Needs.{needs}
 use Prim.Native.Nat.{_^_, _<_}
 use native.Mathlib.Omega.{arith}
-use Rattle.accumulator_spec.proofs.TwoWords.{upper-lt, pair-added}
-use Rattle.accumulator_words.proofs.add_pair.Statement.{statement}
-use Rattle.accumulator_words.proofs.add_pair.Tie as tie
+use Rattle.accumulator_spec.proofs.TwoWords.{upper-lt, two-words-added}
+use Rattle.accumulator_words.proofs.add_two_words.Statement.{statement}
+use Rattle.accumulator_words.proofs.add_two_words.Tie as tie
 
 choose-requires : tie.Need-choose-requires
 choose-requires c κs = search needs
@@ -60,11 +60,11 @@ returns : tie.Need-returns
 returns c =
     let k = c .before .before .before .before .before .before .before in
     let a = k .before .args in
-    pair-added (a .minus) _ (c .before .before .before .before .before .before .choose .ensures) (a .words .now) (λ i. k .slice-known .given i .fits) (k .before .pre) _ _ (a .low) _ _
+    two-words-added (a .minus) _ (c .before .before .before .before .before .before .choose .ensures) (a .words .now) (λ i. k .slice-known .given i .fits) (k .before .pre) _ _ (a .low) _ _
     (c .before .before .before .before .wide .ensures) (c .before .before .wide2 .ensures) (k .before .fits .low .fits) (c .before .wrapping-add-u64 .ensures) (c .choose2 .ensures)
 
-pub add-pair-spec : {M : Type 1} → statement M
-add-pair-spec =
+pub add-two-words-spec : {M : Type 1} → statement M
+add-two-words-spec =
     tie.close
     (tie.spec
     choose-requires

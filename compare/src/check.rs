@@ -40,19 +40,7 @@ pub fn run(processor: Processor, options: &Options) -> ExitCode {
     let start = Instant::now();
     let how = if processor.fused_instruction { "its instruction" } else { "the C library's fmaf" };
     println!("reference: the processor, fma by {how}; seed {}", options.seed);
-    if let Some(what) = header::difference() {
-        println!("the comparison does not declare the library as its header does: {what}");
-        return ExitCode::FAILURE;
-    }
-    if let Some(what) = cases::distrusted(processor) {
-        println!("a reference for the pairs is at fault: {what}");
-        return ExitCode::FAILURE;
-    }
-    if let Some(what) = totals::cases::distrusted() {
-        println!("the reference for the totals is at fault: {what}");
-        return ExitCode::FAILURE;
-    }
-    if let Some(what) = sheets::check::distrusted(processor, options.seed) {
+    if let Some(what) = distrusted(processor, options.seed) {
         println!("{what}");
         return ExitCode::FAILURE;
     }
@@ -74,6 +62,24 @@ pub fn run(processor: Processor, options: &Options) -> ExitCode {
     }
 }
 
+/// What nothing can be compared with: declarations, references, or the stored totals.
+fn distrusted(processor: Processor, seed: u64) -> Option<String> {
+    let of_header = || {
+        let what = header::difference()?;
+        Some(format!("the comparison does not declare the library as its header does: {what}"))
+    };
+    let of_pairs =
+        || Some(format!("a reference for the pairs is at fault: {}", cases::distrusted(processor)?));
+    let of_totals =
+        || Some(format!("the reference for the totals is at fault: {}", totals::cases::distrusted()?));
+    let of_stored = || Some(format!("the stored totals are at fault: {}", totals::stored::distrusted()?));
+    of_header()
+        .or_else(of_pairs)
+        .or_else(of_totals)
+        .or_else(of_stored)
+        .or_else(|| sheets::check::distrusted(processor, seed))
+}
+
 fn finds_planted(processor: Processor, step_edges: &[u32], pair_edges: &Edges, seed: u64) -> bool {
     let tried = [
         ("the header, against what is declared here", header::tried()),
@@ -83,6 +89,7 @@ fn finds_planted(processor: Processor, step_edges: &[u32], pair_edges: &Edges, s
             pairs::planted::tried(processor, pair_edges, seed),
         ),
         ("totals, by a shape of columns", totals::planted::tried(seed)),
+        ("totals and in the stored file, by that file", totals::planted::stored::tried()),
         ("filling and in lists, by a shape of questions or lists", lists::check::tried(seed)),
         ("the program, by a shape of files", sheets::check::tried(seed)),
     ];
@@ -147,8 +154,14 @@ fn compared_pairs(processor: Processor, edges: &Edges, options: &Options) -> (u6
     (asked, differences)
 }
 
-/// Each shape of columns; how many calls there were, and differences.
+/// Each shape of columns, then the stored totals, whatever the shapes came to; how many calls there were, and differences.
 fn compared_totals(options: &Options) -> (u64, usize) {
+    let (called, differences) = compared_columns(options);
+    let (of_stored, stored_differences) = totals::stored::compared();
+    (called + of_stored, differences + stored_differences)
+}
+
+fn compared_columns(options: &Options) -> (u64, usize) {
     let (mut called, mut differences) = (0, 0);
     for shape in COLUMN_SHAPES {
         let source = totals::columns::Source { shape, seed: options.seed, columns: options.columns };

@@ -35,8 +35,9 @@ use subject::{Library, Subject};
 const USAGE: &str = "usage: compare check [OPTION N]... | compare sheets [OPTION N]... | compare lists [OPTION N]...
      | compare bench [--seed N] | compare sheets-bench [--seed N] [--program WORDS]
      | compare step STEP PATTERN PATTERN [PATTERN] | compare pair OPERATION PATTERN PATTERN | compare total [TERM | +]...
-     | compare sheets-model | compare peer | compare sheets-input SHAPE NUMBER [--seed N]
+     | compare stored-totals | compare sheets-model | compare peer | compare sheets-input SHAPE NUMBER [--seed N]
     check       all comparisons; sheets: that of the program `sheet` alone; lists: those of filling and of lists alone
+    stored-totals        prints the file of stored totals, as the linked library makes it
     sheets-model, peer   answer question lines of standard input as `sheet` does: by the model, on the processor's floats
     sheets-input         prints a file of question lines that a difference names
     STEP        add, sub, mul or fma, which takes three patterns; a pattern is eight upper-case hexadecimal digits
@@ -60,6 +61,7 @@ fn main() -> ExitCode {
         "step" => one_step(rest),
         "pair" => one_pair(rest),
         "total" => one_total(rest),
+        "stored-totals" if rest.is_empty() => return totals::stored::print(),
         "peer" if rest.is_empty() => return sheets::peer::run(),
         "sheets-model" if rest.is_empty() => return sheets::check::of_input(),
         "sheets-input" => return sheets::check::input(rest).unwrap_or_else(wrong_usage),

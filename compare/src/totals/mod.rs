@@ -8,4 +8,5 @@ pub mod model;
 pub mod number;
 pub mod plain;
 pub mod planted;
+pub mod stored;
 pub mod subject;

@@ -9,7 +9,7 @@ mod limits;
 mod misfits;
 mod overflow;
 mod random;
-mod terms;
+pub mod terms;
 mod tiny;
 mod trees;
 

@@ -1,7 +1,10 @@
 //! The comparison of totals tried on itself: a library with a planted fault has to be found out.
+mod damage;
 mod joins;
+mod places;
 mod reading;
 mod refusals;
+pub mod stored;
 mod words;
 
 use super::call::{Call, Reading, Turn};
@@ -18,6 +21,7 @@ enum Fault {
     Refusal(refusals::Fault),
     Reading(reading::Fault),
     Join(joins::Fault),
+    Place(places::Fault),
 }
 
 /// A call that the library has carried out or refused, to be spoilt.
@@ -76,6 +80,7 @@ impl Subject for Planted {
             Fault::Words(fault) => fault.spoil(&mut done),
             Fault::Refusal(fault) => fault.spoil(&mut done),
             Fault::Reading(fault) => fault.spoil(&mut done),
+            Fault::Place(fault) => fault.spoil(&mut done),
             Fault::Join(_) => {}
         }
         done.answer

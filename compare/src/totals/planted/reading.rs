@@ -22,6 +22,8 @@ pub enum Fault {
     SecondShort,
     /// Second is what is left when the total is read to 24 bits and the last is set.
     SecondOfOther,
+    /// The last bit of a second that is not zero is wrong.
+    SecondBit,
     /// A first below 2^-126 is rounded to 24 bits, and then to 2^-149.
     RoundedTwice,
     /// 2^128 - 2^103 itself overflows.
@@ -46,7 +48,7 @@ pub enum Fault {
     RefusedReads,
 }
 
-pub const FAULTS: [(Fault, Shape, &str); 18] = [
+pub const FAULTS: [(Fault, Shape, &str); 19] = [
     (Fault::FirstToEven, Shape::Halfway, "a tie of first to even"),
     (Fault::SecondToEven, Shape::Halfway, "a tie of second to even"),
     (Fault::FirstCut, Shape::Halfway, "first without the lowest words"),
@@ -54,6 +56,7 @@ pub const FAULTS: [(Fault, Shape, &str); 18] = [
     (Fault::SecondUnsigned, Shape::Random, "second of a rest without sign"),
     (Fault::SecondShort, Shape::Random, "second cut off"),
     (Fault::SecondOfOther, Shape::Random, "second of a wrong rest"),
+    (Fault::SecondBit, Shape::Random, "second wrong in its last bit"),
     (Fault::RoundedTwice, Shape::Tiny, "a tiny total rounded twice"),
     (Fault::EdgeOverflows, Shape::Overflow, "overflow at 2^128 - 2^103 itself"),
     (Fault::AboveEdge, Shape::Overflow, "no overflow just above it"),
@@ -117,6 +120,7 @@ impl Fault {
             Fault::SecondOfOther => {
                 Some((first, with_sign(nearest(&number.minus(&value(first | 1))), first)))
             }
+            Fault::SecondBit if magnitude(second) != 0 => Some((first, second ^ 1)),
             Fault::RoundedTwice => Some((rounded_twice(number)?, second)),
             Fault::EdgeOverflows if number.magnitude() == overflow_edge() => Some((first + 1, first + 1)),
             _ => self.zeros(number, first, second),

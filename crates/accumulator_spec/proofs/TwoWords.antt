@@ -17,29 +17,29 @@ use Rattle.accumulator_spec.proofs.Parts.{drop-words, walk-is}
 
 -- ---- the two words and what is written to them
 module _ (s : Bool) (m : ℕ) (is : m ≡ cond s 0xffff_ffff_ffff_ffff 0) where
-  pair-read : (v w : ℕ) → v < 2 ^ 32 → w < 2 ^ 32 → bitXor (v + w * 4294967296) m ≡ turn s v + 4294967296 * turn s w
-  pair-read v w h l = turn-xor 64 s (v + w * 4294967296) m (omega arith) is ∙ go s
+  both-read : (v w : ℕ) → v < 2 ^ 32 → w < 2 ^ 32 → bitXor (v + w * 4294967296) m ≡ turn s v + 4294967296 * turn s w
+  both-read v w h l = turn-xor 64 s (v + w * 4294967296) m (omega arith) is ∙ go s
     where
       go : (s : Bool) → cond s (2 ^ 64 - 1 - (v + w * 4294967296)) (v + w * 4294967296) ≡ turn s v + 4294967296 * turn s w
       go true = omega arith
       go false = omega arith
 
-  pair-lower : (n : ℕ) → n < 2 ^ 64 → bitXor n m % 4294967296 ≡ turn s (n % 4294967296)
-  pair-lower n h = ap (λ (x : ℕ). x % 4294967296) (turn-xor 64 s n m h is) ∙ go s
+  lower-written : (n : ℕ) → n < 2 ^ 64 → bitXor n m % 4294967296 ≡ turn s (n % 4294967296)
+  lower-written n h = ap (λ (x : ℕ). x % 4294967296) (turn-xor 64 s n m h is) ∙ go s
     where
       go : (s : Bool) → cond s (2 ^ 64 - 1 - n) n % 4294967296 ≡ turn s (n % 4294967296)
       go true = omega arith
       go false = refl
 
-  pair-upper : (n : ℕ) → n < 2 ^ 64 → bitXor n m / 4294967296 ≡ turn s (n / 4294967296)
-  pair-upper n h = ap (λ (x : ℕ). x / 4294967296) (turn-xor 64 s n m h is) ∙ go s
+  upper-written : (n : ℕ) → n < 2 ^ 64 → bitXor n m / 4294967296 ≡ turn s (n / 4294967296)
+  upper-written n h = ap (λ (x : ℕ). x / 4294967296) (turn-xor 64 s n m h is) ∙ go s
     where
       go : (s : Bool) → cond s (2 ^ 64 - 1 - n) n / 4294967296 ≡ turn s (n / 4294967296)
       go true = omega arith
       go false = refl
 
   pub upper-lt : (n : ℕ) → n < 2 ^ 64 → bitXor n m / 4294967296 < 2 ^ 32
-  upper-lt n h = rw (pair-upper n h) (turn-lt s (n / 4294967296) (omega arith))
+  upper-lt n h = rw (upper-written n h) (turn-lt s (n / 4294967296) (omega arith))
 
 -- a sum of 64 bits is below an addend where it went beyond them
 wrapped : (held low sum : ℕ) → held < 2 ^ 64 → low < 2 ^ 64 → sum ≡ (held + low) % 2 ^ 64
@@ -51,14 +51,14 @@ wrapped held low sum h l e =
     ]
 
 -- what is added two words higher goes on with their carry
-pair-walked : (s : Bool) (ws : List ℕ) (low high sum carry a b : ℕ) → 2 ≤ length ws
+both-walked : (s : Bool) (ws : List ℕ) (low high sum carry a b : ℕ) → 2 ≤ length ws
     → turn s (getD ws 0 0) + 4294967296 * turn s (getD ws 1 0) + low ≡ sum + 2 ^ 64 * carry → sum < 2 ^ 64
     → a ≡ turn s (sum % 4294967296) → b ≡ turn s (sum / 4294967296)
     → take 2 (set (set ws 0 a) 1 b) ++ walk s (drop 2 (set (set ws 0 a) 1 b)) (high + carry) ≡ walk s ws (low + 2 ^ 64 * high)
 unfolding walk
-pair-walked s [] low high sum carry a b l e h p q = absurd (omega arith)
-pair-walked s (v ∷ []) low high sum carry a b l e h p q = absurd (omega arith)
-pair-walked s (v ∷ w ∷ ws) low high sum carry a b l e h p q =
+both-walked s [] low high sum carry a b l e h p q = absurd (omega arith)
+both-walked s (v ∷ []) low high sum carry a b l e h p q = absurd (omega arith)
+both-walked s (v ∷ w ∷ ws) low high sum carry a b l e h p q =
     let n = low + 2 ^ 64 * high in
     let x : sum % 4294967296 ≡ (turn s v + n) % 4294967296 = omega arith in
     let k : (turn s v + n) / 4294967296 ≡ (turn s v + low) / 4294967296 + 4294967296 * high = omega arith in
@@ -79,7 +79,7 @@ module _ (s : Bool) (m : ℕ) (is : m ≡ cond s 0xffff_ffff_ffff_ffff 0) (ws : 
   after = set (set ws 0 (bitXor sum m % 4294967296)) 1 (bitXor sum m / 4294967296)
 
   held : bitXor (v + w * 4294967296) m ≡ turn s (getD ws 0 0) + 4294967296 * turn s (getD ws 1 0)
-  held = ap₂ (λ (x y : ℕ). bitXor (x + y * 4294967296) m) first second ∙ pair-read s m is (getD ws 0 0) (getD ws 1 0) (words 0) (words 1)
+  held = ap₂ (λ (x y : ℕ). bitXor (x + y * 4294967296) m) first second ∙ both-read s m is (getD ws 0 0) (getD ws 1 0) (words 0) (words 1)
 
   beyond : (turn s (getD ws 0 0) + 4294967296 * turn s (getD ws 1 0) + low ≡ sum + 2 ^ 64 * carry) × (carry ≤ 1)
   beyond =
@@ -100,5 +100,5 @@ module _ (s : Bool) (m : ℕ) (is : m ≡ cond s 0xffff_ffff_ffff_ffff 0) (ws : 
         beyond .1,
         λ high.
             ap (λ (xs : List ℕ). take 2 after ++ xs) (sym (walk-is s (drop 2 after) (high + carry) behind))
-            ∙ pair-walked s ws low high sum carry _ _ two (beyond .0) l (pair-lower s m is sum l) (pair-upper s m is sum l) ∙ walk-is s ws (low + 2 ^ 64 * high) words,
+            ∙ both-walked s ws low high sum carry _ _ two (beyond .0) l (lower-written s m is sum l) (upper-written s m is sum l) ∙ walk-is s ws (low + 2 ^ 64 * high) words,
       )

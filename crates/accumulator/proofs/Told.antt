@@ -1,4 +1,4 @@
--- The number of an answer to adding, and to joining, tells the answer.
+-- The number of an answer to adding, to joining and to carrying over tells the answer.
 use mathlib.Core.Path.{_≡_, refl}
 use mathlib.Core.Bool.{Bool, true, false, not, cond}
 use mathlib.Core.List.{List}
@@ -6,9 +6,10 @@ use Prim.Native.Nat.{ℕ}
 use lib.Dec.{eqb}
 use lib.ListN.{length}
 use Rattle.pattern_spec.specs.Answer.{Answer, refused, done, refusalOf}
-use Rattle.accumulator_spec.specs.Totals.{totalSize, mostTerms, count, fit, Term, finiteOperands, adding}
+use Rattle.accumulator_spec.specs.Totals.{totalSize, mostTerms, count, withinLimits, fit, Term, finiteOperands, adding}
 use Rattle.accumulator_spec.specs.Joins.{roomForBoth, joining}
-use Rattle.accumulator.specs.Inner.{numbered, joinNumbered}
+use Rattle.accumulator_spec.specs.Carrying.{oldSize, carrying}
+use Rattle.accumulator.specs.Inner.{numbered, joinNumbered, carryNumbered}
 
 -- the four refusals, in their order
 abbrev tried : Bool → Bool → Bool → Bool → Answer (Unit {0})
@@ -41,3 +42,17 @@ told-join f s = go (eqb (length f) totalSize) (fit f) (eqb (length s) totalSize)
     go true true true false e = refl
     go true true true true false = refl
     go true true true true true = refl
+
+-- the three of carrying over
+abbrev tried-carry : Bool → Bool → Bool → Answer (Unit {0})
+tried-carry a b c = cond (not a) (refused 5) (cond (not b) (refused 5) (cond (not c) (refused 6) (done tt)))
+
+pub told-carry : (old new : List ℕ) → carryNumbered (refusalOf (carrying old new)) ≡ carrying old new
+unfolding carrying
+told-carry old new = go (eqb (length old) oldSize) (eqb (length new) totalSize) (withinLimits old)
+  where
+    go : (a b c : Bool) → carryNumbered (refusalOf (tried-carry a b c)) ≡ tried-carry a b c
+    go false b c = refl
+    go true false c = refl
+    go true true false = refl
+    go true true true = refl

@@ -11,3 +11,7 @@ numbered n = cond (eqb n 0) (done tt) (cond (eqb n 5) (refused 5) (cond (eqb n 6
 -- the same of joining: 5, 6 and 12 (R8.16)
 abbrev pub joinNumbered : ℕ → Answer (Unit {0})
 joinNumbered n = cond (eqb n 0) (done tt) (cond (eqb n 5) (refused 5) (cond (eqb n 6) (refused 6) (refused 12)))
+
+-- and of carrying over: 5 and 6 (R8.17)
+abbrev pub carryNumbered : ℕ → Answer (Unit {0})
+carryNumbered n = cond (eqb n 0) (done tt) (cond (eqb n 5) (refused 5) (refused 6))

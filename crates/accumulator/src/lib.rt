@@ -5,8 +5,9 @@ use accumulator_spec::TOTAL_SIZE;
 ghost use mathlib.Core.Path.{_≡_};
 ghost use Rattle.accumulator_spec.specs.Totals.{isCleared, ofPattern, ofProduct, Adds, Clears, reading};
 ghost use Rattle.accumulator_spec.specs.Joins.{Joins};
-ghost use Rattle.accumulator.specs.Answers.{answerCleared, answerAdded, answerJoined, answerRead};
-ghost use Rattle.accumulator.specs.Inner.{numbered, joinNumbered};
+ghost use Rattle.accumulator_spec.specs.Carrying.{Carries};
+ghost use Rattle.accumulator.specs.Answers.{answerCleared, answerAdded, answerJoined, answerCarried, answerRead};
+ghost use Rattle.accumulator.specs.Inner.{numbered, joinNumbered, carryNumbered};
 
 pub enum Cleared {
     Done,
@@ -26,6 +27,12 @@ pub enum Joined {
     Length,
     Unfit,
     TooMany,
+}
+
+pub enum Carried {
+    Done,
+    Length,
+    Unfit,
 }
 
 pub enum Reading {
@@ -79,6 +86,14 @@ pub fn join(first: &mut [u32], second: &[u32]) -> Joined
     named_join(accumulator_join::join(first, second))
 }
 
+// Carries an old total, of 21 words, over into one of 22, whatever this held (R6.14).
+pub fn carry_over(old: &[u32], new: &mut [u32]) -> Carried
+    ensures { λ r. ⌜ Carries (now (old .entry)) (now (new .entry)) (answerCarried r) (now (new .exit)) ⌝ }
+    ensures { λ _. ⌜ now (old .exit) ≡ now (old .entry) ⌝ }
+{
+    named_carry(accumulator_carry::carry_over(old, new))
+}
+
 pub fn read(total: &[u32]) -> Reading
     ensures { λ r. ⌜ answerRead r ≡ reading (now (total .entry)) ⌝ }
 {
@@ -119,5 +134,17 @@ fn named_join(number: u32) -> Joined
         6 => Joined::Unfit,
         // 12
         _ => Joined::TooMany,
+    }
+}
+
+// And for carrying over.
+fn named_carry(number: u32) -> Carried
+    ensures { λ r. ⌜ answerCarried r ≡ carryNumbered number ⌝ }
+{
+    match number {
+        0 => Carried::Done,
+        5 => Carried::Length,
+        // 6
+        _ => Carried::Unfit,
     }
 }

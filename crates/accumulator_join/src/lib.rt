@@ -1,13 +1,14 @@
 // Joining two totals (R6.9). The answer is the refusal's number (R8.16), or 0.
 use accumulator_spec::MOST_TERMS;
 use accumulator_spec::NUMBER_SIZE;
+use accumulator_spec::SIGN_WORD;
 use accumulator_words::fit::refusal;
 use accumulator_words::wide;
 use choose::choose_pattern;
 ghost use mathlib.Core.Path.{_≡_};
 ghost use Prim.Native.Nat.{_+_, _%_, _^_, _≤_};
 ghost use lib.ListN.{length};
-ghost use Rattle.accumulator_spec.specs.Totals.{totalSize, mostTerms, count};
+ghost use Rattle.accumulator_spec.specs.Totals.{totalSize, mostTerms, count, signWord};
 ghost use Rattle.accumulator_spec.specs.Joins.{JoinsNumbered};
 ghost use Rattle.accumulator_join.specs.Inner.{faultOfTwo, JoinsFit, wordSum};
 
@@ -37,14 +38,18 @@ fn refusal_of_two(first: &[u32], second: &[u32]) -> u32
 fn join_fit(first: &mut [u32], second: &[u32]) -> u32
     requires { ⌜ (length (now first) ≡ totalSize) × (length (now second) ≡ totalSize)
         × (count (now first) ≤ mostTerms) × (count (now second) ≤ mostTerms) ⌝ }
+    requires { ⌜ (signWord (now first) ≤ 1) × (signWord (now second) ≤ 1) ⌝ }
     ensures { λ r. ⌜ JoinsFit (now (first .entry)) (now (second .entry)) r (now (first .exit)) ⌝ }
 {
     let n = first[NUMBER_SIZE] + second[NUMBER_SIZE];
     if n > MOST_TERMS {
         return 12;
     }
+    // Each is 0 or 1.
+    let sign = first[SIGN_WORD] | second[SIGN_WORD];
     add_words(&mut first[0..NUMBER_SIZE], &second[0..NUMBER_SIZE]);
     first[NUMBER_SIZE] = n;
+    first[SIGN_WORD] = sign;
     0
 }
 

@@ -2,6 +2,7 @@
 mod leading;
 
 use accumulator_spec::NUMBER_SIZE;
+use accumulator_spec::SIGN_WORD;
 use accumulator_words::fit::refusal;
 use accumulator_words::place;
 use leading::TOP;
@@ -12,7 +13,9 @@ use pattern::zero_takes;
 use pattern_spec::Class;
 use rounding_spec::Ties;
 ghost use mathlib.Core.Path.{_≡_};
+ghost use mathlib.Core.Bool.{not, _&&_};
 ghost use Prim.Native.Nat.{_+_, _*_, _^_, _≤_, _<_};
+ghost use lib.Dec.{eqb};
 ghost use lib.ListN.{length, take};
 ghost use lib.IntN.{natAbs, _+ℤ_};
 ghost use Rattle.rounding_spec.specs.declared.Ties.the-variants.{ToZero};
@@ -21,7 +24,7 @@ ghost use Rattle.rounding_spec.specs.Value.{encode, round};
 ghost use Rattle.pattern_spec.specs.Exact.{int};
 ghost use Rattle.augmented_spec.specs.Pairs.{pairOf};
 ghost use Rattle.accumulator_spec.specs.Words.{integer, wordsOfInteger};
-ghost use Rattle.accumulator_spec.specs.Totals.{numberSize, totalSize, exactNumber, pairAnswer, reading};
+ghost use Rattle.accumulator_spec.specs.Totals.{numberSize, totalSize, count, signWord, pairRead, exactNumber, pairAnswer, reading};
 ghost use Rattle.accumulator_read.specs.Inner.{replied};
 
 // The refusal's number (R8.8); or 0, and the pair. Free are the halves of a refusal (`replied`).
@@ -42,7 +45,31 @@ pub fn read(total: &[u32]) -> Reply
             second: 0,
         };
     }
+    if is_minus_zero(total) {
+        return twice(0x8000_0000);
+    }
     of_number(copied(total))
+}
+
+// A fit total with terms, all of which have been -0. Its number is 0.
+fn is_minus_zero(total: &[u32]) -> bool
+    requires { ⌜ length (now total) ≡ totalSize ⌝ }
+    ensures { λ r. ⌜ r ≡ (eqb (signWord (now (total .entry))) 0 && not (eqb (count (now (total .entry))) 0)) ⌝ }
+{
+    if total[SIGN_WORD] != 0 {
+        return false;
+    }
+    total[NUMBER_SIZE] != 0
+}
+
+fn twice(half: u32) -> Reply
+    ensures { λ r. ⌜ replied (r .refusal) (r .first) (r .second) ≡ pairRead half half ⌝ }
+{
+    Reply {
+        refusal: 0,
+        first: half,
+        second: half,
+    }
 }
 
 // The number's words, which are not changed where they were lent.
@@ -75,16 +102,8 @@ fn of_number(number: [u32; NUMBER_SIZE]) -> Reply
                 second: zero_takes(sign, second),
             }
         }
-        Class::Infinite(_) => Reply {
-            refusal: 0,
-            first,
-            second: first,
-        },
-        Class::NotANumber => Reply {
-            refusal: 0,
-            first,
-            second: first,
-        },
+        Class::Infinite(_) => twice(first),
+        Class::NotANumber => twice(first),
     }
 }
 

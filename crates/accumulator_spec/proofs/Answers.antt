@@ -2,18 +2,16 @@
 use mathlib.Core.Path.{_≡_, refl, sym, ap, _∙_}
 use mathlib.Core.Bool.{true≢false, Bool, true, false}
 use mathlib.Core.List.{List}
-use Prim.Native.Nat.{ℕ, suc}
+use Prim.Native.Nat.{ℕ}
 use native.Mathlib.Decide.{ℕ-discrete}
 use borrow.Author.Tests.{eq-eqb, ne-eqb}
 use lib.ListN.{length, replicate}
-use lib.IntN.{_+ℤ_}
 use Rattle.pattern_spec.specs.Answer.{refused, done, isDone, refusalOf}
 use Rattle.rounding_spec.specs.Format.{binary32}
 use Rattle.augmented_spec.specs.Pairs.{pairOf}
 use Rattle.accumulator_spec.specs.Theorems.{RefusedTerm, AddingRefused, ReadingRefused, ClearingIs}
-use Rattle.pattern_spec.specs.Exact.{whole}
-use Rattle.accumulator_spec.specs.Totals.{totalSize, mostTerms, number, count, totalOf, fit, Term, finiteOperands, exactTerm}
-use Rattle.accumulator_spec.specs.Totals.{adding, afterAdding, clearing, afterClearing, exactNumber, pairAnswer, reading}
+use Rattle.accumulator_spec.specs.Totals.{totalSize, mostTerms, number, count, signWord, fit, Term, finiteOperands}
+use Rattle.accumulator_spec.specs.Totals.{adding, totalWith, afterAdding, clearing, afterClearing, exactTotal, pairAnswer, reading}
 
 -- ---- clearing
 module _ (t : List ℕ) where
@@ -53,7 +51,7 @@ module _ (t : List ℕ) (x : Term) where
   unfolding afterAdding
   after-refused n e = rw e
 
-  pub after-done : adding t x ≡ done tt → afterAdding t x ≡ totalOf (number t +ℤ whole (exactTerm x)) (suc (count t))
+  pub after-done : adding t x ≡ done tt → afterAdding t x ≡ totalWith t x
   unfolding afterAdding
   after-done e = rw e
 
@@ -71,7 +69,7 @@ module _ (t : List ℕ) where
   unfolding reading
   reading-unfit full f = rw (eq-eqb (length t) totalSize full, f)
 
-  pub reading-pair : length t ≡ totalSize → fit t ≡ true → reading t ≡ pairAnswer (pairOf binary32 (exactNumber (number t)))
+  pub reading-pair : length t ≡ totalSize → fit t ≡ true → reading t ≡ pairAnswer (pairOf binary32 (exactTotal (number t) (count t) (signWord t)))
   unfolding reading
   reading-pair full f = rw (eq-eqb (length t) totalSize full, f)
 

@@ -1,4 +1,4 @@
--- Totals that were built by adding and joining are columns of their terms; an empty one joins without a trace; joins by computation.
+-- Totals that were built by adding, joining and carrying over are columns of their terms; an empty one joins without a trace; joins by computation.
 use mathlib.Core.Path.{_≡_, refl, sym, ap, ap₂, _∙_}
 use mathlib.Core.HLevel.{×-prop}
 use mathlib.Core.Logic.{∥∥₁-elim}
@@ -13,13 +13,17 @@ use lib.ListN.{length, length-append}
 use Rattle.pattern_spec.specs.Answer.{done}
 use Rattle.pattern_spec.specs.Exact.{whole}
 use Rattle.accumulator_spec.specs.Words.{Words, natural, integer, wordsOfNatural, wordsOfInteger}
-use Rattle.accumulator_spec.specs.Totals.{zeros, mostTerms, number, count, totalOf, fit, FitTotal, Term, finiteOperands, exactTerm, adding, afterAdding}
-use Rattle.accumulator_spec.specs.Columns.{column, Accepted, AllFinite, columnSum}
-use Rattle.accumulator_spec.specs.Joins.{joining, afterJoining, Built, fromCleared, byAdding, byJoining}
+use Rattle.accumulator_spec.specs.Totals.{zeros, mostTerms, number, count, signWord, totalOf, fit, FitTotal, signOfBoth}
+use Rattle.accumulator_spec.specs.Totals.{Term, finiteOperands, exactTerm, adding, afterAdding}
+use Rattle.accumulator_spec.specs.Columns.{column, Accepted, AllFinite, columnSum, columnSign}
+use Rattle.accumulator_spec.specs.Carrying.{oldColumn, carrying, afterCarrying, carriedTerms}
+use Rattle.accumulator_spec.specs.Joins.{joining, afterJoining, Built, fromCleared, byAdding, byJoining, byCarrying}
 use Rattle.accumulator_spec.specs.JoinTheorems.{BuiltBy, BuiltIsColumn, JoinedIsColumn, ColumnsJoin, ColumnBuilt, EmptyJoins, JoinLandmarks}
-use Rattle.accumulator_spec.proofs.Adding.{fit-bounds, accepted-term}
+use Rattle.accumulator_spec.proofs.Adding.{limits, fit-bounds, accepted-term}
+use Rattle.accumulator_spec.proofs.Signs.{sign-idl, sign-idr, both-signs}
+use Rattle.accumulator_spec.proofs.Carried.{old-count, carry-conditions, carried-finite, carried-column}
 use Rattle.accumulator_spec.proofs.Columns.{column-next, all-finite-is, exact-column, any-order, perm-length, perm-finite}
-use Rattle.accumulator_spec.proofs.Held.{total-unique}
+use Rattle.accumulator_spec.proofs.Held.{total-same, total-unique}
 use Rattle.accumulator_spec.proofs.Joining.{conditions, joins, after-joined}
 
 -- ---- terms of two columns
@@ -42,14 +46,15 @@ module _ (xs ys : List Term) (room : length xs + length ys ≤ mostTerms) (f : A
   columns-accepted =
       let x = exact-column xs (few .0) f in
       let y = exact-column ys (few .1) g in
-      joins (column zeros xs) (column zeros ys) (x .4 .full) (x .4 .fits) (y .4 .full) (y .4 .fits) (le-trans (le-of-eq (ap₂ _+_ (x .3) (y .3))) room)
+      joins (column zeros xs) (column zeros ys) (x .5 .full) (x .5 .fits) (y .5 .full) (y .5 .fits) (le-trans (le-of-eq (ap₂ _+_ (x .3) (y .3))) room)
 
   columns-joined : afterJoining (column zeros xs) (column zeros ys) ≡ column zeros (xs ++ ys)
   columns-joined =
       let x = exact-column xs (few .0) f in
       let y = exact-column ys (few .1) g in
       after-joined (column zeros xs) (column zeros ys) columns-accepted
-      ∙ ap₂ totalOf (ap₂ _+ℤ_ (x .2) (y .2) ∙ sym (both-sums xs ys)) (ap₂ _+_ (x .3) (y .3) ∙ sym (length-append xs ys))
+      ∙ total-same (ap₂ _+ℤ_ (x .2) (y .2) ∙ sym (both-sums xs ys)) (ap₂ _+_ (x .3) (y .3) ∙ sym (length-append xs ys))
+      (ap₂ signOfBoth (x .4) (y .4) ∙ sym (both-signs xs ys))
       ∙ sym (exact-column (xs ++ ys) (le-trans (le-of-eq (length-append xs ys)) room) (both-finite xs ys f g) .1)
 
 pub columns-join : ColumnsJoin
@@ -62,11 +67,11 @@ record Column (t : List ℕ) (xs : List Term) : Type 0 where
   few : length xs ≤ mostTerms
 
 counted : (t : List ℕ) (xs : List Term) → Column t xs → count t ≡ length xs
-counted t xs c = ap count (c .is) ∙ exact-column xs (c .few) (c .finite) .3
+counted t xs c = ap (λ (u : List ℕ). count u) (c .is) ∙ exact-column xs (c .few) (c .finite) .3
 
 one-more : (t : List ℕ) (xs : List Term) (x : Term) → Column t xs → adding t x ≡ done tt → Column (afterAdding t x) (xs ++ (x ∷ []))
 one-more t xs x c e =
-    let k : Words t = rw (c .is) (exact-column xs (c .few) (c .finite) .4 .words) in
+    let k : Words t = rw (c .is) (exact-column xs (c .few) (c .finite) .5 .words) in
     let a = accepted-term t x k .0 e in
     let n = counted t xs c in
     let l = a .2 in
@@ -88,14 +93,24 @@ two t u xs ys c d e =
       few = le-trans (le-of-eq (length-append xs ys)) room;
     }
 
+-- an old total of these terms, carried over: its count is that of the terms
+old : (new : List ℕ) (xs : List Term) → AllFinite xs → carrying (oldColumn xs) new ≡ done tt → Column (afterCarrying (oldColumn xs) new) (carriedTerms xs)
+old new xs f e =
+    let c = carry-conditions (oldColumn xs) new e in
+    let n = old-count (columnSum xs) (length xs) in
+    let few : length xs ≤ mostTerms = le-trans (le-of-eq (sym n)) (limits (oldColumn xs) (c .2) .0) in
+    let k = carried-column new xs few f (c .1) in
+    record { is = k .1; finite = carried-finite xs f; few = le-trans (le-of-eq (k .2)) few }
+
 built : {t : List ℕ} {xs : List Term} → Built t xs → Column t xs
 unfolding column AllFinite
 built fromCleared = record { is = refl; finite = tt; few = omega arith }
 built (byAdding {t} {xs} x b e) = one-more t xs x (built b) e
 built (byJoining {t} {u} {xs} {ys} b d e) = two t u xs ys (built b) (built d) e
+built (byCarrying new xs f e) = old new xs f e
 
 pub built-by : BuiltBy
-built-by = (fromCleared, (λ t xs x b e. byAdding x b e), λ t u xs ys b d e. byJoining b d e)
+built-by = (fromCleared, (λ t xs x b e. byAdding x b e), (λ t u xs ys b d e. byJoining b d e), byCarrying)
 
 -- ---- in any order
 finite-prop : (xs : List Term) → IsProp (AllFinite xs)
@@ -115,7 +130,7 @@ pub built-is-column : BuiltIsColumn
 built-is-column t xs zs b p =
     let c = reordered t xs zs (built b) p in
     let x = exact-column zs (c .few) (c .finite) in
-    (c .is, x .0, c .finite, c .few, rw (c .is) (x .4))
+    (c .is, x .0, c .finite, c .few, rw (c .is) (x .5))
 
 pub joined-is-column : JoinedIsColumn
 joined-is-column f s xs ys zs b d e p = let c = built-is-column (afterJoining f s) (xs ++ ys) zs (byJoining b d e) p in (c .0, c .1)
@@ -130,31 +145,36 @@ pub column-built : ColumnBuilt
 column-built xs h f = more-built xs zeros [] fromCleared (exact-column xs h f .0)
 
 -- ---- empty totals
-nothing : (number zeros ≡ pos 0) × (count zeros ≡ 0) × FitTotal zeros
-unfolding AllFinite columnSum column
-nothing = let x = exact-column [] (omega arith) tt in (x .2, x .3, x .4)
+nothing : (number zeros ≡ pos 0) × (count zeros ≡ 0) × (signWord zeros ≡ 0) × FitTotal zeros
+unfolding AllFinite columnSum columnSign column
+nothing = let x = exact-column [] (omega arith) tt in (x .2, x .3, x .4, x .5)
 
 module _ (t : List ℕ) (f : FitTotal t) where
   abbrev few-terms : count t ≤ mostTerms
-  few-terms = fit-bounds t (f .fits) .0
+  few-terms = fit-bounds t (f .fits) .few
 
   behind : joining t zeros ≡ done tt
-  behind = joins t zeros (f .full) (f .fits) (nothing .2 .full) (nothing .2 .fits) (omega (arith, nothing .1, few-terms))
+  behind = joins t zeros (f .full) (f .fits) (nothing .3 .full) (nothing .3 .fits) (omega (arith, nothing .1, few-terms))
 
   before : joining zeros t ≡ done tt
-  before = joins zeros t (nothing .2 .full) (nothing .2 .fits) (f .full) (f .fits) (omega (arith, nothing .1, few-terms))
+  before = joins zeros t (nothing .3 .full) (nothing .3 .fits) (f .full) (f .fits) (omega (arith, nothing .1, few-terms))
 
-  itself : totalOf (number t) (count t) ≡ t
+  itself : totalOf (number t) (count t) (signWord t) ≡ t
   itself = total-unique t (f .full) (f .words)
+
+  abbrev sign-small : signWord t ≤ 1
+  sign-small = fit-bounds t (f .fits) .sign
 
 pub empty-joins : EmptyJoins
 empty-joins t f = (
   behind t f,
-  after-joined t zeros (behind t f) ∙ ap₂ (λ (z : ℤ) (n : ℕ). totalOf (number t +ℤ z) (count t + n)) (nothing .0) (nothing .1)
-      ∙ ap₂ totalOf (+ℤ-idr (number t)) (add-zero (count t)) ∙ itself t f,
+  after-joined t zeros (behind t f) ∙
+      total-same (ap (λ (z : ℤ). number t +ℤ z) (nothing .0) ∙ +ℤ-idr (number t)) (ap (λ (n : ℕ). count t + n) (nothing .1) ∙ add-zero (count t))
+      (ap (signOfBoth (signWord t)) (nothing .2) ∙ sign-idr (signWord t) (sign-small t f)) ∙ itself t f,
   before t f,
-  after-joined zeros t (before t f) ∙ ap₂ (λ (z : ℤ) (n : ℕ). totalOf (z +ℤ number t) (n + count t)) (nothing .0) (nothing .1)
-      ∙ ap₂ totalOf (+ℤ-idl (number t)) (zero-add (count t)) ∙ itself t f,
+  after-joined zeros t (before t f) ∙
+      total-same (ap (λ (z : ℤ). z +ℤ number t) (nothing .0) ∙ +ℤ-idl (number t)) (ap (λ (n : ℕ). n + count t) (nothing .1) ∙ zero-add (count t))
+      (ap (λ (v : ℕ). signOfBoth v (signWord t)) (nothing .2) ∙ sign-idl (signWord t) (sign-small t f)) ∙ itself t f,
 )
 
 -- ---- by computation

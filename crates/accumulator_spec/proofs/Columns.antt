@@ -4,52 +4,53 @@ use mathlib.Core.HLevel.{hedberg}
 use mathlib.Core.Logic.{∥∥₁-elim}
 use mathlib.Core.Bool.{true}
 use mathlib.Core.List.{List, [], _∷_, _++_, List·Permᴰ, List·Permᴰ·nil, List·Permᴰ·cons, List·Permᴰ·swap, List·Permᴰ·trans, List·isSet}
-use Prim.Native.Nat.{ℕ, suc, _+_, _*_, _^_, _≤_, _<_}
+use Prim.Native.Nat.{ℕ, suc, _+_, _≤_, _<_}
 use native.Mathlib.Decide.{ℕ-discrete}
 use native.Mathlib.Nat.{le-trans, le-of-eq, le-refl, add-zero, zero-add}
 use native.Mathlib.Omega.{arith}
-use lib.IntN.{ℤ, pos, natAbs, _+ℤ_, +ℤ-idl, +ℤ-idr, +ℤ-assoc, +ℤ-comm}
+use lib.IntN.{ℤ, pos, _+ℤ_, +ℤ-idl, +ℤ-idr, +ℤ-assoc, +ℤ-comm}
 use lib.ListN.{length}
 use Rattle.pattern_spec.specs.Answer.{done}
 use Rattle.accumulator_spec.specs.Words.{wordsOfNatural, wordsOfInteger}
 use Rattle.pattern_spec.specs.Exact.{whole}
-use Rattle.accumulator_spec.specs.Totals.{zeros, mostTerms, FitTotal, number, count, totalOf, Term, finiteOperands, exactTerm, adding, afterAdding}
-use Rattle.accumulator_spec.specs.Columns.{column, Accepted, AllFinite, columnSum}
+use Rattle.accumulator_spec.specs.Totals.{zeros, mostTerms, FitTotal, number, count, signWord, totalOf}
+use Rattle.accumulator_spec.specs.Totals.{Term, finiteOperands, exactTerm, termSign, signOfBoth, adding, afterAdding}
+use Rattle.accumulator_spec.specs.Columns.{column, Accepted, AllFinite, columnSum, columnSign}
 use Rattle.accumulator_spec.specs.Theorems.{ColumnNext, AcceptedEach, AllFiniteIs, ExactColumn, AnyOrder}
-use Rattle.accumulator_spec.proofs.Held.{total-number, total-count}
-use Rattle.accumulator_spec.proofs.Adding.{sum-room, one-more, total-fit, accepts}
+use Rattle.accumulator_spec.proofs.Held.{total-number, total-count, total-sign, total-same}
+use Rattle.accumulator_spec.proofs.Adding.{Fits, held, total-fit, fits-more, accepts}
 use Rattle.accumulator_spec.proofs.Answers.{after-done}
+use Rattle.accumulator_spec.proofs.Signs.{sign-assoc, sign-idl, sign-idr, column-sign-le, perm-sign}
 
--- ---- one term on a total whose number and count are known
-module _ (z : ℤ) (n : ℕ) (x : Term) (few : n < mostTerms) (small : natAbs z ≤ n * 2 ^ 554) (finite : finiteOperands x ≡ true) where
-  accepted-at : adding (totalOf z n) x ≡ done tt
-  accepted-at = accepts (totalOf z n) x (total-fit z n (omega arith) small) finite (le-trans (le-of-eq (ap suc (total-count z n))) few)
+-- ---- one term on a total whose number, count and sign word are known
+module _ (z : ℤ) (n w : ℕ) (x : Term) (few : n < mostTerms) (fits : Fits z n w) (finite : finiteOperands x ≡ true) where
+  accepted-at : adding (totalOf z n w) x ≡ done tt
+  accepted-at = accepts (totalOf z n w) x (total-fit z n w fits) finite (le-trans (le-of-eq (ap suc (total-count z n w))) few)
 
-  after-at : afterAdding (totalOf z n) x ≡ totalOf (z +ℤ whole (exactTerm x)) (suc n)
-  after-at =
-      after-done (totalOf z n) x accepted-at
-      ∙ ap₂ (λ (y : ℤ) (m : ℕ). totalOf (y +ℤ whole (exactTerm x)) (suc m)) (total-number z n (sum-room (natAbs z) n (omega arith) small)) (total-count z n)
+  after-at : afterAdding (totalOf z n w) x ≡ totalOf (z +ℤ whole (exactTerm x)) (suc n) (signOfBoth w (termSign x))
+  after-at = after-done (totalOf z n w) x accepted-at ∙ rw (total-number z n w (held z n w fits), total-count z n w, total-sign z n w)
 
 -- ---- all terms, from any total
-pub record Exact (z : ℤ) (n : ℕ) (xs : List Term) : Type 0 where
-  pub accepted : Accepted (totalOf z n) xs
-  pub is : column (totalOf z n) xs ≡ totalOf (z +ℤ columnSum xs) (n + length xs)
-  pub small : natAbs (z +ℤ columnSum xs) ≤ (n + length xs) * 2 ^ 554
+pub record Exact (z : ℤ) (n w : ℕ) (xs : List Term) : Type 0 where
+  pub accepted : Accepted (totalOf z n w) xs
+  pub is : column (totalOf z n w) xs ≡ totalOf (z +ℤ columnSum xs) (n + length xs) (signOfBoth w (columnSign xs))
+  pub fits : Fits (z +ℤ columnSum xs) (n + length xs) (signOfBoth w (columnSign xs))
 
-pub exact-from : (xs : List Term) (z : ℤ) (n : ℕ) → n + length xs ≤ mostTerms → natAbs z ≤ n * 2 ^ 554 → AllFinite xs → Exact z n xs
-unfolding column Accepted AllFinite columnSum
-exact-from [] z n h l f = record { accepted = tt; is = rw (+ℤ-idr z, add-zero n); small = rw (+ℤ-idr z, add-zero n) l }
-exact-from (x ∷ xs) z n h l f =
+pub exact-from : (xs : List Term) (z : ℤ) (n w : ℕ) → n + length xs ≤ mostTerms → Fits z n w → AllFinite xs → Exact z n w xs
+unfolding column Accepted AllFinite columnSum columnSign
+exact-from [] z n w h l f = let i = sign-idr w (l .sign) in record { accepted = tt; is = rw (+ℤ-idr z, add-zero n, i); fits = rw (+ℤ-idr z, add-zero n, i) l }
+exact-from (x ∷ xs) z n w h l f =
     let y = z +ℤ whole (exactTerm x) in
     let few : n < mostTerms = omega arith in
-    let a = after-at z n x few l (f .0) in
-    let r = exact-from xs y (suc n) (omega arith) (one-more z n x l (f .0)) (f .1) in
+    let a = after-at z n w x few l (f .0) in
+    let r = exact-from xs y (suc n) (signOfBoth w (termSign x)) (omega arith) (fits-more z n w x l few (f .0)) (f .1) in
     let s : y +ℤ columnSum xs ≡ z +ℤ (whole (exactTerm x) +ℤ columnSum xs) = +ℤ-assoc z (whole (exactTerm x)) (columnSum xs) in
     let c : suc n + length xs ≡ n + suc (length xs) = omega arith in
+    let i = sign-assoc w (termSign x) (columnSign xs) in
     record {
-      accepted = (accepted-at z n x few l (f .0), rw a (r .accepted));
-      is = ap (λ (t : List ℕ). column t xs) a ∙ r .is ∙ ap₂ totalOf s c;
-      small = rw (← s, ← c) (r .small);
+      accepted = (accepted-at z n w x few l (f .0), rw a (r .accepted));
+      is = ap (λ (t : List ℕ). column t xs) a ∙ r .is ∙ total-same s c i;
+      fits = rw (← s, ← c, ← i) (r .fits);
     }
 
 -- ---- one term more at the end
@@ -77,23 +78,31 @@ unfolding AllFinite
 all-finite-is xs x = (tt, finite-more xs x)
 
 -- ---- from a cleared total
-pub cleared-is : zeros ≡ totalOf (pos 0) 0
+pub cleared-is : zeros ≡ totalOf (pos 0) 0 0
 unfolding wordsOfNatural wordsOfInteger
 cleared-is = refl
 
+pub cleared-fits : Fits (pos 0) 0 0
+cleared-fits = record { few = omega arith; small = le-refl 0; sign = omega arith; none = λ e. refl; some = λ e. absurd (omega arith) }
+
 pub exact-column : ExactColumn
 exact-column xs h f =
-    let s : pos 0 +ℤ columnSum xs ≡ columnSum xs = +ℤ-idl (columnSum xs) in
-    let c : 0 + length xs ≡ length xs = zero-add (length xs) in
-    let r = exact-from xs (pos 0) 0 (le-trans (le-of-eq c) h) (le-refl 0) f in
-    let small : natAbs (columnSum xs) ≤ length xs * 2 ^ 554 = rw (s, c) at (r .small) in
-    let is : column zeros xs ≡ totalOf (columnSum xs) (length xs) = rw cleared-is (r .is ∙ ap₂ totalOf s c) in
-    let fits : FitTotal (column zeros xs) = rw is (total-fit (columnSum xs) (length xs) h small) in (
+    let z = columnSum xs in
+    let n = length xs in
+    let w = columnSign xs in
+    let s : pos 0 +ℤ z ≡ z = +ℤ-idl z in
+    let c : 0 + n ≡ n = zero-add n in
+    let i : signOfBoth 0 w ≡ w = sign-idl w (column-sign-le xs) in
+    let r = exact-from xs (pos 0) 0 0 (le-trans (le-of-eq c) h) cleared-fits f in
+    let fits : Fits z n w = rw (s, c, i) at (r .fits) in
+    let is : column zeros xs ≡ totalOf z n w = rw cleared-is (r .is ∙ total-same s c i) in
+    let fit : FitTotal (column zeros xs) = rw is (total-fit z n w fits) in (
       rw cleared-is (r .accepted),
       is,
-      ap number is ∙ total-number (columnSum xs) (length xs) (sum-room (natAbs (columnSum xs)) (length xs) h small),
-      ap count is ∙ total-count (columnSum xs) (length xs),
-      fits,
+      ap number is ∙ total-number z n w (held z n w fits),
+      ap (λ (t : List ℕ). count t) is ∙ total-count z n w,
+      ap (λ (t : List ℕ). signWord t) is ∙ total-sign z n w,
+      fit,
     )
 
 -- ---- in any order
@@ -130,4 +139,4 @@ perm-finite (List·Permᴰ·trans d c) f = perm-finite c (perm-finite d f)
 pub any-order : AnyOrder
 any-order xs ys p h f =
     ∥∥₁-elim p (List·isSet (hedberg ℕ-discrete) (column zeros xs) (column zeros ys)) (λ (d : List·Permᴰ xs ys).
-    exact-column xs h f .1 ∙ ap₂ totalOf (perm-sum d) (perm-length d) ∙ sym (exact-column ys (le-trans (le-of-eq (sym (perm-length d))) h) (perm-finite d f) .1))
+    exact-column xs h f .1 ∙ total-same (perm-sum d) (perm-length d) (perm-sign d) ∙ sym (exact-column ys (le-trans (le-of-eq (sym (perm-length d))) h) (perm-finite d f) .1))

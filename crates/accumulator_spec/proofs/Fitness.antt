@@ -1,4 +1,4 @@
--- A total's fitness by its top three words; the words below them count at the limit alone.
+-- Count and number within their limits, by the number's top three words; the words below them count at the limit alone.
 use mathlib.Core.Path.{_≡_, sym, ap, _∙_}
 use mathlib.Core.Bool.{Bool, true, false, cond}
 use mathlib.Core.List.{List, [], _∷_, _++_, map, map-append}
@@ -14,7 +14,7 @@ use Rattle.accumulator_spec.specs.Words.{Words, natural, complement}
 use Rattle.accumulator_spec.proofs.Append.{natural-append}
 use Rattle.accumulator_spec.proofs.Parts.{take-words}
 use Rattle.accumulator_spec.proofs.TwosComplement.{natural-complement}
-use Rattle.accumulator_spec.specs.Totals.{numberSize, totalSize, mostTerms, fit, count, number}
+use Rattle.accumulator_spec.specs.Totals.{numberSize, mostTerms, withinLimits, count, number}
 use Rattle.accumulator_spec.proofs.Top as by-top
 use Rattle.accumulator_spec.proofs.Limit.{strictly-under, strictly-over, under, over, level}
 
@@ -22,7 +22,7 @@ use Rattle.accumulator_spec.proofs.Limit.{strictly-under, strictly-over
 both-below : (x y m : ℕ) → x + y + 1 ≡ m → (y < m) × (x < m)
 both-below x y m e = (omega arith, omega arith)
 
-module _ (t : List ℕ) (full : length t ≡ totalSize) (words : Words t) where
+module _ (t : List ℕ) (long : numberSize < length t) (words : Words t) where
   abbrev low : ℕ
   low = natural (take 17 t)
 
@@ -80,25 +80,24 @@ module _ (t : List ℕ) (full : length t ≡ totalSize) (words : Words t) where
   limit = sym (mul-assoc (count t) 1024 (2 ^ 544))
 
   module _ (room : count t ≤ mostTerms) where
-    by-number : (m : ℕ) → natAbs (number t) ≡ m → fit t ≡ leb m (count t * 1024 * 2 ^ 544)
-    unfolding fit
+    by-number : (m : ℕ) → natAbs (number t) ≡ m → withinLimits t ≡ leb m (count t * 1024 * 2 ^ 544)
     by-number m e = rw (le-leb (count t) mostTerms room, e, limit)
 
-    by-positive : getD t 19 0 < 2147483648 → fit t ≡ leb (low + 2 ^ 544 * top) (count t * 1024 * 2 ^ 544)
+    by-positive : getD t 19 0 < 2147483648 → withinLimits t ≡ leb (low + 2 ^ 544 * top) (count t * 1024 * 2 ^ 544)
     by-positive h = by-number (low + 2 ^ 544 * top) (positive h)
 
-    by-negative : 2147483648 ≤ getD t 19 0 → fit t ≡ leb (suc (low-complement + 2 ^ 544 * top-complement)) (count t * 1024 * 2 ^ 544)
+    by-negative : 2147483648 ≤ getD t 19 0 → withinLimits t ≡ leb (suc (low-complement + 2 ^ 544 * top-complement)) (count t * 1024 * 2 ^ 544)
     by-negative h = by-number (suc (low-complement + 2 ^ 544 * top-complement)) (negative h)
 
     -- the code compares the top words as they are, or their complements
-    pub over-top : (s : Bool) → s ≡ leb 2147483648 (getD t 19 0) → (cond s (complement (getD t 19 0)) (getD t 19 0) ≡ 0 → ⊥) → false ≡ fit t
+    pub over-top : (s : Bool) → s ≡ leb 2147483648 (getD t 19 0) → (cond s (complement (getD t 19 0)) (getD t 19 0) ≡ 0 → ⊥) → false ≡ withinLimits t
     over-top false e n = let h = leb-false 2147483648 (getD t 19 0) (sym e) in sym (by-positive h ∙ over low (2 ^ 544) top (count t * 1024) (bounds .0) (omega arith))
     over-top true e n =
         let h = leb-true 2147483648 (getD t 19 0) (sym e) in
         let k = words 19 in
         sym (by-negative h ∙ strictly-over low-complement (2 ^ 544) top-complement (count t * 1024) (bounds .1) (omega arith))
 
-    pub over-next : (s : Bool) → s ≡ leb 2147483648 (getD t 19 0) → (cond s (complement (getD t 18 0)) (getD t 18 0) ≡ 0 → ⊥) → false ≡ fit t
+    pub over-next : (s : Bool) → s ≡ leb 2147483648 (getD t 19 0) → (cond s (complement (getD t 18 0)) (getD t 18 0) ≡ 0 → ⊥) → false ≡ withinLimits t
     over-next false e n = let h = leb-false 2147483648 (getD t 19 0) (sym e) in sym (by-positive h ∙ over low (2 ^ 544) top (count t * 1024) (bounds .0) (omega arith))
     over-next true e n =
         let h = leb-true 2147483648 (getD t 19 0) (sym e) in
@@ -107,26 +106,25 @@ module _ (t : List ℕ) (full : length t ≡ totalSize) (words : Words t) where
 
     -- with nothing in the two words above, word 17 tells
     pub inside : (s : Bool) → s ≡ leb 2147483648 (getD t 19 0) → cond s (complement (getD t 19 0)) (getD t 19 0) ≡ 0 → cond s (complement (getD t 18 0)) (getD t 18 0) ≡ 0
-        → cond s (complement (getD t 17 0)) (getD t 17 0) < count t * 1024 → true ≡ fit t
+        → cond s (complement (getD t 17 0)) (getD t 17 0) < count t * 1024 → true ≡ withinLimits t
     inside false e z y l = sym (by-positive (leb-false 2147483648 (getD t 19 0) (sym e)) ∙ under low (2 ^ 544) top (count t * 1024) (bounds .0) (omega arith))
     inside true e z y l =
         let k = words 19 in
         let j = words 18 in
         sym (by-negative (leb-true 2147483648 (getD t 19 0) (sym e)) ∙ strictly-under low-complement (2 ^ 544) top-complement (count t * 1024) (bounds .1) (omega arith))
 
-    pub below : true ≡ leb 2147483648 (getD t 19 0) → count t * 1024 ≤ complement (getD t 17 0) → false ≡ fit t
+    pub below : true ≡ leb 2147483648 (getD t 19 0) → count t * 1024 ≤ complement (getD t 17 0) → false ≡ withinLimits t
     below e l = sym (by-negative (leb-true 2147483648 (getD t 19 0) (sym e)) ∙ strictly-over low-complement (2 ^ 544) top-complement (count t * 1024) (bounds .1) (omega arith))
 
     module _ (e : false ≡ leb 2147483648 (getD t 19 0)) (z : getD t 19 0 ≡ 0) (y : getD t 18 0 ≡ 0) where
-      pub above : count t * 1024 < getD t 17 0 → false ≡ fit t
+      pub above : count t * 1024 < getD t 17 0 → false ≡ withinLimits t
       above l = sym (by-positive (leb-false 2147483648 (getD t 19 0) (sym e)) ∙ over low (2 ^ 544) top (count t * 1024) (bounds .0) (omega arith))
 
-      pub at-limit : count t * 1024 ≤ getD t 17 0 → getD t 17 0 ≤ count t * 1024 → eqb low 0 ≡ fit t
+      pub at-limit : count t * 1024 ≤ getD t 17 0 → getD t 17 0 ≤ count t * 1024 → eqb low 0 ≡ withinLimits t
       at-limit g l =
           let q : top ≡ count t * 1024 = omega arith in
           sym
           (by-positive (leb-false 2147483648 (getD t 19 0) (sym e)) ∙ ap (λ (x : ℕ). leb (low + 2 ^ 544 * x) (count t * 1024 * 2 ^ 544)) q ∙ level low (2 ^ 544) (count t * 1024))
 
-pub unfit-count : (t : List ℕ) → mostTerms < count t → false ≡ fit t
-unfolding fit
+pub unfit-count : (t : List ℕ) → mostTerms < count t → false ≡ withinLimits t
 unfit-count t h = rw (lt-leb (count t) mostTerms h)

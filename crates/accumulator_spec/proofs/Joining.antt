@@ -3,18 +3,18 @@
 use mathlib.Core.Path.{_≡_, refl, sym, ap, _∙_}
 use mathlib.Core.Bool.{Bool, true, false, not, cond}
 use mathlib.Core.List.{List}
-use Prim.Native.Nat.{ℕ, _+_, _*_, _^_, _≤_, _<_}
-use native.Mathlib.Nat.{le-trans, le-of-eq, add-le-add, add-mul}
+use Prim.Native.Nat.{ℕ, _+_, _≤_, _<_}
 use borrow.Author.Tests.{eq-eqb, ne-eqb, lt-leb, le-leb, eqb-true, leb-true}
 use lib.Dec.{eqb}
-use lib.IntN.{natAbs, _+ℤ_}
+use lib.IntN.{_+ℤ_}
 use lib.ListN.{length}
 use Rattle.pattern_spec.specs.Answer.{Answer, refused, done, refusalOf}
-use Rattle.accumulator_spec.specs.Totals.{totalSize, mostTerms, number, count, fit}
+use Rattle.accumulator_spec.specs.Totals.{totalSize, mostTerms, number, count, signWord, fit, signOfBoth}
 use Rattle.accumulator_spec.specs.Joins.{roomForBoth, joinedTotal, joining, afterJoining}
 use Rattle.accumulator_spec.specs.JoinTheorems.{JoiningRefused, AcceptedJoin, ExactJoin, RefusedJoin, JoinedAs, JoinsMeans, JoinsNumberedMeans}
-use Rattle.accumulator_spec.proofs.Adding.{sum-magnitude, sum-room, fit-bounds, total-fit, never}
-use Rattle.accumulator_spec.proofs.Held.{total-number, total-count}
+use Rattle.accumulator_spec.proofs.Adding.{held, fit-bounds, fits-both, total-fit, never}
+use Rattle.accumulator_spec.proofs.Held.{total-number, total-count, total-sign}
+use Rattle.accumulator_spec.proofs.Signs.{sign-zero, zero-sign}
 
 -- ---- what is answered
 module _ (f s : List ℕ) where
@@ -100,18 +100,19 @@ accepted-join f s k l = (
 )
 
 -- ---- the sum is exact, and fit
-sum-bound : (f s : List ℕ) → Conditions f s → natAbs (number f +ℤ number s) ≤ (count f + count s) * 2 ^ 554
-sum-bound f s j =
-    le-trans (sum-magnitude (number f) (number s))
-    (le-trans (add-le-add (fit-bounds f (j .fits) .1) (fit-bounds s (j .too) .1)) (le-of-eq (sym (add-mul (count f) (count s) (2 ^ 554)))))
-
 pub exact-join : ExactJoin
 exact-join f s e =
     let j = conditions f s e in
     let z = number f +ℤ number s in
     let n = count f + count s in
-    let m = sum-bound f s j in
-    rw (after-joined f s e) (total-fit z n (j .room) m, total-number z n (sum-room (natAbs z) n (j .room) m), total-count z n)
+    let w = signOfBoth (signWord f) (signWord s) in
+    let b = fits-both (number f) (count f) (signWord f) (number s) (count s) (signWord s) (fit-bounds f (j .fits)) (fit-bounds s (j .too)) (j .room) in
+    rw (after-joined f s e) (
+      total-fit z n w b,
+      total-number z n w (held z n w b),
+      total-count z n w,
+      (λ h. sign-zero (signWord f) (signWord s) (sym (total-sign z n w) ∙ h), λ h. total-sign z n w ∙ zero-sign (signWord f) (signWord s) (h .0) (h .1)),
+    )
 
 -- ---- what the relations say: g is what an answer is handed over as
 module _ {A : Type 0} (g : Answer (Unit {0}) → A) (f s : List ℕ) (answer : A) (after : List ℕ) (e : answer ≡ g (joining f s)) (w : after ≡ afterJoining f s) where
@@ -127,7 +128,7 @@ module _ {A : Type 0} (g : Answer (Unit {0}) → A) (f s : List ℕ) (answer : A
       λ also h. refuses 6 (second-unfit f s full fits also h),
       λ also too. (
         λ h. refuses 12 (too-many f s full fits also too h),
-        λ h. let d = joins f s full fits also too h in let k = exact-join f s d in rw w (e ∙ ap g d, k .0, k .1, k .2),
+        λ h. let d = joins f s full fits also too h in let k = exact-join f s d in rw w (e ∙ ap g d, k .0, k .1, k .2, k .3),
       ),
     ),
   )

@@ -27,7 +27,7 @@ module _ {A : Type 0} (f : Answer (Unit {0}) → A) (before : List ℕ) where
         λ h. refuses 6 (adding-unfit before x full h),
         λ fits h. refuses 7 (adding-special before x full fits h),
         λ fits fin h. refuses 8 (adding-full before x full fits fin h),
-        λ fits fin h words. let d = adding-done before x full fits fin h in let k = exact-adding before x words d in rw w (e ∙ ap f d, k .0, k .1, k .2),
+        λ fits fin h words. let d = adding-done before x full fits fin h in let k = exact-adding before x words d in rw w (e ∙ ap f d, k .0, k .1, k .2, k .3),
       ),
     )
 

@@ -2,16 +2,20 @@
 use mathlib.Core.Path.{_≡_, refl, sym, ap, _∙_}
 use mathlib.Core.Bool.{Bool, true, false, cond, _&&_}
 use mathlib.Core.List.{List}
-use Prim.Native.Nat.{ℕ, suc, _<_}
+use Prim.Native.Nat.{ℕ, zero, suc, _*_, _^_, _<_}
+use native.Mathlib.Nat.{zero-mul, mul-pos}
 use native.Mathlib.Omega.{arith}
+use borrow.Author.Tests.{ne-eqb}
 use lib.Dec.{eqb}
+use lib.Pow.{pow-pos}
 use lib.IntN.{_+ℤ_}
 use lib.ListN.{length}
 use Rattle.pattern_spec.specs.Answer.{Answer, refused, done}
 use Rattle.rounding_spec.specs.Format.{binary32}
 use Rattle.rounding_spec.specs.Value.{Value, nan, infinite, finite, decode, isFinite}
 use Rattle.pattern_spec.specs.Exact.{whole, int, times, finer}
-use Rattle.accumulator_spec.specs.Totals.{totalSize, mostTerms, number, count, totalOf, fit, Term, ofPattern, ofProduct, finiteOperands, exactTerm, adding, afterAdding}
+use Rattle.accumulator_spec.specs.Totals.{totalSize, mostTerms, number, count, signWord, totalOf, fit}
+use Rattle.accumulator_spec.specs.Totals.{Term, ofPattern, ofProduct, finiteOperands, exactTerm, isMinusZero, signOfBoth, adding, afterAdding}
 use Rattle.accumulator_spec.proofs.Answers.{adding-special, adding-done, after-refused, after-done}
 
 -- ---- a product is finite where both operands are
@@ -40,6 +44,16 @@ term-finite : (x : Term) → finiteOperands x ≡ isFinite (exactTerm x)
 term-finite (ofPattern x) = sym (finer-finite (decode binary32 x))
 term-finite (ofProduct x y) = sym (times-finite (decode binary32 x) (decode binary32 y))
 
+-- ---- digits count nothing where the significand is 0
+digits-zero : (sig exp : ℕ) → eqb (sig * 2 ^ exp) 0 ≡ eqb sig 0
+digits-zero zero exp = ap (λ (n : ℕ). eqb n 0) (zero-mul (2 ^ exp))
+digits-zero (suc sig) exp =
+    let h : 0 < suc sig * 2 ^ exp = mul-pos (omega arith) (pow-pos exp) in
+    ne-eqb (suc sig * 2 ^ exp) 0 (λ (e : suc sig * 2 ^ exp ≡ 0). some (suc sig * 2 ^ exp) h e) ∙ sym (ne-eqb (suc sig) 0 (λ (e : suc sig ≡ 0). omega arith))
+  where
+    some : (n : ℕ) → 0 < n → n ≡ 0 → ⊥
+    some n h e = omega arith
+
 -- ---- of a fit total
 module _ (t : List ℕ) (x : Term) (full : length t ≡ totalSize) (fits : fit t ≡ true) where
   abbrev Ends : Answer (Unit {0}) → List ℕ → Type 0
@@ -48,11 +62,15 @@ module _ (t : List ℕ) (x : Term) (full : length t ≡ totalSize) (fits : fit t
   pub special : isFinite (exactTerm x) ≡ false → Ends (refused 7) t
   special o = let e = adding-special t x full fits (term-finite x ∙ o) in (sym e, sym (after-refused t x 7 e))
 
-  module _ (s : Bool) (N : ℕ) (is : exactTerm x ≡ finite s N) where
+  module _ (s : Bool) (sig exp : ℕ) (is : exactTerm x ≡ finite s (sig * 2 ^ exp)) where
     finite-term : finiteOperands x ≡ true
     finite-term = term-finite x ∙ ap isFinite is
 
-    pub added : count t < mostTerms → (ws : List ℕ) → ws ≡ totalOf (number t +ℤ int s N) (suc (count t)) → Ends (done tt) ws
+    pub added : count t < mostTerms → (ws : List ℕ) → ws ≡ totalOf (number t +ℤ int s (sig * 2 ^ exp)) (suc (count t)) (signOfBoth (signWord t) (cond (s && eqb sig 0) 0 1))
+        → Ends (done tt) ws
     added n ws e =
         let d = adding-done t x full fits finite-term (λ e. absurd (omega arith)) in
-        (sym d, e ∙ ap (λ (v : Value). totalOf (number t +ℤ whole v) (suc (count t))) (sym is) ∙ sym (after-done t x d))
+        let w = ap (λ (b : Bool). totalOf (number t +ℤ int s (sig * 2 ^ exp)) (suc (count t)) (signOfBoth (signWord t) (cond (s && b) 0 1))) (sym (digits-zero sig exp)) in (
+          sym d,
+          e ∙ w ∙ ap (λ (v : Value). totalOf (number t +ℤ whole v) (suc (count t)) (signOfBoth (signWord t) (cond (isMinusZero v) 0 1))) (sym is) ∙ sym (after-done t x d),
+        )

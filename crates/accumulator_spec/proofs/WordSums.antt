@@ -1,19 +1,21 @@
 -- The sum of two numbers in words: word by word with a carry, and as whole numbers in two's complement; in a total with the count behind it.
 use mathlib.Core.Path.{_≡_, refl, sym, ap, ap₂, _∙_}
 use mathlib.Core.Bool.{Bool, true, false, cond}
-use mathlib.Core.List.{List, _∷_, _++_, append-assoc, append-nil}
+use mathlib.Core.List.{List, [], _∷_, _++_, append-assoc, append-nil}
 use Prim.Native.Nat.{ℕ, suc, _+_, _*_, _/_, _%_, _^_, _≤_, _<_}
 use native.Mathlib.Nat.{le-refl, le-of-eq, mul-one}
 use native.Mathlib.Numerals.{add-one}
 use native.Mathlib.Omega.{arith}
 use lib.Dec.{ltb}
 use lib.IntN.{ℤ, pos, _+ℤ_, _-ℤ_, +ℤ-assoc, +ℤ-comm, -ℤ-+ℤ-cancel}
-use lib.ListN.{length, take, drop, set, getD, drop-of-length-le}
-use lib.Seq.{drop-cons, take-suc-set, drop-set-lt, take-all, set-at, length-take-le}
+use lib.ListN.{length, take, drop, set, getD, drop-of-length-le, length-append, length-drop}
+use lib.Seq.{drop-cons, take-suc-set, drop-set-lt, take-all, take-at, length-take-le}
 use Rattle.accumulator_spec.specs.Words.{Words, natural, integer, wordsOfNatural, wordsOfInteger}
-use Rattle.accumulator_spec.specs.Totals.{numberSize, totalSize, number, count, totalOf}
+use Rattle.accumulator_spec.specs.Totals.{numberSize, totalSize, number, totalOf}
 use Rattle.accumulator_spec.proofs.Carry.{walk, walk-from, walked}
 use Rattle.accumulator_spec.proofs.Signed.{walk-integer}
+use Rattle.accumulator_spec.proofs.TermAdded.{counted-words}
+use Rattle.accumulator_spec.proofs.Complements.{words-length}
 use Rattle.accumulator_spec.proofs.TwosComplement.{words-formed}
 
 -- ---- the pass over the words
@@ -75,16 +77,22 @@ signed-sum ws vs e =
     ∙ ap (λ (l : ℕ). wordsOfInteger l (pos (natural ws) +ℤ integer vs)) e
     ∙ ap (wordsOfInteger (length ws)) (+ℤ-comm (pos (natural ws)) (integer vs)) ∙ unsigned ws (integer vs) ∙ ap (wordsOfInteger (length ws)) (+ℤ-comm (integer vs) (integer ws))
 
--- ---- the number's words after the pass, and n put behind them: a total with the sum of both numbers
-pub sum-placed : (f s new : List ℕ) (n : ℕ) → length f ≡ totalSize → length s ≡ totalSize
+-- ---- the number's words after the pass, and two words put behind them: a total with the sum of both numbers
+module _ (f s new : List ℕ) (full : length f ≡ totalSize) (e : new ≡ wordsOfNatural (length (take numberSize f)) (natural (take numberSize f) + natural (take numberSize s))) where
+  pass-full : length new ≡ numberSize
+  pass-full = ap (λ (xs : List ℕ). length xs) e ∙ words-length (length (take numberSize f)) (natural (take numberSize f) + natural (take numberSize s)) ∙ length-take-le numberSize f (omega arith)
+
+  pub sum-full : length (new ++ drop numberSize f) ≡ totalSize
+  sum-full = let k = pass-full in length-append new (drop numberSize f) ∙ omega (arith, k, length-drop numberSize f, full)
+
+pub sum-placed : (f s new : List ℕ) (n w : ℕ) → length f ≡ totalSize → length s ≡ totalSize
     → new ≡ wordsOfNatural (length (take numberSize f)) (natural (take numberSize f) + natural (take numberSize s))
-    → set (new ++ drop numberSize f) numberSize n ≡ totalOf (number f +ℤ number s) n
+    → set (set (new ++ drop numberSize f) numberSize n) (numberSize + 1) w ≡ totalOf (number f +ℤ number s) n w
 unfolding wordsOfInteger
-sum-placed f s new n full also e =
+sum-placed f s new n w full also e =
     let l : length (take numberSize f) ≡ numberSize = length-take-le numberSize f (omega arith) in
     let m : length (take numberSize s) ≡ numberSize = length-take-le numberSize s (omega arith) in
     let z = number f +ℤ number s in
     let is : new ≡ wordsOfInteger numberSize z = e ∙ signed-sum (take numberSize f) (take numberSize s) (m ∙ sym l) ∙ ap (λ (k : ℕ). wordsOfInteger k z) l in
-    ap₂ (λ (xs ys : List ℕ). set (xs ++ ys) numberSize n) is (drop-cons f numberSize 0 (omega arith))
-    ∙ set-at (wordsOfInteger numberSize z) (count f) (drop (suc numberSize) f) n numberSize (words-formed numberSize z .0)
-    ∙ ap (λ (xs : List ℕ). wordsOfInteger numberSize z ++ (n ∷ xs)) (drop-of-length-le f (le-of-eq full))
+    counted-words (new ++ drop numberSize f) n w (sum-full f s new full e)
+    ∙ ap (λ (xs : List ℕ). xs ++ (n ∷ w ∷ [])) (take-at new (drop numberSize f) numberSize (pass-full f s new full e) ∙ is)

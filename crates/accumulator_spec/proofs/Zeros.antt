@@ -1,17 +1,21 @@
 -- Words that are all zero: found so word by word, and made so.
 use mathlib.Core.Path.{_≡_, refl, sym, ap, ap₂, _∙_}
 use mathlib.Core.Bool.{true≢false, Bool, true, false, _&&_}
-use mathlib.Core.List.{List, [], _∷_}
-use Prim.Native.Nat.{ℕ, zero, suc, _+_, _*_, _≤_, _<_}
+use mathlib.Core.List.{List, [], _∷_, map}
+use Prim.Native.Nat.{ℕ, zero, suc, _+_, _*_, _^_, _≤_, _<_}
+use native.Mathlib.Decide.{decLe}
 use native.Mathlib.Numerals.{add-one}
 use native.Mathlib.Omega.{arith}
 use borrow.Author.Tests.{eqb-true, ne-eqb}
 use lib.Dec.{eqb}
+use lib.IntN.{ℤ, natAbs}
+use lib.Pow.{pow-pos}
 use lib.ListN.{length, take, drop, set, getD, replicate, replicate-append-replicate, drop-of-length-le}
 use lib.Seq.{drop-cons, take-suc-set}
-use Rattle.accumulator_spec.specs.Words.{allZero, natural}
+use Rattle.accumulator_spec.specs.Words.{Words, allZero, natural, integer, complement}
 use Rattle.accumulator_spec.specs.Totals.{zeros, totalSize, isCleared}
 use Rattle.accumulator_spec.specs.Theorems.{ClearedZeros}
+use Rattle.accumulator_spec.proofs.TwosComplement.{integer-positive, integer-negative}
 
 -- ---- word by word
 module _ (ws : List ℕ) (i : ℕ) (inside : i < length ws) where
@@ -37,6 +41,22 @@ zero-natural (zero ∷ ws) = zero-natural ws ∙ sym (no-word (natural ws))
     no-word zero = refl
     no-word (suc r) = ne-eqb (0 + 4294967296 * suc r) 0 (λ z. omega arith) ∙ sym (ne-eqb (suc r) 0 (λ z. omega arith))
 zero-natural (suc w ∷ ws) = rw (ne-eqb (suc w) 0 (λ z. omega arith), ne-eqb (suc w + 4294967296 * natural ws) 0 (λ z. omega arith))
+
+-- in two's complement too: a number below 0 is none
+pub zero-integer : (ws : List ℕ) → Words ws → allZero ws ≡ eqb (natAbs (integer ws)) 0
+zero-integer ws words =
+    elim (decLe (2 ^ (32 * length ws)) (2 * natural ws)) [
+      | yes h ↦
+          zero-natural ws ∙ ne-eqb (natural ws) 0 (λ (e : natural ws ≡ 0). some (2 ^ (32 * length ws)) (natural ws) (pow-pos (32 * length ws)) h e)
+          ∙ sym (ap (λ (z : ℤ). eqb (natAbs z) 0) (integer-negative ws words h) ∙ ne-eqb (suc (natural (map complement ws))) 0 (λ (e : suc (natural (map complement ws)) ≡ 0). omega arith))
+      | no h ↦ zero-natural ws ∙ sym (ap (λ (z : ℤ). eqb (natAbs z) 0) (integer-positive ws (below (2 ^ (32 * length ws)) (2 * natural ws) h)))
+    ]
+  where
+    some : (r n : ℕ) → 0 < r → r ≤ 2 * n → n ≡ 0 → ⊥
+    some r n h l e = omega arith
+
+    below : (r n : ℕ) → (r ≤ n → ⊥) → n < r
+    below r n h = elim (decLe r n) [ yes l ↦ absurd (h l) | no l ↦ omega arith ]
 
 -- ---- cleared totals
 both : (a b : Bool) → a && b ≡ true → (a ≡ true) × (b ≡ true)

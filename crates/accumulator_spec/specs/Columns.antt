@@ -1,13 +1,12 @@
--- Columns: terms added to a total one after the other (R6.2, R7.5, R7.13).
+-- Columns: terms added to a total one after the other (R6.2, R6.11, R7.5, R7.13).
 use Prim.Native.Nat.{ℕ}
 use mathlib.Core.Path.{_≡_}
 use mathlib.Core.Bool.{true}
 use mathlib.Core.List.{List, [], _∷_}
-use lib.ListN.{replicate}
 use lib.IntN.{ℤ, pos, _+ℤ_}
 use Rattle.pattern_spec.specs.Answer.{done}
 use Rattle.pattern_spec.specs.Exact.{whole}
-use Rattle.accumulator_spec.specs.Totals.{totalSize, Term, finiteOperands, exactTerm, adding, afterAdding}
+use Rattle.accumulator_spec.specs.Totals.{Term, finiteOperands, exactTerm, isMinusZero, termSign, signOfBoth, adding, afterAdding}
 
 -- R7.5, R7.13: the words after all the terms, in this order; a refused one changes nothing
 unfoldable pub column : List ℕ → List Term → List ℕ
@@ -28,3 +27,13 @@ AllFinite (x ∷ xs) = (finiteOperands x ≡ true) × AllFinite xs
 unfoldable pub columnSum : List Term → ℤ
 columnSum [] = pos 0
 columnSum (x ∷ xs) = whole (exactTerm x) +ℤ columnSum xs
+
+-- R6.11: every term is -0
+unfoldable pub AllMinusZero : List Term → Type 0
+AllMinusZero [] = Unit {0}
+AllMinusZero (x ∷ xs) = (isMinusZero (exactTerm x) ≡ true) × AllMinusZero xs
+
+-- R6.11: the sign word of all of them, 0 where there is none
+unfoldable pub columnSign : List Term → ℕ
+columnSign [] = 0
+columnSign (x ∷ xs) = signOfBoth (termSign x) (columnSign xs)

@@ -1,16 +1,17 @@
 -- What holds of joining: that the definitions mean what is asked (R6.9, R6.10, R8.16). Theorems.antt has these statements in its `All`.
 use Prim.Native.Nat.{ℕ, _+_, _^_, _≤_, _<_}
 use mathlib.Core.Path.{_≡_}
-use mathlib.Core.Logic.{_≢_}
+use mathlib.Core.Logic.{_≢_, _↔_}
 use mathlib.Core.Bool.{true, false}
 use mathlib.Core.List.{List, [], _∷_, _++_, Perm}
 use lib.ListN.{length, replicate}
 use lib.IntN.{pos, negsuc, _+ℤ_}
 use Rattle.pattern_spec.specs.Answer.{Answer, refused, done}
 use Rattle.accumulator_spec.specs.Words.{Words}
-use Rattle.accumulator_spec.specs.Totals.{zeros, numberSize, totalSize, mostTerms, number, count, totalOf, fit, FitTotal}
+use Rattle.accumulator_spec.specs.Totals.{zeros, numberSize, totalSize, mostTerms, number, count, signWord, totalOf, fit, FitTotal}
 use Rattle.accumulator_spec.specs.Totals.{Term, adding, afterAdding}
 use Rattle.accumulator_spec.specs.Columns.{column, Accepted, AllFinite}
+use Rattle.accumulator_spec.specs.Carrying.{oldColumn, carriedTerms, carrying, afterCarrying}
 use Rattle.accumulator_spec.specs.Joins.{joining, afterJoining, Joins, JoinsNumbered, Built}
 
 -- ---- one call
@@ -31,13 +32,14 @@ AcceptedJoin =
     → (joining f s ≡ done tt → FitTotal f × FitTotal s × (count f + count s ≤ mostTerms))
     × (FitTotal f → FitTotal s → count f + count s ≤ mostTerms → joining f s ≡ done tt)
 
--- R6.9: a joined total is fit, and holds the exact sum of both numbers and of both counts
+-- R6.9: a joined total is fit, and holds the exact sum of both numbers and of both counts; its sign word is 0 exactly where both are
 abbrev pub ExactJoin : Type 0
 ExactJoin =
     (f s : List ℕ) → joining f s ≡ done tt
     → FitTotal (afterJoining f s)
     × (number (afterJoining f s) ≡ number f +ℤ number s)
     × (count (afterJoining f s) ≡ count f + count s)
+    × (signWord (afterJoining f s) ≡ 0 ↔ ((signWord f ≡ 0) × (signWord s ≡ 0)))
 
 -- R8.1: a refused join leaves the first's words
 abbrev pub RefusedJoin : Type 0
@@ -58,7 +60,8 @@ JoinedAs refusal carriedOut first second answer after =
     → (answer ≡ carriedOut)
     × FitTotal after
     × (number after ≡ number first +ℤ number second)
-    × (count after ≡ count first + count second))))
+    × (count after ≡ count first + count second)
+    × (signWord after ≡ 0 ↔ ((signWord first ≡ 0) × (signWord second ≡ 0))))))
 
 abbrev pub JoinsMeans : Type 0
 JoinsMeans =
@@ -70,13 +73,15 @@ abbrev pub JoinsNumberedMeans : Type 0
 JoinsNumberedMeans =
     (first second after : List ℕ) (n : ℕ) → JoinsNumbered first second n after → JoinedAs (λ k. k) 0 first second n after
 
--- ---- totals that were built (R6.10)
--- the ways of building: from nothing, by one term more, by two totals that were built
+-- ---- totals that were built (R6.10, R6.14)
+-- the ways of building: from nothing, by one term more, by two totals that were built, by an old total of finite terms that is carried over
 abbrev pub BuiltBy : Type 0
 BuiltBy =
     Built zeros []
     × ((t : List ℕ) (xs : List Term) (x : Term) → Built t xs → adding t x ≡ done tt → Built (afterAdding t x) (xs ++ (x ∷ [])))
     × ((t u : List ℕ) (xs ys : List Term) → Built t xs → Built u ys → joining t u ≡ done tt → Built (afterJoining t u) (xs ++ ys))
+    × ((new : List ℕ) (xs : List Term) → AllFinite xs → carrying (oldColumn xs) new ≡ done tt
+    → Built (afterCarrying (oldColumn xs) new) (carriedTerms xs))
 
 -- However it was built, its words are those of one column of all its terms, in any order, each of which that column accepts.
 abbrev pub BuiltIsColumn : Type 0
@@ -112,9 +117,10 @@ EmptyJoins =
 -- of the second before 12
 abbrev pub JoinLandmarks : Type 0
 JoinLandmarks =
-    (afterJoining (replicate numberSize 0xffff_ffff ++ (3 ∷ [])) (1 ∷ replicate 19 0 ++ (4 ∷ [])) ≡ replicate numberSize 0 ++ (7 ∷ []))
-    × (afterJoining (totalOf (negsuc 0) 3) (totalOf (negsuc 0xffff_ffff) 4) ≡ totalOf (negsuc (2 ^ 32)) 7)
-    × (joining (totalOf (pos 5) 65535) (totalOf (pos 0) 1) ≡ done tt)
-    × (joining (totalOf (pos 5) 65535) (totalOf (pos 0) 2) ≡ refused 12)
-    × (joining (totalOf (pos 1) 0) [] ≡ refused 6)
-    × (joining (totalOf (pos 1) 65536) (totalOf (pos 0) 1 ++ (0 ∷ [])) ≡ refused 5)
+    (afterJoining (replicate numberSize 0xffff_ffff ++ (3 ∷ 1 ∷ [])) (1 ∷ replicate 19 0 ++ (4 ∷ 1 ∷ []))
+    ≡ replicate numberSize 0 ++ (7 ∷ 1 ∷ []))
+    × (afterJoining (totalOf (negsuc 0) 3 1) (totalOf (negsuc 0xffff_ffff) 4 1) ≡ totalOf (negsuc (2 ^ 32)) 7 1)
+    × (joining (totalOf (pos 5) 65535 1) (totalOf (pos 0) 1 1) ≡ done tt)
+    × (joining (totalOf (pos 5) 65535 1) (totalOf (pos 0) 2 1) ≡ refused 12)
+    × (joining (totalOf (pos 1) 0 0) [] ≡ refused 6)
+    × (joining (totalOf (pos 1) 65536 1) (totalOf (pos 0) 1 1 ++ (0 ∷ [])) ≡ refused 5)

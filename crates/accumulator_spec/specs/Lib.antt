@@ -1,7 +1,9 @@
 pub mod Words
 pub mod Totals
 pub mod Columns
+pub mod Carrying
 pub mod Joins
 pub mod JoinTheorems
+pub mod SignTheorems
 pub mod Theorems
 pub mod Inner

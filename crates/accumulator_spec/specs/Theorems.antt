@@ -1,8 +1,9 @@
 -- What holds of words and of totals: that the definitions mean what is asked (R6, R8.7 to R8.9). Each name is a statement, proved in
--- proofs/ (proofs/Theorems.antt has them together). Those of joining stand in JoinTheorems.antt.
+-- proofs/ (proofs/Theorems.antt has them together). Those of joining stand in JoinTheorems.antt, those of the sign word and of totals
+-- that are carried over in SignTheorems.antt.
 use Prim.Native.Nat.{ℕ, suc, _-_, _*_, _/_, _%_, _^_, _≤_, _<_}
 use mathlib.Core.Path.{_≡_}
-use mathlib.Core.Logic.{_≢_, _↔_}
+use mathlib.Core.Logic.{_≢_, _↔_, _⊎_}
 use mathlib.Core.Bool.{Bool, true, false, not, _&&_}
 use mathlib.Core.List.{List, [], _∷_, _++_, Perm}
 use lib.Dec.{ltb}
@@ -15,14 +16,18 @@ use Rattle.pattern_spec.specs.Exact.{whole, int}
 use Rattle.pattern_spec.specs.Classes.{zeroPattern}
 use Rattle.augmented_spec.specs.Pairs.{pairOf, sumPair, productPair}
 use Rattle.accumulator_spec.specs.Words.{Words, natural, integer, wordsOfInteger}
-use Rattle.accumulator_spec.specs.Totals.{zeros, numberSize, totalSize, mostTerms, number, count, totalOf, fit, FitTotal, isCleared}
-use Rattle.accumulator_spec.specs.Totals.{Term, ofPattern, ofProduct, finiteOperands, exactTerm, adding, afterAdding}
-use Rattle.accumulator_spec.specs.Totals.{Adds, AddsNumbered, Clears}
-use Rattle.accumulator_spec.specs.Totals.{clearing, afterClearing, pairRead, exactNumber, pairAnswer, reading}
-use Rattle.accumulator_spec.specs.Columns.{column, Accepted, AllFinite, columnSum}
+use Rattle.accumulator_spec.specs.Totals.{zeros, numberSize, totalSize, mostTerms, number, count, signWord, totalOf, fit, FitTotal}
+use Rattle.accumulator_spec.specs.Totals.{isCleared, Term, ofPattern, ofProduct, finiteOperands, exactTerm, isMinusZero}
+use Rattle.accumulator_spec.specs.Totals.{adding, afterAdding, Adds, AddsNumbered, Clears}
+use Rattle.accumulator_spec.specs.Totals.{clearing, afterClearing, pairRead, exactNumber, exactTotal, pairAnswer, reading}
+use Rattle.accumulator_spec.specs.Columns.{column, Accepted, AllFinite, columnSum, columnSign}
+use Rattle.accumulator_spec.specs.Carrying.{oldSize}
 use Rattle.accumulator_spec.specs.JoinTheorems.{JoiningRefused, AcceptedJoin, ExactJoin, RefusedJoin, JoinsMeans, JoinsNumberedMeans}
 use Rattle.accumulator_spec.specs.JoinTheorems.{BuiltBy, BuiltIsColumn, JoinedIsColumn, ColumnsJoin, ColumnBuilt, EmptyJoins}
 use Rattle.accumulator_spec.specs.JoinTheorems.{JoinLandmarks}
+use Rattle.accumulator_spec.specs.SignTheorems.{SignOfBothIs, PatternMinusZero, ProductMinusZero, UnfitSigns, ColumnSignIs}
+use Rattle.accumulator_spec.specs.SignTheorems.{ColumnMinusZero, CarryingRefused, CarriesMeans, CarriesNumberedMeans, OldReads}
+use Rattle.accumulator_spec.specs.SignTheorems.{CarriedFit, OldColumnIs, CarriedTermsAre, CarriedColumn, SignLandmarks}
 
 -- ---- words, however many (R6.1)
 -- word i counts 2 ^ (32 i); the words of -(n + 1) are the complements of n's
@@ -49,35 +54,41 @@ IntegerHeld = (k : ℕ) (z : ℤ) → 2 * natAbs z < 2 ^ (32 * k) → integer (w
 abbrev pub WordsUnique : Type 0
 WordsUnique = (ws : List ℕ) → Words ws → wordsOfInteger (length ws) (integer ws) ≡ ws
 
--- R6.1, R6.3: a total has 21 words, 20 of them for its number, and takes 65,536 terms
+-- R6.1, R6.3, R6.13: a total has 22 words, 20 of them for its number, and takes 65,536 terms; it had 21
 abbrev pub TotalSizes : Type 0
-TotalSizes = (totalSize ≡ 21) × (numberSize ≡ 20) × (mostTerms ≡ 65536)
+TotalSizes = (totalSize ≡ 22) × (numberSize ≡ 20) × (mostTerms ≡ 65536) × (oldSize ≡ 21)
 
--- ---- the number and the count of a total (R6.1)
--- the count stands behind the words of the number
+-- ---- the number, the count and the sign word of a total (R6.1)
+-- the count stands behind the words of the number, and behind that the sign word
 abbrev pub NumberAndCount : Type 0
 NumberAndCount =
-    (ws : List ℕ) (n : ℕ) → length ws ≡ numberSize → (number (ws ++ (n ∷ [])) ≡ integer ws) × (count (ws ++ (n ∷ [])) ≡ n)
+    (ws : List ℕ) (n w : ℕ) → length ws ≡ numberSize → let t = ws ++ (n ∷ w ∷ []) in
+    (number t ≡ integer ws) × (count t ≡ n) × (signWord t ≡ w)
 
 -- every number of magnitude below 2 ^ 639 has its words,
 abbrev pub NumberHeld : Type 0
-NumberHeld = (z : ℤ) (n : ℕ) → natAbs z < 2 ^ 639 → (number (totalOf z n) ≡ z) × (count (totalOf z n) ≡ n)
+NumberHeld =
+    (z : ℤ) (n w : ℕ) → natAbs z < 2 ^ 639 → let t = totalOf z n w in (number t ≡ z) × (count t ≡ n) × (signWord t ≡ w)
 
--- and these alone: the words of a total are those of their number and count.
+-- and these alone: the words of a total are those of their number, count and sign word.
 abbrev pub TotalUnique : Type 0
-TotalUnique = (t : List ℕ) → length t ≡ totalSize → Words t → totalOf (number t) (count t) ≡ t
+TotalUnique = (t : List ℕ) → length t ≡ totalSize → Words t → totalOf (number t) (count t) (signWord t) ≡ t
 
 -- the words of 1, 2 ^ 32, -1 and -2 ^ 32
 abbrev pub TotalLandmarks : Type 0
 TotalLandmarks =
-    (totalOf (pos 1) 7 ≡ 1 ∷ replicate 19 0 ++ (7 ∷ []))
-    × (totalOf (pos (2 ^ 32)) 7 ≡ 0 ∷ 1 ∷ replicate 18 0 ++ (7 ∷ []))
-    × (totalOf (negsuc 0) 7 ≡ replicate numberSize 0xffff_ffff ++ (7 ∷ []))
-    × (totalOf (negℤ (pos (2 ^ 32))) 7 ≡ 0 ∷ replicate 19 0xffff_ffff ++ (7 ∷ []))
+    (totalOf (pos 1) 7 1 ≡ 1 ∷ replicate 19 0 ++ (7 ∷ 1 ∷ []))
+    × (totalOf (pos (2 ^ 32)) 7 1 ≡ 0 ∷ 1 ∷ replicate 18 0 ++ (7 ∷ 1 ∷ []))
+    × (totalOf (negsuc 0) 7 1 ≡ replicate numberSize 0xffff_ffff ++ (7 ∷ 1 ∷ []))
+    × (totalOf (negℤ (pos (2 ^ 32))) 7 1 ≡ 0 ∷ replicate 19 0xffff_ffff ++ (7 ∷ 1 ∷ []))
 
--- R6.3: both bounds are inclusive
+-- R6.3: both bounds are inclusive; R6.12: the last word is 0 or 1, 0 with the number 0 only and 1 with terms only
 abbrev pub FitIs : Type 0
-FitIs = (t : List ℕ) → (fit t ≡ true) ↔ ((count t ≤ mostTerms) × (natAbs (number t) ≤ count t * 2 ^ 554))
+FitIs =
+    (t : List ℕ)
+    → (fit t ≡ true)
+    ↔ ((count t ≤ mostTerms) × (natAbs (number t) ≤ count t * 2 ^ 554)
+    × (signWord t ≤ 1) × (signWord t ≡ 0 → number t ≡ pos 0) × (signWord t ≡ 1 → 0 < count t))
 
 -- R6.3: -2 ^ 639 has words, though 2 ^ 639 has none: it is unfit, whatever the count
 abbrev pub LowestUnfit : Type 0
@@ -132,13 +143,14 @@ AcceptedTerm =
     → (adding t x ≡ done tt → FitTotal t × (finiteOperands x ≡ true) × (count t < mostTerms))
     × (FitTotal t → finiteOperands x ≡ true → count t < mostTerms → adding t x ≡ done tt)
 
--- an accepted term: the total is fit again, holds the exact sum, and one term more
+-- an accepted term: the total is fit again, holds the exact sum, one term more, and 0 as the sign word where it did and the term is -0
 abbrev pub ExactAdding : Type 0
 ExactAdding =
     (t : List ℕ) (x : Term) → Words t → adding t x ≡ done tt
     → FitTotal (afterAdding t x)
     × (number (afterAdding t x) ≡ number t +ℤ whole (exactTerm x))
     × (count (afterAdding t x) ≡ suc (count t))
+    × (signWord (afterAdding t x) ≡ 0 ↔ ((signWord t ≡ 0) × (isMinusZero (exactTerm x) ≡ true)))
 
 -- R8.1: a refused one leaves all words
 abbrev pub RefusedTerm : Type 0
@@ -152,17 +164,18 @@ ClearingIs =
     × (length t ≡ totalSize → (clearing t ≡ done tt) × (afterClearing t ≡ zeros))
 
 -- ---- what the contracts' relations say, with an answer of any type that has a `refusal` for each number and `carriedOut`
--- R8.9, R8.1: clearing gives 21 zeros
+-- R8.9, R8.1: clearing gives 22 zeros
 abbrev pub ClearedAs : {A : Type 0} → (ℕ → A) → A → List ℕ → A → List ℕ → Type 0
 ClearedAs refusal carriedOut before answer after =
     (length before ≢ totalSize → (answer ≡ refusal 5) × (after ≡ before))
-    × (length before ≡ totalSize → (answer ≡ carriedOut) × (after ≡ replicate 21 0))
+    × (length before ≡ totalSize → (answer ≡ carriedOut) × (after ≡ replicate 22 0))
 
 abbrev pub ClearsMeans : Type 0
 ClearsMeans =
     (before after : List ℕ) (answer : Answer (Unit {0})) → Clears before answer after → ClearedAs refused (done tt) before answer after
 
--- R8.7, R8.1: the four refusals in their order, which leave the words; else a fit total, whose number is the exact sum, and one term more
+-- R8.7, R8.1: the four refusals in their order, which leave the words; else a fit total, whose number is the exact sum, one term more, and
+-- 0 as the sign word where it was 0 and the term is -0 (R6.11)
 abbrev pub AddedAs : {A : Type 0} → (ℕ → A) → A → List ℕ → Term → A → List ℕ → Type 0
 AddedAs refusal carriedOut before x answer after =
     (length before ≢ totalSize → (answer ≡ refusal 5) × (after ≡ before))
@@ -174,7 +187,8 @@ AddedAs refusal carriedOut before x answer after =
     → (answer ≡ carriedOut)
     × FitTotal after
     × (number after ≡ number before +ℤ whole (exactTerm x))
-    × (count after ≡ suc (count before))))
+    × (count after ≡ suc (count before))
+    × (signWord after ≡ 0 ↔ ((signWord before ≡ 0) × (isMinusZero (exactTerm x) ≡ true)))))
 
 abbrev pub AddsMeans : Type 0
 AddsMeans =
@@ -213,9 +227,10 @@ abbrev pub ExactColumn : Type 0
 ExactColumn =
     (xs : List Term) → length xs ≤ mostTerms → AllFinite xs
     → Accepted zeros xs
-    × (column zeros xs ≡ totalOf (columnSum xs) (length xs))
+    × (column zeros xs ≡ totalOf (columnSum xs) (length xs) (columnSign xs))
     × (number (column zeros xs) ≡ columnSum xs)
     × (count (column zeros xs) ≡ length xs)
+    × (signWord (column zeros xs) ≡ columnSign xs)
     × FitTotal (column zeros xs)
 
 -- in any order
@@ -228,15 +243,19 @@ abbrev pub ReadingRefused : Type 0
 ReadingRefused =
     (t : List ℕ) → (length t ≢ totalSize → reading t ≡ refused 5) × (length t ≡ totalSize → fit t ≡ false → reading t ≡ refused 6)
 
--- every fit total reads the pair of its number,
+-- every fit total reads the pair of its exact value, which is its number, but -0 where it has terms and the sign word 0,
 abbrev pub ReadFit : Type 0
-ReadFit = (t : List ℕ) → FitTotal t → reading t ≡ pairAnswer (pairOf binary32 (exactNumber (number t)))
+ReadFit =
+    (t : List ℕ) → FitTotal t
+    → (reading t ≡ pairAnswer (pairOf binary32 (exactTotal (number t) (count t) (signWord t))))
+    × ((signWord t ≡ 1) ⊎ (count t ≡ 0) → reading t ≡ pairAnswer (pairOf binary32 (exactNumber (number t))))
+    × (signWord t ≡ 0 → 0 < count t → reading t ≡ pairAnswer (pairOf binary32 (finite true 0)))
 
 -- so that a column reads the pair of its exact sum
 abbrev pub ReadColumn : Type 0
 ReadColumn =
     (xs : List Term) → length xs ≤ mostTerms → AllFinite xs
-    → reading (column zeros xs) ≡ pairAnswer (pairOf binary32 (exactNumber (columnSum xs)))
+    → reading (column zeros xs) ≡ pairAnswer (pairOf binary32 (exactTotal (columnSum xs) (length xs) (columnSign xs)))
 
 -- the number that is rounded is the total's, not another
 abbrev pub ExactBack : Type 0
@@ -246,7 +265,7 @@ ExactBack = (z : ℤ) → whole (exactNumber z) ≡ z
 -- zero of first's sign
 abbrev pub ReadFinite : Type 0
 ReadFinite =
-    (t : List ℕ) (s : Bool) (a : ℕ) → FitTotal t → RN0 binary32 (exactNumber (number t)) ≡ finite s a
+    (t : List ℕ) (s : Bool) (a : ℕ) → FitTotal t → RN0 binary32 (exactTotal (number t) (count t) (signWord t)) ≡ finite s a
     → reading t
     ≡ pairRead (encode binary32 (finite s a))
     (zeroPattern s (encode binary32 (RN0 binary32 (exactNumber (number t +ℤ int (not s) (a * 2 ^ 149))))))
@@ -257,9 +276,13 @@ ReadOverflow =
     (t : List ℕ) (s : Bool) (N : ℕ) → FitTotal t → number t ≡ int s N → edge binary32 < N
     → reading t ≡ pairRead (encode binary32 (infinite s)) (encode binary32 (infinite s))
 
--- R6.8: the total zero
+-- R6.8: a zero total: -0 twice where it has terms and the sign word 0, +0 twice where it has another, or no terms
 abbrev pub ReadZero : Type 0
-ReadZero = (t : List ℕ) → FitTotal t → number t ≡ pos 0 → reading t ≡ pairRead 0 0
+ReadZero =
+    (t : List ℕ) → FitTotal t → number t ≡ pos 0
+    → (0 < count t → signWord t ≡ 0 → reading t ≡ pairRead 0x8000_0000 0x8000_0000)
+    × (signWord t ≢ 0 → reading t ≡ pairRead 0 0)
+    × (count t ≡ 0 → reading t ≡ pairRead 0 0)
 
 -- R6.6: a total that is not zero, of a magnitude up to 2 ^ -150, which is half of u, reads a zero of its own sign twice
 abbrev pub ReadRoundedToZero : Type 0
@@ -267,17 +290,16 @@ ReadRoundedToZero =
     (t : List ℕ) (s : Bool) (N : ℕ) → FitTotal t → number t ≡ int s (suc N) → suc N ≤ 2 ^ 148
     → reading t ≡ pairRead (encode binary32 (finite s 0)) (encode binary32 (finite s 0))
 
--- two patterns read their sum pair (R3.1) where the exact result is not zero (a zero total forgets signs),
+-- two patterns read their sum pair (R3.1), that of zeros too,
 abbrev pub ReadSum : Type 0
 ReadSum =
     (x y : ℕ) → finiteOperands (ofPattern x) ≡ true → finiteOperands (ofPattern y) ≡ true
-    → columnSum (ofPattern x ∷ ofPattern y ∷ []) ≢ pos 0
     → reading (column zeros (ofPattern x ∷ ofPattern y ∷ [])) ≡ pairRead (sumPair binary32 x y .first) (sumPair binary32 x y .second)
 
 -- and a product its product pair (R3.2)
 abbrev pub ReadProduct : Type 0
 ReadProduct =
-    (x y : ℕ) → finiteOperands (ofProduct x y) ≡ true → columnSum (ofProduct x y ∷ []) ≢ pos 0
+    (x y : ℕ) → finiteOperands (ofProduct x y) ≡ true
     → reading (column zeros (ofProduct x y ∷ [])) ≡ pairRead (productPair binary32 x y .first) (productPair binary32 x y .second)
 
 -- all of them
@@ -289,3 +311,5 @@ All =
     × AcceptedEach × AllFiniteIs × ExactColumn × AnyOrder × ReadingRefused × ReadFit × ReadColumn × ExactBack × ReadFinite × ReadOverflow
     × ReadZero × ReadRoundedToZero × ReadSum × ReadProduct × JoiningRefused × AcceptedJoin × ExactJoin × RefusedJoin × JoinsMeans
     × JoinsNumberedMeans × BuiltBy × BuiltIsColumn × JoinedIsColumn × ColumnsJoin × ColumnBuilt × EmptyJoins × JoinLandmarks
+    × SignOfBothIs × PatternMinusZero × ProductMinusZero × UnfitSigns × ColumnSignIs × ColumnMinusZero × CarryingRefused × CarriesMeans
+    × CarriesNumberedMeans × OldReads × CarriedFit × OldColumnIs × CarriedTermsAre × CarriedColumn × SignLandmarks

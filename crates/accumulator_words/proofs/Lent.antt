@@ -46,7 +46,7 @@ module _ (t : List ℕ) where
   to-add {G} five six eight none =
       by-number (λ h n. five h (rw n)) (λ h n. six h (rw n))
       (λ h n.
-      elim (eq-or-lt-of-le (fit-bounds t (h .1) .0)) [
+      elim (eq-or-lt-of-le (fit-bounds t (h .1) .few)) [
         | inl k ↦ eight (h, k) (rw (n, eq-eqb (count t) mostTerms k))
         | inr k ↦ none (h, k) (rw (n, ne-eqb (count t) mostTerms (λ e. absurd (omega arith))))
       ])

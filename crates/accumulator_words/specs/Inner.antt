@@ -12,7 +12,7 @@ use Rattle.accumulator_spec.specs.Inner.{carried}
 use Rattle.accumulator_spec.specs.Totals.{totalSize, mostTerms, count, fit}
 use Rattle.accumulator_words.specs.declared.Placed.{Placed}
 
--- what a placed term counts, from the lowest word of the number on
+-- R6.2, R6.4: what a placed term counts, from the lowest word of the number on
 abbrev pub placedInteger : Placed → ℤ
 placedInteger term = int (term .minus) (term .sig * 2 ^ (32 * term .word + term .shift))
 

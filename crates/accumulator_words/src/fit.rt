@@ -1,15 +1,20 @@
-// Whether lent words are a fit total (R6.3), and one that takes a term: the top words tell, but at the limit itself.
+// Whether lent words are a fit total (R6.3, R6.12), and one that takes a term: the top words tell, but at the limit itself.
 use crate::is_zero;
 use crate::wide;
 use accumulator_spec::MOST_TERMS;
 use accumulator_spec::NUMBER_SIZE;
+use accumulator_spec::OLD_SIZE;
+use accumulator_spec::SIGN_WORD;
 use accumulator_spec::TOTAL_SIZE;
 use choose::choose_pattern;
 ghost use mathlib.Core.Path.{_≡_};
 ghost use mathlib.Core.Bool.{true, cond};
+ghost use Prim.Native.Nat.{_<_};
 ghost use lib.ListN.{length};
+ghost use Rattle.pattern_spec.specs.Answer.{refusalOf};
 ghost use Rattle.accumulator_spec.specs.Words.{complement};
-ghost use Rattle.accumulator_spec.specs.Totals.{totalSize, fit};
+ghost use Rattle.accumulator_spec.specs.Totals.{numberSize, totalSize, withinLimits, signFits, fit};
+ghost use Rattle.accumulator_spec.specs.Carrying.{carrying};
 ghost use Rattle.accumulator_words.specs.Inner.{fault, faultToAdd, belowLimit};
 
 // The top three words of the number: the limit counts the weight of the third.
@@ -48,8 +53,24 @@ pub fn refusal_to_add(total: &[u32]) -> u32
     choose_pattern(total[NUMBER_SIZE] == MOST_TERMS, 8, 0)
 }
 
+// Of a total that is to be carried over into lent words, whatever these hold: 5, 6 or 0 (R8.17).
+pub fn refusal_to_carry(old: &[u32], new: &[u32]) -> u32
+    ensures { λ r. ⌜ r ≡ refusalOf (carrying (now (old .entry)) (now (new .entry))) ⌝ }
+{
+    if old.len() != OLD_SIZE {
+        return 5;
+    }
+    if new.len() != TOTAL_SIZE {
+        return 5;
+    }
+    if !within_limits(old) {
+        return 6;
+    }
+    0
+}
+
 // Count and number are below their limits, by words that nearly every total has: of the top two nothing but the sign, all zeros or all
-// ones. False leaves it open.
+// ones; and the sign word is 1. False leaves it open.
 fn has_room(total: &[u32]) -> bool
     ensures { λ r. ⌜ (r ≡ true → faultToAdd (now (total .entry)) ≡ 0) ⌝ }
 {
@@ -60,6 +81,9 @@ fn has_room(total: &[u32]) -> bool
     if n >= MOST_TERMS {
         return false;
     }
+    if total[SIGN_WORD] != 1 {
+        return false;
+    }
     let upper = wide(total[NEXT]) + wide(total[TOP]) * 0x1_0000_0000;
     if std::num::wrapping_add_u64(upper, 1) > 1 {
         return false;
@@ -67,11 +91,35 @@ fn has_room(total: &[u32]) -> bool
     (total[THIRD] ^ total[TOP]) < n * 1024
 }
 
-// The limit is count * 1024 times the weight of the third. A negative number is below it where its complement, which is smaller
-// by one, is: no negation, so that -2^639 needs no care.
 fn is_fit(total: &[u32]) -> bool
     requires { ⌜ length (now total) ≡ totalSize ⌝ }
     ensures { λ r. ⌜ r ≡ fit (now (total .entry)) ⌝ }
+{
+    if !within_limits(total) {
+        return false;
+    }
+    sign_fits(total)
+}
+
+// The sign word is 0 or 1; with 0 the number is 0, and with 1 there are terms.
+fn sign_fits(total: &[u32]) -> bool
+    requires { ⌜ length (now total) ≡ totalSize ⌝ }
+    ensures { λ r. ⌜ r ≡ signFits (now (total .entry)) ⌝ }
+{
+    if total[SIGN_WORD] > 1 {
+        return false;
+    }
+    if total[SIGN_WORD] == 0 {
+        return is_zero(&total[0..NUMBER_SIZE]);
+    }
+    total[NUMBER_SIZE] != 0
+}
+
+// Of a total or of an old one. The limit is count * 1024 times the weight of the third. A negative number is below it where its complement,
+// which is smaller by one, is: no negation, so that -2^639 needs no care.
+fn within_limits(total: &[u32]) -> bool
+    requires { ⌜ numberSize < length (now total) ⌝ }
+    ensures { λ r. ⌜ r ≡ withinLimits (now (total .entry)) ⌝ }
 {
     let n = total[NUMBER_SIZE];
     if n > MOST_TERMS {

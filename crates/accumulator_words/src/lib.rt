@@ -10,7 +10,7 @@ ghost use Rattle.accumulator_spec.specs.Words.{allZero};
 ghost use Rattle.accumulator_spec.specs.Inner.{carried};
 ghost use Rattle.accumulator_words.specs.Inner.{afterPlaced, TwoWordsAdded};
 
-// A term and where it goes in the words of a number: ±sig * 2^shift from `word` on. Worked out once, before the walk over the words.
+// A term and where it goes in the words of a number: ±sig * 2^shift from `word` on. All that the walk over the words asks of a term (R6.4).
 pub struct Placed {
     pub minus: bool,
     pub sig: u64,

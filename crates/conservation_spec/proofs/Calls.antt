@@ -5,9 +5,9 @@ use Prim.Native.Nat.{_+_}
 use native.Mathlib.Omega.{arith}
 use Rattle.rounding_spec.specs.Format.{binary32}
 use Rattle.augmented_spec.specs.Pairs.{pairOf}
-use Rattle.accumulator_spec.specs.Totals.{exactNumber, pairAnswer, reading}
+use Rattle.accumulator_spec.specs.Totals.{pairAnswer, reading}
 use Rattle.conservation_spec.specs.Lists.{Totals, Side, onFirst, onOther, totalOn}
-use Rattle.conservation_spec.specs.Lists.{Event, asks, reads, adds, afterEvent, afterEvents, book, questions}
+use Rattle.conservation_spec.specs.Lists.{Event, asks, reads, adds, afterEvent, afterEvents, questions, bookValue}
 use Rattle.conservation_spec.specs.Claim.{BothHold, Met}
 use Rattle.conservation_spec.specs.Theorems.{cleared, MetEach, ReadEach}
 use Rattle.conservation_spec.proofs.Allowed.{allowed-here}
@@ -25,7 +25,7 @@ questions-append (asks q ∷ es) fs = omega (arith, questions-append es fs)
 questions-append (reads side ∷ es) fs = questions-append es fs
 questions-append (adds side x ∷ es) fs = questions-append es fs
 
-read-on : (side : Side) (t : Totals) (es : List Event) → BothHold t es → reading (totalOn side t) ≡ pairAnswer (pairOf binary32 (exactNumber (book es)))
+read-on : (side : Side) (t : Totals) (es : List Event) → BothHold t es → reading (totalOn side t) ≡ pairAnswer (pairOf binary32 (bookValue es))
 read-on onFirst t es h = h .firstRead
 read-on onOther t es h = h .otherRead
 

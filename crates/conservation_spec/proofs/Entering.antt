@@ -1,4 +1,4 @@
--- An entering question: the terms of its foot and the terms set are finite, and both add up to its exact result.
+-- An entering question: the terms of its foot and the terms set are finite, both add up to its exact result, and have its sign word.
 use mathlib.Core.Path.{_≡_, refl, sym, ap, ap₂, _∙_, subst}
 use mathlib.Core.Logic.{_≢_}
 use mathlib.Core.Bool.{true≢false, Bool, true, false, not, _&&_}
@@ -19,11 +19,12 @@ use Rattle.worksheet_spec.proofs.Theorems.{filled-pair}
 use Rattle.pattern_spec.specs.Classes.{bothFinite}
 use Rattle.pattern_spec.specs.Exact.{whole}
 use Rattle.accumulator_spec.specs.Totals.{ofPattern, exactTerm}
-use Rattle.accumulator_spec.specs.Columns.{AllFinite, columnSum}
+use Rattle.accumulator_spec.specs.Columns.{AllFinite, columnSum, columnSign}
 use Rattle.accumulator_spec.proofs.Landmarks.{pattern-term}
 use Rattle.conservation_spec.specs.Lists.{Posed, sheetFor, operationFor, directFor, pairEnters, enters, footTerms, setTerms}
-use Rattle.conservation_spec.specs.Lists.{exactOfPatterns, oneSum, oneProduct}
+use Rattle.conservation_spec.specs.Lists.{exactOfPatterns, signOfPatterns, oneSum, oneProduct}
 use Rattle.conservation_spec.proofs.Operands.{both, number-of, operands, result-is, terms-sum, terms-finite}
+use Rattle.conservation_spec.proofs.Signs.{set-sign, foot-sign}
 
 pub not-true : (b : Bool) → not b ≡ true → b ≡ false
 not-true false e = refl
@@ -33,14 +34,17 @@ not-true true e = absurd (true≢false (sym e))
 record Halves (o : Operation) (x y : ℕ) (p : Pair) : Type 0 where
   pub finite : AllFinite (ofPattern (p .first) ∷ ofPattern (p .second) ∷ [])
   pub adds : columnSum (ofPattern (p .first) ∷ ofPattern (p .second) ∷ []) ≡ exactOfPatterns o x y
+  pub sign : columnSign (ofPattern (p .first) ∷ ofPattern (p .second) ∷ []) ≡ signOfPatterns o x y
 
 two-halves : (o : Operation) (x y : ℕ) (p : Pair) (E : ℤ) (q : Bool) (c : ℕ) (r : Bool) (d : ℕ) → decode binary32 (p .first) ≡ finite q c → decode binary32 (p .second) ≡ finite r d
-    → finerInt binary32 q c +ℤ finerInt binary32 r d ≡ E → exactOfPatterns o x y ≡ E → Halves o x y p
+    → finerInt binary32 q c +ℤ finerInt binary32 r d ≡ E → exactOfPatterns o x y ≡ E
+    → columnSign (ofPattern (p .first) ∷ ofPattern (p .second) ∷ []) ≡ signOfPatterns o x y → Halves o x y p
 unfolding AllFinite columnSum
-two-halves o x y p E q c r d e f s g =
+two-halves o x y p E q c r d e f s g w =
     record {
       finite = (ap isFinite e, (ap isFinite f, tt));
       adds = ap₂ _+ℤ_ (pattern-term (p .first) q c e) (+ℤ-idr (whole (exactTerm (ofPattern (p .second)))) ∙ pattern-term (p .second) r d f) ∙ s ∙ sym g;
+      sign = w;
     }
 
 module _ (x y : ℕ) (width : y < 2 ^ 32) where
@@ -52,6 +56,7 @@ module _ (x y : ℕ) (width : y < 2 ^ 32) where
       let g = sum-adds-up o binary32 _ _ _ n h (f .sign) (f .magnitude) (f .is) in
       two-halves o x y (directPair o binary32 x y) _ (f .sign) (f .magnitude) (g .0) (g .1) (f .is) (g .2) (g .3)
       (result-is x y (m .0 .sign) (m .0 .magnitude) (m .1 .sign) (m .1 .magnitude) width (m .0 .is) (m .1 .is) o)
+      (foot-sign o x y (m .0 .sign) (m .0 .magnitude) (m .1 .sign) (m .1 .magnitude) (m .0 .is) (m .1 .is) _ h (f .sign) (f .magnitude) (g .0) (g .1) (f .is) (g .2) (g .3))
 
   by-product : isFinite (decode binary32 (directPair product binary32 x y .first)) ≡ true → directPair product binary32 x y .flags .inexact ≡ false
       → Halves product x y (directPair product binary32 x y)
@@ -62,6 +67,7 @@ module _ (x y : ℕ) (width : y < 2 ^ 32) where
       let g = product-adds-up binary32 _ _ _ h (f .sign) (f .magnitude) (f .is) in
       two-halves product x y (directPair product binary32 x y) _ (f .sign) (f .magnitude) (g .0) (g .1) (f .is) (g .2) (g .4 i)
       (result-is x y (m .0 .sign) (m .0 .magnitude) (m .1 .sign) (m .1 .magnitude) width (m .0 .is) (m .1 .is) product)
+      (foot-sign product x y (m .0 .sign) (m .0 .magnitude) (m .1 .sign) (m .1 .magnitude) (m .0 .is) (m .1 .is) _ h (f .sign) (f .magnitude) (g .0) (g .1) (f .is) (g .2) (g .4 i))
 
   halves : (o : Operation) → isFinite (decode binary32 (directPair o binary32 x y .first)) ≡ true → directPair o binary32 x y .flags .inexact ≡ false → Halves o x y (directPair o binary32 x y)
   halves sum e i = by-sum sum (λ (q : sum ≡ product). apart q) e
@@ -78,9 +84,11 @@ module _ (x y : ℕ) (width : y < 2 ^ 32) where
 pub record Entering (q : Posed) : Type 0 where
   pub footFinite : AllFinite (footTerms (sheetFor q))
   pub footAdds : columnSum (footTerms (sheetFor q)) ≡ exactOfPatterns (operationFor q) (q .x) (q .y)
+  pub footSign : columnSign (footTerms (sheetFor q)) ≡ signOfPatterns (operationFor q) (q .x) (q .y)
   pub footCount : length (footTerms (sheetFor q)) ≡ 2 * (oneSum (operationFor q) + oneProduct (operationFor q))
   pub setFinite : AllFinite (setTerms (operationFor q) (q .x) (q .y))
   pub setAdds : columnSum (setTerms (operationFor q) (q .x) (q .y)) ≡ exactOfPatterns (operationFor q) (q .x) (q .y)
+  pub setSign : columnSign (setTerms (operationFor q) (q .x) (q .y)) ≡ signOfPatterns (operationFor q) (q .x) (q .y)
   pub setCount : length (setTerms (operationFor q) (q .x) (q .y)) ≡ 2 * oneSum (operationFor q) + oneProduct (operationFor q)
 
 foot-count : (o : Operation) → 2 ≡ 2 * (oneSum o + oneProduct o)
@@ -113,8 +121,10 @@ entering q width e =
     record {
       footFinite = subst AllFinite (sym is) (h .finite);
       footAdds = ap columnSum is ∙ h .adds;
+      footSign = ap columnSign is ∙ h .sign;
       footCount = ap length is ∙ foot-count (operationFor q);
       setFinite = terms-finite (q .x) (q .y) s a t b width (m .0 .is) (m .1 .is) (operationFor q);
       setAdds = terms-sum (q .x) (q .y) s a t b width (m .0 .is) (m .1 .is) (operationFor q) ∙ sym (result-is (q .x) (q .y) s a t b width (m .0 .is) (m .1 .is) (operationFor q));
+      setSign = set-sign (q .x) (q .y) s a t b (m .0 .is) (m .1 .is) width (operationFor q);
       setCount = set-count (operationFor q) (q .x) (q .y);
     }

@@ -1,10 +1,12 @@
-pub mod Book
 pub mod Operands
+pub mod Signs
 pub mod Entering
+pub mod Book
 pub mod Allowed
 pub mod Conservation
 pub mod Settled
 pub mod Claim
+pub mod MinusZeros
 pub mod Calls
 pub mod Others
 pub mod Full

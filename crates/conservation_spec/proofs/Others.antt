@@ -8,9 +8,9 @@ use native.Mathlib.Nat.{le-trans, le-of-eq}
 use lib.IntN.{ℤ, pos, _+ℤ_}
 use lib.ListN.{length}
 use Rattle.rounding_spec.specs.Value.{decode}
-use Rattle.accumulator_spec.specs.Totals.{Term, ofPattern, ofProduct, finiteOperands}
-use Rattle.conservation_spec.specs.Lists.{Posed, operationFor, enters, exactOfPatterns, oneSum, oneProduct, Totals, Side, onFirst, onOther}
-use Rattle.conservation_spec.specs.Lists.{Event, asks, reads, adds, afterEvent, afterEvents, book, questions, enteringSums, enteringProducts}
+use Rattle.accumulator_spec.specs.Totals.{Term, ofPattern, ofProduct, finiteOperands, signOfBoth}
+use Rattle.conservation_spec.specs.Lists.{Posed, operationFor, enters, exactOfPatterns, signOfPatterns, oneSum, oneProduct, Totals, Side, onFirst, onOther}
+use Rattle.conservation_spec.specs.Lists.{Event, asks, reads, adds, afterEvent, afterEvents, book, bookSign, questions, enteringSums, enteringProducts}
 use Rattle.conservation_spec.specs.Claim.{BothHold, Met}
 use Rattle.conservation_spec.specs.Theorems.{Allowed, cleared, otherCalls, withOtherCalls, OnPatterns, AmongOthers}
 use Rattle.conservation_spec.proofs.Allowed.{asks-allowed, reads-allowed, adds-allowed, allowed-first}
@@ -90,17 +90,22 @@ unfolding enteringProducts withOtherCalls
 among-products [] = refl
 among-products (q ∷ qs) = ap (λ (n : ℕ). cond (enters q) (oneProduct (operationFor q)) 0 + n) (among-products qs)
 
--- totals that hold the same book with the same counts
-held-alike : (t u : Totals) (es fs : List Event) → BothHold t es → BothHold u fs → book es ≡ book fs → enteringSums es ≡ enteringSums fs
+among-sign : (qs : List Posed) → bookSign (withOtherCalls qs) ≡ bookSign (map asks qs)
+unfolding bookSign withOtherCalls
+among-sign [] = refl
+among-sign (q ∷ qs) = ap (signOfBoth (cond (enters q) (signOfPatterns (operationFor q) (q .x) (q .y)) 0)) (among-sign qs)
+
+-- totals that hold the same S with the same sign word and the same counts
+held-alike : (t u : Totals) (es fs : List Event) → BothHold t es → BothHold u fs → book es ≡ book fs → bookSign es ≡ bookSign fs → enteringSums es ≡ enteringSums fs
     → enteringProducts es ≡ enteringProducts fs
     → t ≡ u
-held-alike t u es fs h k b s p = words t es h ∙ middle ∙ sym (words u fs k)
+held-alike t u es fs h k b g s p = words t es h ∙ middle ∙ sym (words u fs k)
   where
-    words : (v : Totals) (gs : List Event) → BothHold v gs → v ≡ holding (book gs) (firstTerms gs) (otherTerms gs)
+    words : (v : Totals) (gs : List Event) → BothHold v gs → v ≡ holding (book gs) (bookSign gs) (firstTerms gs) (otherTerms gs)
     words v gs j = ap₂ {C = Totals} (λ (m n : List ℕ). record { first = m; other = n }) (j .firstWords) (j .otherWords)
 
-    middle : holding (book es) (firstTerms es) (otherTerms es) ≡ holding (book fs) (firstTerms fs) (otherTerms fs)
-    middle = rw (b, s, p)
+    middle : holding (book es) (bookSign es) (firstTerms es) (otherTerms es) ≡ holding (book fs) (bookSign fs) (firstTerms fs) (otherTerms fs)
+    middle = rw (b, g, s, p)
 
 -- ---- each addition among them is refused by 7
 unfoldable Special : List Event → Type 0
@@ -133,7 +138,7 @@ among-others a b qs la lb few w =
       n,
       k .0,
       k .1,
-      held-alike (afterEvents t es) (afterEvents t (map asks qs)) es (map asks qs) (k .0) (alone .0) (among-book qs) (among-sums qs) (among-products qs),
+      held-alike (afterEvents t es) (afterEvents t (map asks qs)) es (map asks qs) (k .0) (alone .0) (among-book qs) (among-sign qs) (among-sums qs) (among-products qs),
       λ before after side x e.
           let m = met-each t before after (adds side x) (subst (Met t) (sym e) (k .1)) in
           (m .0 (special-at before after side x (subst Special (sym e) (among-special qs))), m .2),

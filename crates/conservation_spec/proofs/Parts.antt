@@ -7,21 +7,22 @@ use Prim.Native.Nat.{ℕ, _+_, _≤_, _<_}
 use native.Mathlib.Decide.{decLe, ℕ-discrete}
 use native.Mathlib.Nat.{le-trans, le-of-eq, add-assoc, zero-add}
 use native.Mathlib.Omega.{arith}
-use lib.IntN.{ℤ, pos, _+ℤ_}
+use lib.IntN.{pos, _+ℤ_}
 use lib.ListN.{length}
 use Rattle.pattern_spec.specs.Answer.{done, isDone}
 use Rattle.rounding_spec.specs.Format.{binary32}
 use Rattle.augmented_spec.specs.Pairs.{Halves, pairOf}
-use Rattle.accumulator_spec.specs.Totals.{totalSize, mostTerms, number, count, totalOf, fit, Term, finiteOperands, exactNumber, pairAnswer, reading}
+use Rattle.accumulator_spec.specs.Totals.{totalSize, mostTerms, number, count, signWord, totalOf, fit, signOfBoth, Term, finiteOperands, pairAnswer, reading}
 use Rattle.accumulator_spec.specs.Joins.{joining, afterJoining}
 use Rattle.accumulator_spec.proofs.Answers.{reading-length, reading-unfit}
+use Rattle.accumulator_spec.proofs.Held.{total-same}
 use Rattle.accumulator_spec.proofs.Joining.{joins, after-joined}
 use Rattle.conservation_spec.specs.Lists.{mostQuestions, Totals, Event, asks, reads, adds, operationFor, enters, oneSum, oneProduct}
-use Rattle.conservation_spec.specs.Lists.{afterEvent, afterEvents, book, questions, enteringSums, enteringProducts}
+use Rattle.conservation_spec.specs.Lists.{afterEvent, afterEvents, book, bookSign, questions, enteringSums, enteringProducts, bookValue}
 use Rattle.conservation_spec.specs.Claim.{BothHold}
 use Rattle.conservation_spec.specs.Theorems.{Allowed, cleared, afterJoiningBoth, PartsJoined}
 use Rattle.conservation_spec.proofs.Allowed.{asks-only, asks-allowed, reads-allowed, adds-allowed, allowed-here, allowed-append}
-use Rattle.conservation_spec.proofs.Book.{book-append}
+use Rattle.conservation_spec.proofs.Book.{book-append, sign-append}
 use Rattle.conservation_spec.proofs.Calls.{questions-append}
 use Rattle.conservation_spec.proofs.Claim.{entered, start, conserved}
 use Rattle.conservation_spec.proofs.Conservation.{firstTerms, otherTerms}
@@ -58,33 +59,34 @@ module _ (t : List ℕ) (p : Halves) (e : reading t ≡ pairAnswer p) where
       go false h = absurd (true≢false (sym (ap isDone e) ∙ ap isDone (reading-unfit t full h)))
 
 -- ---- one total of each part
-record Holds (t : List ℕ) (z : ℤ) (n : ℕ) : Type 0 where
-  is : number t ≡ z
+record Holds (t : List ℕ) (es : List Event) (n : ℕ) : Type 0 where
+  is : number t ≡ book es
   counted : count t ≡ n
-  read : reading t ≡ pairAnswer (pairOf binary32 (exactNumber z))
+  word : signWord t ≡ bookSign es
+  read : reading t ≡ pairAnswer (pairOf binary32 (bookValue es))
 
 module _ (t : Totals) (es : List Event) (b : BothHold t es) where
-  first-holds : Holds (t .first) (book es) (firstTerms es)
-  first-holds = record { is = b .firstNumber; counted = b .firstCount; read = b .firstRead }
+  first-holds : Holds (t .first) es (firstTerms es)
+  first-holds = record { is = b .firstNumber; counted = b .firstCount; word = b .firstSign; read = b .firstRead }
 
-  other-holds : Holds (t .other) (book es) (otherTerms es)
-  other-holds = record { is = b .otherNumber; counted = b .otherCount; read = b .otherRead }
+  other-holds : Holds (t .other) es (otherTerms es)
+  other-holds = record { is = b .otherNumber; counted = b .otherCount; word = b .otherSign; read = b .otherRead }
 
-module _ (t u : List ℕ) (y z : ℤ) (m n : ℕ) (h : Holds t y m) (k : Holds u z n) (room : m + n ≤ mostTerms) where
+module _ (t u : List ℕ) (es fs : List Event) (m n : ℕ) (h : Holds t es m) (k : Holds u fs n) (room : m + n ≤ mostTerms) where
   joined : joining t u ≡ done tt
   joined =
-      let p = pairOf binary32 (exactNumber y) in
-      let q = pairOf binary32 (exactNumber z) in
+      let p = pairOf binary32 (bookValue es) in
+      let q = pairOf binary32 (bookValue fs) in
       joins t u (full t p (h .read)) (fits t p (h .read)) (full u q (k .read)) (fits u q (k .read)) (le-trans (le-of-eq (ap₂ _+_ (h .counted) (k .counted))) room)
 
-  words-joined : afterJoining t u ≡ totalOf (y +ℤ z) (m + n)
-  words-joined = after-joined t u joined ∙ ap₂ totalOf (ap₂ _+ℤ_ (h .is) (k .is)) (ap₂ _+_ (h .counted) (k .counted))
+  words-joined : afterJoining t u ≡ totalOf (book es +ℤ book fs) (m + n) (signOfBoth (bookSign es) (bookSign fs))
+  words-joined = after-joined t u joined ∙ total-same (ap₂ _+ℤ_ (h .is) (k .is)) (ap₂ _+_ (h .counted) (k .counted)) (ap₂ signOfBoth (h .word) (k .word))
 
 -- ---- the claim is about the one list after the other
 -- without a question S is 0
-nothing-booked : (es : List Event) → questions es ≡ 0 → book es ≡ pos 0
-unfolding questions book
-nothing-booked [] h = refl
+nothing-booked : (es : List Event) → questions es ≡ 0 → (book es ≡ pos 0) × (bookSign es ≡ 0)
+unfolding questions book bookSign
+nothing-booked [] h = (refl, refl)
 nothing-booked (asks q ∷ es) h = absurd (omega arith)
 nothing-booked (reads side ∷ es) h = nothing-booked es h
 nothing-booked (adds side x ∷ es) h = nothing-booked es h
@@ -120,7 +122,7 @@ module _ (c d : List ℕ) (lc : length c ≡ totalSize) (ld : length d ≡ total
         let z = nothing-booked es n in
         let f : firstTerms es ≡ 0 = omega arith in
         let o : otherTerms es ≡ 0 = omega arith in
-        ap₂ {C = Totals} (λ (t u : List ℕ). record { first = t; other = u }) (k .firstWords ∙ ap₂ totalOf z f) (k .otherWords ∙ ap₂ totalOf z o) ∙ sym (start c d lc ld)
+        ap₂ {C = Totals} (λ (t u : List ℕ). record { first = t; other = u }) (k .firstWords ∙ total-same (z .0) f (z .1)) (k .otherWords ∙ total-same (z .0) o (z .1)) ∙ sym (start c d lc ld)
 
     whole-allowed : Allowed (cleared a b) es → Allowed (cleared c d) fs → Allowed (cleared a b) (es ++ fs)
     whole-allowed v w =
@@ -146,12 +148,13 @@ parts-joined a b c d es fs la lb lc ld h v w =
     let few' : otherTerms es + otherTerms fs ≤ mostTerms = omega arith in
     let i : firstTerms es + firstTerms fs ≡ firstTerms (es ++ fs) = omega arith in
     let j : otherTerms es + otherTerms fs ≡ otherTerms (es ++ fs) = omega arith in
-    let first = words-joined (t .first) (u .first) (book es) (book fs) (firstTerms es) (firstTerms fs) (first-holds t es k) (first-holds u fs l) few in
-    let other = words-joined (t .other) (u .other) (book es) (book fs) (otherTerms es) (otherTerms fs) (other-holds t es k) (other-holds u fs l) few' in
+    let g = sym (sign-append es fs) in
+    let first = words-joined (t .first) (u .first) es fs (firstTerms es) (firstTerms fs) (first-holds t es k) (first-holds u fs l) few in
+    let other = words-joined (t .other) (u .other) es fs (otherTerms es) (otherTerms fs) (other-holds t es k) (other-holds u fs l) few' in
     let same : afterJoiningBoth t u ≡ afterEvents (cleared a b) (es ++ fs) =
-    ap₂ {C = Totals} (λ (x y : List ℕ). record { first = x; other = y }) (first ∙ ap₂ totalOf z i ∙ sym (r .firstWords)) (other ∙ ap₂ totalOf z j ∙ sym (r .otherWords)) in (
-      joined (t .first) (u .first) (book es) (book fs) (firstTerms es) (firstTerms fs) (first-holds t es k) (first-holds u fs l) few,
-      joined (t .other) (u .other) (book es) (book fs) (otherTerms es) (otherTerms fs) (other-holds t es k) (other-holds u fs l) few',
+    ap₂ {C = Totals} (λ (x y : List ℕ). record { first = x; other = y }) (first ∙ total-same z i g ∙ sym (r .firstWords)) (other ∙ total-same z j g ∙ sym (r .otherWords)) in (
+      joined (t .first) (u .first) es fs (firstTerms es) (firstTerms fs) (first-holds t es k) (first-holds u fs l) few,
+      joined (t .other) (u .other) es fs (otherTerms es) (otherTerms fs) (other-holds t es k) (other-holds u fs l) few',
       same,
       whole,
       subst (λ (x : Totals). BothHold x (es ++ fs)) (sym same) r,

@@ -1,11 +1,12 @@
 -- The theorems of `specs/Theorems.antt`.
 use mathlib.Core.Path.{refl}
-use Rattle.conservation_spec.specs.Theorems.{QuestionLimit, Conserved, BookNext, MetEach, ReadEach, EntersExactly, AllowedNext, AmongOthers, FullWhen, EightLast}
+use Rattle.conservation_spec.specs.Theorems.{QuestionLimit, Conserved, BookNext, BookSignNext, QuestionSign, MinusZeroList, MetEach, ReadEach, EntersExactly, AllowedNext, AmongOthers, FullWhen, EightLast}
 use Rattle.conservation_spec.specs.Theorems.{OnesEnter, EightReached, ReplayConserves, ReplayRefused, ReplayUnchanged, ReplayQuestions, ReplayWords}
 use Rattle.conservation_spec.specs.Theorems.{ReplaysMeans, PartsJoined, All}
 use Rattle.conservation_spec.proofs.Book as books
 use Rattle.conservation_spec.proofs.Allowed as allowed
 use Rattle.conservation_spec.proofs.Claim as claim
+use Rattle.conservation_spec.proofs.MinusZeros as minus-zeros
 use Rattle.conservation_spec.proofs.Calls as calls
 use Rattle.conservation_spec.proofs.Others as others
 use Rattle.conservation_spec.proofs.Full as full
@@ -20,6 +21,15 @@ conserved = claim.conserved
 
 pub book-next : BookNext
 book-next = books.book-next
+
+pub book-sign-next : BookSignNext
+book-sign-next = books.book-sign-next
+
+pub question-sign : QuestionSign
+question-sign = books.question-sign
+
+pub minus-zero-list : MinusZeroList
+minus-zero-list = minus-zeros.minus-zero-list
 
 pub enters-exactly : EntersExactly
 enters-exactly = claim.enters-exactly
@@ -77,6 +87,9 @@ all = (
   question-limit,
   conserved,
   book-next,
+  book-sign-next,
+  question-sign,
+  minus-zero-list,
   met-each,
   read-each,
   enters-exactly,

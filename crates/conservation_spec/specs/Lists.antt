@@ -1,19 +1,21 @@
--- Lists of calls over two totals (R7): which question enters, what each call leaves, and S.
+-- Lists of calls over two totals (R7): which question enters, what each call leaves, and S with its sign word.
 -- Questions and adding calls act by the definitions that the contracts of `fill`, `add_pattern` and `add_product` cite; `read` is lent its
 -- total to look at only, and answers by `reading`.
 use Prim.Native.Nat.{ℕ, suc, _+_, _*_}
-use mathlib.Core.Bool.{Bool, not, cond, _&&_}
+use mathlib.Core.Bool.{Bool, not, cond, _&&_, _||_}
 use mathlib.Core.List.{List, [], _∷_}
+use lib.Dec.{eqb}
+use lib.Ieee.{unlike}
 use lib.IntN.{ℤ, pos, _+ℤ_}
 use Rattle.pattern_spec.specs.Answer.{Answer, refused, done, isDone}
 use Rattle.rounding_spec.specs.Format.{binary32}
-use Rattle.rounding_spec.specs.Value.{decode}
+use Rattle.rounding_spec.specs.Value.{Value, nan, infinite, finite, decode}
 use Rattle.pattern_spec.specs.Classes.{bothFinite, flip}
 use Rattle.pattern_spec.specs.Exact.{whole}
 use Rattle.augmented_spec.specs.declared.Pair.{Pair}
 use Rattle.augmented_spec.specs.Direct.{Operation, sum, difference, product, directPair, exactResult, operationOf}
 use Rattle.worksheet_spec.specs.Filling.{FilledSheet, filling}
-use Rattle.accumulator_spec.specs.Totals.{Term, ofPattern, ofProduct, afterAdding}
+use Rattle.accumulator_spec.specs.Totals.{Term, ofPattern, ofProduct, signOfBoth, afterAdding, exactTotal}
 use Rattle.accumulator_spec.specs.Columns.{column}
 
 -- ---- questions
@@ -111,6 +113,32 @@ book (asks q ∷ es) = cond (enters q) (exactOfPatterns (operationFor q) (q .x) 
 book (reads side ∷ es) = book es
 book (adds side x ∷ es) = book es
 
+-- ---- S's sign word, kept apart from the totals too (R7.16)
+-- all terms of a question are -0: both addends, y with the other sign in a difference; or the product. s and t are the operands' signs, a
+-- and b their magnitudes.
+abbrev pub minusZeros : Operation → Bool → ℕ → Bool → ℕ → Bool
+minusZeros sum s a t b = s && eqb a 0 && (t && eqb b 0)
+minusZeros difference s a t b = s && eqb a 0 && (not t && eqb b 0)
+minusZeros product s a t b = unlike s t && (eqb a 0 || eqb b 0)
+
+-- a question's sign word; no question on other operands enters
+abbrev pub signOfValues : Operation → Value → Value → ℕ
+signOfValues o (finite s a) (finite t b) = cond (minusZeros o s a t b) 0 1
+signOfValues o (finite s a) (infinite t) = 1
+signOfValues o (finite s a) nan = 1
+signOfValues o (infinite s) w = 1
+signOfValues o nan w = 1
+
+abbrev pub signOfPatterns : Operation → ℕ → ℕ → ℕ
+signOfPatterns o x y = signOfValues o (decode binary32 x) (decode binary32 y)
+
+-- it starts from 0, and becomes 1 with the first entering question whose own is
+unfoldable pub bookSign : List Event → ℕ
+bookSign [] = 0
+bookSign (asks q ∷ es) = signOfBoth (cond (enters q) (signOfPatterns (operationFor q) (q .x) (q .y)) 0) (bookSign es)
+bookSign (reads side ∷ es) = bookSign es
+bookSign (adds side x ∷ es) = bookSign es
+
 -- ---- how many: questions (R7.6), entering sums and differences, and entering products (R7.13's s and p)
 unfoldable pub questions : List Event → ℕ
 questions [] = 0
@@ -139,3 +167,7 @@ enteringProducts [] = 0
 enteringProducts (asks q ∷ es) = cond (enters q) (oneProduct (operationFor q)) 0 + enteringProducts es
 enteringProducts (reads side ∷ es) = enteringProducts es
 enteringProducts (adds side x ∷ es) = enteringProducts es
+
+-- what both totals are to read: the exact value of S with its sign word (R7.13, R7.16)
+abbrev pub bookValue : List Event → Value
+bookValue es = exactTotal (book es) (enteringSums es + enteringProducts es) (bookSign es)

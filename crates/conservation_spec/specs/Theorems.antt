@@ -18,11 +18,12 @@ use Rattle.worksheet_spec.specs.Lines.{sheetSize}
 use Rattle.worksheet_spec.specs.Filling.{afterFilling}
 use Rattle.accumulator_spec.specs.Words.{Words}
 use Rattle.accumulator_spec.specs.Totals.{totalSize, mostTerms, zeros, count, afterClearing}
-use Rattle.accumulator_spec.specs.Totals.{Term, ofPattern, ofProduct, finiteOperands, adding, exactNumber, pairAnswer, reading}
+use Rattle.accumulator_spec.specs.Totals.{Term, ofPattern, ofProduct, finiteOperands, adding, pairRead, pairAnswer, reading}
+use Rattle.accumulator_spec.specs.Columns.{AllMinusZero}
 use Rattle.accumulator_spec.specs.Joins.{joining, afterJoining}
-use Rattle.conservation_spec.specs.Lists.{mostQuestions, Posed, directFor, enters, Totals, Side, onFirst, onOther, totalOn}
+use Rattle.conservation_spec.specs.Lists.{mostQuestions, Posed, sheetFor, operationFor, directFor, enters, footTerms, setTerms, Totals, Side, onFirst, onOther, totalOn}
 use Rattle.conservation_spec.specs.Lists.{Event, asks, reads, adds, afterEvent, afterEvents, questions}
-use Rattle.conservation_spec.specs.Lists.{book, enteringSums, enteringProducts}
+use Rattle.conservation_spec.specs.Lists.{book, minusZeros, signOfPatterns, bookSign, enteringSums, enteringProducts, bookValue}
 use Rattle.conservation_spec.specs.Claim.{BothHold, MetNow, Met}
 use Rattle.conservation_spec.specs.Replay.{Asking, Lent, entriesOf, eventsOf, replaying, afterReplaying, Replays}
 
@@ -60,6 +61,39 @@ BookNext =
     × ((es : List Event) (side : Side) → book (es ++ (reads side ∷ [])) ≡ book es)
     × ((es : List Event) (side : Side) (x : Term) → book (es ++ (adds side x ∷ [])) ≡ book es)
 
+-- S's sign word (R7.16) is 0 at first, and 0 or 1. After an entering question of finite operands it is 0 where it was and all terms of the
+-- question are -0; no other call changes it.
+abbrev pub BookSignNext : Type 0
+BookSignNext =
+    (bookSign [] ≡ 0) × ((es : List Event) → bookSign es ≤ 1)
+    × ((es : List Event) (q : Posed) (s t : Bool) (a b : ℕ) → enters q ≡ true
+    → decode binary32 (q .x) ≡ finite s a → decode binary32 (q .y) ≡ finite t b
+    → bookSign (es ++ (asks q ∷ [])) ≡ 0 ↔ ((bookSign es ≡ 0) × (minusZeros (operationOf (q .operation)) s a t b ≡ true)))
+    × ((es : List Event) (q : Posed) → enters q ≡ false → bookSign (es ++ (asks q ∷ [])) ≡ bookSign es)
+    × ((es : List Event) (side : Side) → bookSign (es ++ (reads side ∷ [])) ≡ bookSign es)
+    × ((es : List Event) (side : Side) (x : Term) → bookSign (es ++ (adds side x ∷ [])) ≡ bookSign es)
+
+-- the sign word of an entering question is 0 exactly where its terms set are all -0, and exactly where the terms of its foot are
+abbrev pub QuestionSign : Type 0
+QuestionSign =
+    (q : Posed) → q .y < 2 ^ 32 → enters q ≡ true → let w = signOfPatterns (operationFor q) (q .x) (q .y) in
+    (w ≡ 0 ↔ AllMinusZero (setTerms (operationFor q) (q .x) (q .y))) × (w ≡ 0 ↔ AllMinusZero (footTerms (sheetFor q)))
+
+-- -0 + -0, -0 - +0 and -0 * 1
+abbrev pub minusZeroQuestions : List ℕ → List Event
+minusZeroQuestions words =
+    asks (record { operation = 1; x = 0x8000_0000; y = 0x8000_0000; words = words })
+    ∷ asks (record { operation = 2; x = 0x8000_0000; y = 0; words = words })
+    ∷ asks (record { operation = 3; x = 0x8000_0000; y = 0x3f80_0000; words = words }) ∷ []
+
+-- all three enter, S and its sign word are 0 after them, and both totals read -0 twice
+abbrev pub MinusZeroList : Type 0
+MinusZeroList =
+    (a b words : List ℕ) → length a ≡ totalSize → length b ≡ totalSize → sheetSize ≤ length words
+    → let es = minusZeroQuestions words in let t = afterEvents (cleared a b) es in
+    (enteringSums es ≡ 2) × (enteringProducts es ≡ 1) × (book es ≡ pos 0) × (bookSign es ≡ 0)
+    × (reading (t .first) ≡ pairRead 0x8000_0000 0x8000_0000) × (reading (t .other) ≡ pairRead 0x8000_0000 0x8000_0000)
+
 -- each call was met by the totals that the calls before it left (R7.5)
 abbrev pub MetEach : Type 0
 MetEach = (t : Totals) (before after : List Event) (e : Event) → Met t (before ++ (e ∷ after)) → MetNow (afterEvents t before) e
@@ -70,7 +104,7 @@ ReadEach =
     (a b : List ℕ) (before after : List Event) (side : Side) → length a ≡ totalSize → length b ≡ totalSize
     → let es = before ++ (reads side ∷ after) in
     questions es ≤ mostQuestions → Allowed (cleared a b) es
-    → reading (totalOn side (afterEvents (cleared a b) before)) ≡ pairAnswer (pairOf binary32 (exactNumber (book before)))
+    → reading (totalOn side (afterEvents (cleared a b) before)) ≡ pairAnswer (pairOf binary32 (bookValue before))
 
 -- a question enters exactly under the three conditions of R7.8
 abbrev pub EntersExactly : Type 0
@@ -278,6 +312,6 @@ QuestionLimit = mostQuestions ≡ 32768
 -- ---- all of them
 abbrev pub All : Type 0
 All =
-    QuestionLimit × Conserved × BookNext × MetEach × ReadEach × EntersExactly × AllowedNext × AmongOthers × FullWhen × EightLast
+    QuestionLimit × Conserved × BookNext × BookSignNext × QuestionSign × MinusZeroList × MetEach × ReadEach × EntersExactly × AllowedNext × AmongOthers × FullWhen × EightLast
     × OnesEnter × EightReached × ReplayConserves × ReplayRefused × ReplayUnchanged × ReplayQuestions × ReplayWords × ReplaysMeans
     × PartsJoined

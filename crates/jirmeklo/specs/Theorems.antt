@@ -1,6 +1,6 @@
 -- What is proved of the numbers that the exported calls answer: each field of them, and what becomes of the lent words (R8). The calls that
--- add to a total promise `AddsNumbered`, and the one that joins two `JoinsNumbered`: accumulator_spec has their statements,
--- `AddsNumberedMeans` and `JoinsNumberedMeans`.
+-- add to a total promise `AddsNumbered`, the one that joins two `JoinsNumbered`, and the one that carries an old one over
+-- `CarriesNumbered`: accumulator_spec has their statements, `AddsNumberedMeans`, `JoinsNumberedMeans` and `CarriesNumberedMeans`.
 use Prim.Native.Nat.{ℕ, _≤_, _<_}
 use mathlib.Core.Path.{_≡_}
 use mathlib.Core.Logic.{_⊎_, _≢_}
@@ -11,7 +11,7 @@ use Rattle.rounding_spec.specs.Format.{binary32}
 use Rattle.rounding_spec.specs.Value.{encode}
 use Rattle.augmented_spec.specs.Pairs.{pairOf}
 use Rattle.augmented_spec.specs.Direct.{Operation, directPair, operationNumber}
-use Rattle.accumulator_spec.specs.Totals.{totalSize, number, fit, exactNumber, reading}
+use Rattle.accumulator_spec.specs.Totals.{totalSize, number, count, signWord, fit, exactTotal, reading}
 use Rattle.accumulator_spec.specs.Theorems.{ClearedAs}
 use Rattle.worksheet_spec.specs.Lines.{sheetSize}
 use Rattle.worksheet_spec.specs.Sheets.{sheetOf}
@@ -28,7 +28,7 @@ use Rattle.jirmeklo.specs.Sheets.{FillsNumbered, ReplaysNumbered}
 abbrev pub ClearNumbers : Type 0
 ClearNumbers = (before after : List ℕ) (n : ℕ) → ClearsNumbered before n after → ClearedAs (λ k. k) 0 before n after
 
--- R8.8: 5, then 6, beside zeros; else 0 and both halves of the pair of the total's number (R6.5)
+-- R8.8: 5, then 6, beside zeros; else 0 and both halves of the pair of the total's exact value (R6.5 to R6.8)
 abbrev pub NoPairRead : ℕ → FlatReading → Type 0
 NoPairRead n r = (r .refusal ≡ n) × (r .first ≡ 0) × (r .second ≡ 0)
 
@@ -38,7 +38,7 @@ ReadNumbers =
     → (length t ≢ totalSize → NoPairRead 5 r)
     × (length t ≡ totalSize → fit t ≡ false → NoPairRead 6 r)
     × (length t ≡ totalSize → fit t ≡ true
-    → let p = pairOf binary32 (exactNumber (number t)) in
+    → let p = pairOf binary32 (exactTotal (number t) (count t) (signWord t)) in
     (r .refusal ≡ 0) × (r .first ≡ encode binary32 (p .first)) × (r .second ≡ encode binary32 (p .second)))
 
 -- ---- sheets and lists

@@ -4,6 +4,7 @@ use accumulator::Reading;
 ghost use mathlib.Core.Path.{_≡_};
 ghost use Rattle.accumulator_spec.specs.Totals.{ofPattern, ofProduct, AddsNumbered, reading};
 ghost use Rattle.accumulator_spec.specs.Joins.{JoinsNumbered};
+ghost use Rattle.accumulator_spec.specs.Carrying.{CarriesNumbered};
 ghost use Rattle.jirmeklo.specs.Totals.{noReading, readingNumbers, ClearsNumbered};
 
 // The refusal's number and two zeros; or 0 and the pair.
@@ -45,6 +46,14 @@ pub extern "C" fn jirmeklo_join(first: &mut [u32], second: &[u32]) -> u32
     ensures { λ _. ⌜ now (second .exit) ≡ now (second .entry) ⌝ }
 {
     accumulator::numbers::join(first, second)
+}
+
+#[no_mangle]
+pub extern "C" fn jirmeklo_carry_over(old: &[u32], total: &mut [u32]) -> u32
+    ensures { λ r. ⌜ CarriesNumbered (now (old .entry)) (now (total .entry)) r (now (total .exit)) ⌝ }
+    ensures { λ _. ⌜ now (old .exit) ≡ now (old .entry) ⌝ }
+{
+    accumulator::numbers::carry_over(old, total)
 }
 
 #[no_mangle]

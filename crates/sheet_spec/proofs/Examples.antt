@@ -1,4 +1,4 @@
--- What some inputs print, by computation: none, two bad lines, and R9.11's one line.
+-- What some inputs print, by computation: none, two bad lines, R9.11's one line, and -0 and -0.
 use mathlib.Core.Path.{refl}
 use lib.Ieee.{size}
 use Rattle.rounding_spec.specs.Round.{keep, lastPlace}
@@ -16,7 +16,7 @@ use Rattle.accumulator_spec.specs.Columns.{column}
 use Rattle.question_spec.specs.Questions.{lettersOperation, allDigits, patternFrom, readQuestion, questionText, operationLettersByNumber}
 use Rattle.transcript_spec.specs.Texts.{stepsText, answeredText, askText, decimalUpTo, stepText, stepLettersByNumber, thirdText, pairText, flagsText, badText, totalText, endText}
 use Rattle.sheet_spec.specs.Printed.{linesFrom, filledText, lineText, afterLine, afterLines, linesText, closingText, output}
-use Rattle.sheet_spec.specs.Theorems.{EmptyInput, TwoBadLines, PrintedExample}
+use Rattle.sheet_spec.specs.Theorems.{EmptyInput, TwoBadLines, PrintedExample, PrintedMinusZero}
 
 pub empty-input : EmptyInput
 unfolding output linesFrom linesText afterLines closingText reading fit integer encode pairOf keep lastPlace size totalText endText decimalUpTo
@@ -38,3 +38,13 @@ unfolding
     reading column adding afterAdding fit integer wordsOfInteger decode encode finer pairOf
     stepsText answeredText askText questionText operationLettersByNumber decimalUpTo stepText stepLettersByNumber thirdText pairText flagsText totalText endText
 printed-example = (refl, refl)
+
+pub printed-minus-zero : PrintedMinusZero
+unfolding
+    output linesFrom linesText lineText filledText afterLines afterLine closingText
+    readQuestion lettersOperation allDigits patternFrom
+    filling afterFilling linesWords sheetWords sheetAnswer sheetOf sumSheet swaps sumInOrder sumFrom recomposedFinished recomposition zeroFinish overflows
+    lessMagnitude same addStep subStep mulStep keep lastPlace size directPair
+    reading column adding afterAdding fit integer wordsOfInteger decode encode finer pairOf
+    stepsText answeredText askText questionText operationLettersByNumber decimalUpTo stepText stepLettersByNumber thirdText pairText flagsText totalText endText
+printed-minus-zero = refl

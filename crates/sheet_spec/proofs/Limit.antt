@@ -12,8 +12,8 @@ use lib.Seq.{take-at}
 use Rattle.pattern_spec.specs.Answer.{Answer, isDone}
 use Rattle.rounding_spec.specs.Format.{binary32}
 use Rattle.augmented_spec.specs.Pairs.{pairOf}
-use Rattle.accumulator_spec.specs.Totals.{TwoPatterns, exactNumber, pairAnswer, reading}
-use Rattle.accumulator_spec.specs.Columns.{columnSum}
+use Rattle.accumulator_spec.specs.Totals.{TwoPatterns, exactTotal, pairAnswer, reading}
+use Rattle.accumulator_spec.specs.Columns.{columnSum, columnSign}
 use Rattle.accumulator_spec.proofs.ReadTotal.{read-column}
 use Rattle.question_spec.specs.Questions.{readQuestion}
 use Rattle.transcript_spec.specs.Texts.{stopText, endText}
@@ -96,7 +96,7 @@ counted [] p = (omega arith, omega arith)
 counted (l ∷ ls) p = let c = counted ls (afterLine p l) in (omega (arith, c .0), omega (arith, c .1))
 
 module _ (lines : List (List ℕ)) (most : length lines ≤ mostInputLines) where
-  total-reads : reading (afterLines start lines .total) ≡ pairAnswer (pairOf binary32 (exactNumber (columnSum (termsOf lines))))
+  total-reads : reading (afterLines start lines .total) ≡ pairAnswer (pairOf binary32 (exactTotal (columnSum (termsOf lines)) (length (termsOf lines)) (columnSign (termsOf lines))))
   total-reads = let t = all-terms lines in ap reading (total-is lines start) ∙ read-column (termsOf lines) (omega (arith, t .1)) (t .0)
 
   bad-left : afterLines start lines .lines - afterLines start lines .good ≡ badLines lines
@@ -105,7 +105,7 @@ module _ (lines : List (List ℕ)) (most : length lines ≤ mostInputLines) wher
   all-good : afterLines start lines .good ≡ goodLines lines
   all-good = counted lines start .1 ∙ omega arith
 
-  closes : closingText (afterLines start lines) ≡ readText (pairAnswer (pairOf binary32 (exactNumber (columnSum (termsOf lines))))) ++ endText (goodLines lines) (badLines lines)
+  closes : closingText (afterLines start lines) ≡ readText (pairAnswer (pairOf binary32 (exactTotal (columnSum (termsOf lines)) (length (termsOf lines)) (columnSign (termsOf lines))))) ++ endText (goodLines lines) (badLines lines)
   unfolding closingText
   closes = ap₂ (λ (a : Answer TwoPatterns) (t : List ℕ). readText a ++ t) total-reads (ap₂ endText all-good bad-left)
 

@@ -1,7 +1,7 @@
 -- Proofs of the statements about what is printed (specs/Theorems.antt).
 use mathlib.Core.Path.{refl}
 use Rattle.sheet_spec.specs.Theorems.{ByteByByte, AnyReads, FeedsOn, WholeRun, NothingAfterStop, NeverRefused, LineTexts, LineTerms, TotalTakesAll}
-use Rattle.sheet_spec.specs.Theorems.{LinesAre, WithinLimit, PastLimit, SheetLimits, EmptyInput, TwoBadLines, PrintedExample, All}
+use Rattle.sheet_spec.specs.Theorems.{LinesAre, WithinLimit, PastLimit, SheetLimits, EmptyInput, TwoBadLines, PrintedExample, PrintedMinusZero, All}
 use Rattle.sheet_spec.proofs.Bytes as bytes
 use Rattle.sheet_spec.proofs.Runs as runs
 use Rattle.sheet_spec.proofs.Totals as totals
@@ -58,6 +58,9 @@ two-bad-lines = examples.two-bad-lines
 pub printed-example : PrintedExample
 printed-example = examples.printed-example
 
+pub printed-minus-zero : PrintedMinusZero
+printed-minus-zero = examples.printed-minus-zero
+
 pub all : All
 all = (
   byte-by-byte,
@@ -76,4 +79,5 @@ all = (
   empty-input,
   two-bad-lines,
   printed-example,
+  printed-minus-zero,
 )

@@ -17,7 +17,7 @@ use Rattle.worksheet_spec.specs.Filling.{FilledSheet, sheetAnswer, filling}
 use Rattle.worksheet_spec.proofs.Filling.{fills, answer-is}
 use Rattle.question_spec.specs.Questions.{Asked, readQuestion}
 use Rattle.question_spec.proofs.Theorems.{only-text}
-use Rattle.accumulator_spec.specs.Totals.{number, Term, ofPattern, afterAdding, FitTotal}
+use Rattle.accumulator_spec.specs.Totals.{number, signWord, Term, ofPattern, afterAdding, FitTotal}
 use Rattle.accumulator_spec.specs.Columns.{column, AllFinite}
 use Rattle.accumulator_spec.proofs.Columns.{exact-column}
 use Rattle.sheet_spec.specs.Printed.{blank, halfTerms, pairTerms, lineTerms, Progress, start, afterLine, afterLines}
@@ -76,7 +76,7 @@ total-takes-all lines h =
     let t = all-terms lines in
     let c = exact-column (termsOf lines) (omega (arith, t .1)) (t .0) in
     let e = total-is lines start in
-    (c .0, e, ap number e ∙ c .2, subst FitTotal (sym e) (c .4))
+    (c .0, e, ap number e ∙ c .2, ap (λ (u : List ℕ). signWord u) e ∙ c .4, subst FitTotal (sym e) (c .5))
 
 -- ---- a question that is read has its sheet
 pub never-refused : NeverRefused

@@ -18,8 +18,8 @@ use Rattle.worksheet_spec.specs.Filling.{lineWords, filling}
 use Rattle.question_spec.specs.Ascii.{ascii}
 use Rattle.question_spec.specs.Questions.{asked, readQuestion}
 use Rattle.transcript_spec.specs.Texts.{lineRoom, decimal, lineOf, stepText, pairText, totalText, endText}
-use Rattle.accumulator_spec.specs.Totals.{zeros, number, Term, ofPattern, FitTotal, exactNumber}
-use Rattle.accumulator_spec.specs.Columns.{column, Accepted, columnSum}
+use Rattle.accumulator_spec.specs.Totals.{zeros, number, signWord, Term, ofPattern, FitTotal, exactTotal}
+use Rattle.accumulator_spec.specs.Columns.{column, Accepted, columnSum, columnSign}
 use Rattle.sheet_spec.specs.Printed.{blank, linesOf, lineText, lineTerms, start, afterLines, mostInputLines, output}
 use Rattle.sheet_spec.specs.Calls.{lastRoom, Feeds, Ends}
 use Rattle.sheet_spec.specs.declared.Progressed.{Progressed}
@@ -132,7 +132,8 @@ LineTerms =
 abbrev pub TotalTakesAll : Type 0
 TotalTakesAll =
     (lines : List (List ℕ)) → length lines ≤ mostInputLines → let total = afterLines start lines .total in
-    Accepted zeros (termsOf lines) × (total ≡ column zeros (termsOf lines)) × (number total ≡ columnSum (termsOf lines)) × FitTotal total
+    Accepted zeros (termsOf lines) × (total ≡ column zeros (termsOf lines)) × (number total ≡ columnSum (termsOf lines))
+    × (signWord total ≡ columnSign (termsOf lines)) × FitTotal total
 
 -- ---- lines, told from the input's bytes (R9.1): each newline ends one, and so does the input's last byte
 unfoldable pub newlines : List ℕ → ℕ
@@ -167,11 +168,12 @@ badLines [] = 0
 badLines (l ∷ ls) = cond (isDone (readQuestion l)) 0 1 + badLines ls
 
 -- ---- the limit, from both sides (R8.11). An input of up to 32,768 lines: fewer newlines than that stand before its last byte, whatever
--- this is. It prints the texts of its lines, numbered from 1, the exact sum of their terms as a total reads (R6.5), and both counts.
+-- this is. It prints the texts of its lines, numbered from 1, the exact sum of their terms as a total reads (R6.5 to R6.8), and both counts.
 abbrev pub WithinLimit : Type 0
 WithinLimit =
     (front : List ℕ) (b : ℕ) → newlines front < 32768 → let lines = linesOf (front ++ (b ∷ [])) in
-    let total = pairOf binary32 (exactNumber (columnSum (termsOf lines))) in
+    let terms = termsOf lines in
+    let total = pairOf binary32 (exactTotal (columnSum terms) (length terms) (columnSign terms)) in
     (output (front ++ (b ∷ []))
     ≡ textsFrom 1 lines
     ++ (totalText (encode binary32 (total .first)) (encode binary32 (total .second)) ++ endText (goodLines lines) (badLines lines)))
@@ -217,7 +219,25 @@ exampleText =
 abbrev pub PrintedExample : Type 0
 PrintedExample = (output (exampleQuestion ++ ascii "\n") ≡ exampleText) × (output exampleQuestion ≡ exampleText)
 
+-- ---- R6.8, R9.8: -0 and -0 alone
+abbrev pub minusZeroText : List ℕ
+minusZeroText =
+    ascii "ask\t1\tsum\t80000000\t80000000\n"
+    ++ (ascii "step\t1\tadd\t80000000\t80000000\t-\t80000000\n"
+    ++ (ascii "step\t2\tsub\t80000000\t80000000\t-\t00000000\n"
+    ++ (ascii "step\t3\tsub\t80000000\t00000000\t-\t80000000\n"
+    ++ (ascii "step\t4\tmul\t3F7FFFFF\t80000000\t-\t80000000\n"
+    ++ (ascii "step\t5\tsub\t80000000\t80000000\t-\t00000000\n"
+    ++ (ascii "step\t6\tmul\t40000000\t80000000\t-\t80000000\n"
+    ++ (ascii "step\t7\tmul\t00000000\t80000000\t-\t80000000\n"
+    ++ (ascii "pair\t80000000\t80000000\t-\n"
+    ++ (ascii "total\t80000000\t80000000\n"
+    ++ ascii "end\t1\t0\n")))))))))
+
+abbrev pub PrintedMinusZero : Type 0
+PrintedMinusZero = output (ascii "sum\t80000000\t80000000\n") ≡ minusZeroText
+
 abbrev pub All : Type 0
 All =
     ByteByByte × AnyReads × FeedsOn × WholeRun × NothingAfterStop × NeverRefused × LineTexts × LineTerms × TotalTakesAll × LinesAre
-    × WithinLimit × PastLimit × SheetLimits × EmptyInput × TwoBadLines × PrintedExample
+    × WithinLimit × PastLimit × SheetLimits × EmptyInput × TwoBadLines × PrintedExample × PrintedMinusZero

@@ -3,18 +3,17 @@ use mathlib.Core.Path.{refl, ap, _∙_}
 use native.Mathlib.Omega.{arith}
 use Rattle.rounding_spec.specs.Format.{binary32}
 use Rattle.rounding_spec.specs.Value.{isFinite}
-use Rattle.pattern_spec.specs.Answer.{refused, done}
+use Rattle.pattern_spec.specs.Answer.{refused}
 use Rattle.pattern_spec.specs.declared.Class.{Class}
 use Rattle.pattern_spec.specs.Exact.{finer}
 use Rattle.pattern_spec.specs.Classes.{valueOf}
 use Rattle.pattern_spec.proofs.Classified.{class-operand}
 use Rattle.accumulator_spec.specs.Totals.{ofPattern}
-use Rattle.accumulator_spec.proofs.Terms.{added, special}
+use Rattle.accumulator_spec.proofs.Terms.{special}
 use Rattle.accumulator_words.proofs.Lent.{takes-term}
-use Rattle.accumulator_words.proofs.Placing.{same-integer}
-use Rattle.accumulator_add.specs.Inner.{withTerm}
 use Rattle.accumulator_add.proofs.Numbers.{by-refusal, fault-adds}
 use Rattle.accumulator_add.proofs.Scaled.{pattern-value, finer-digits}
+use Rattle.accumulator_add.proofs.Added.{countable, lent-number, number-words, term-added}
 use Rattle.accumulator_add.proofs.add_pattern.Statement.{statement}
 use Rattle.accumulator_add.proofs.add_pattern.Tie as tie
 
@@ -42,10 +41,32 @@ classify-requires c κs = search needs
 enum-known-a : tie.Need-enum-known-a
 enum-known-a c = search needs
 
+count-term-requires : tie.Need-count-term-requires
+count-term-requires c κs =
+    let f = c .before .before .before .before .before in
+    let t = f .before .before .before .before .args .total .now in
+    countable t (takes-term t _ (f .before .refusal-to-add .ensures) (f .if1 .left))
+
+sub-add-short : tie.Need-sub-add-short
+sub-add-short c = search needs
+
+part-add-short-start : tie.Need-part-add-short-start
+part-add-short-start c = search needs
+
+part-add-short-end : tie.Need-part-add-short-end
+part-add-short-end c =
+    let d = c .before .before in
+    let e = d .before .before .before in
+    let f = e .before .before .before in
+    let t = f .before .before .before .before .args .total .now in
+    let o = e .a .given .0 in
+    lent-number t (takes-term t _ (f .before .refusal-to-add .ensures) (f .if1 .left)) (o .0) (o .1 .0) (d .count-term .last .0) (d .count-term .ensures)
+
 add-place : tie.Need-add-place
 add-place c =
-    let k = class-operand _ _ (c .before .before .before .before .classify .ensures) in
-    let o = rw (c .before .before .a .given .1) at k in
+    let d = c .before .before .before .before .before .before in
+    let k = class-operand _ _ (d .before .before .classify .ensures) in
+    let o = rw (d .a .given .1) at k in
     omega (arith, o .exp)
 
 place-requires : tie.Need-place-requires
@@ -53,14 +74,16 @@ place-requires c κs = search needs
 
 add-short-requires : tie.Need-add-short-requires
 add-short-requires c κs =
-    let d = c .before in
-    let k = class-operand _ _ (d .before .before .before .before .classify .ensures) in
-    let o = rw (d .before .before .a .given .1) at k in
-    let f = d .before .before .before .before .before in
+    let d = c .before .before .before .before in
+    let e = d .before .before .before in
+    let k = class-operand _ _ (e .before .before .classify .ensures) in
+    let o = rw (e .a .given .1) at k in
+    let f = e .before .before .before in
     let t = f .before .before .before .before .args .total .now in
-    let s = takes-term t _ (f .before .refusal-to-add .ensures) (f .if1 .left) in
+    let g = e .a .given .0 in
+    let l = number-words t (takes-term t _ (f .before .refusal-to-add .ensures) (f .if1 .left)) (g .0) (g .1 .0) (d .count-term .last .0) (d .count-term .ensures) in
     let p = c .place .ensures in
-    ((s .0 .0, s .1), (omega (arith, p .2, o .exp), p .3, omega (arith, p .1, o .sig)))
+    (omega (arith, p .2, o .exp, l), p .3, omega (arith, p .1, o .sig))
 
 enum-told : tie.Need-enum-told
 enum-told c = search needs
@@ -75,14 +98,15 @@ returns-2 : tie.Need-returns-2
 unfolding finer valueOf
 returns-2 c =
     let k = c .before .before in
-    let e = k .before .before .before .before in
     let p = k .before .place .ensures in
+    let d = k .before .before .before .before .before in
+    let e = d .before .before .before in
     let f = e .before .before .before in
     let a = f .before .before .before .before .args in
     let r = takes-term (a .total .now) _ (f .before .refusal-to-add .ensures) (f .if1 .left) in
     let v = pattern-value _ _ (e .before .before .classify .ensures) ∙ ap (λ (v : Class). finer binary32 (valueOf v)) (e .a .given .1) ∙ finer-digits _ _ _ in
-    let w = k .add-short .ensures ∙ ap (withTerm (a .total .now)) (same-integer (p .0) (p .1) (p .2)) in
-    by-refusal (done tt) refl (added (a .total .now) (ofPattern (a .x)) (r .0 .0) (r .0 .1) _ _ v (r .1) _ w)
+    let g = e .a .given .0 in
+    term-added (a .total .now) r (g .0) (g .1 .0) _ (d .count-term .ensures) (ofPattern (a .x)) _ v (k .before .place .result) (p .0) (p .1) (p .2) _ (k .add-short .ensures)
 
 same-length-3 : tie.Need-same-length-3
 same-length-3 c = search needs
@@ -119,6 +143,10 @@ add-pattern-spec =
     returns
     classify-requires
     enum-known-a
+    count-term-requires
+    sub-add-short
+    part-add-short-start
+    part-add-short-end
     add-place
     place-requires
     add-short-requires

@@ -1,15 +1,14 @@
 use borrow.Author.Needs.{needs}
-use mathlib.Core.Path.{refl, ap, _∙_}
+use mathlib.Core.Path.{refl, ap}
 use native.Mathlib.Omega.{arith}
 use Rattle.rounding_spec.specs.Value.{isFinite}
-use Rattle.pattern_spec.specs.Answer.{refused, done}
+use Rattle.pattern_spec.specs.Answer.{refused}
 use Rattle.pattern_spec.specs.Classes.{valueOf}
 use Rattle.accumulator_spec.specs.Totals.{ofProduct}
-use Rattle.accumulator_spec.proofs.Terms.{added, special}
+use Rattle.accumulator_spec.proofs.Terms.{special}
 use Rattle.accumulator_words.proofs.Lent.{takes-term}
-use Rattle.accumulator_words.proofs.Placing.{same-integer}
-use Rattle.accumulator_add.specs.Inner.{withTerm}
 use Rattle.accumulator_add.proofs.Numbers.{by-refusal, fault-adds}
+use Rattle.accumulator_add.proofs.Added.{countable, lent-number, number-words, term-added}
 use Rattle.accumulator_add.proofs.add_product.Statement.{statement}
 use Rattle.accumulator_add.proofs.add_product.Tie as tie
 
@@ -37,18 +36,41 @@ product-requires c κs = search needs
 enum-known-p : tie.Need-enum-known-p
 enum-known-p c = search needs
 
+count-term-requires : tie.Need-count-term-requires
+count-term-requires c κs =
+    let f = c .before .before .before .before .before in
+    let t = f .before .before .before .before .args .total .now in
+    countable t (takes-term t _ (f .before .refusal-to-add .ensures) (f .if1 .left))
+
+sub-add : tie.Need-sub-add
+sub-add c = search needs
+
+part-add-start : tie.Need-part-add-start
+part-add-start c = search needs
+
+part-add-end : tie.Need-part-add-end
+part-add-end c =
+    let d = c .before .before in
+    let e = d .before .before .before in
+    let f = e .before .before .before in
+    let t = f .before .before .before .before .args .total .now in
+    let o = e .p .given .0 in
+    lent-number t (takes-term t _ (f .before .refusal-to-add .ensures) (f .if1 .left)) (o .0) (o .1 .0) (d .count-term .last .0) (d .count-term .ensures)
+
 place-requires : tie.Need-place-requires
 place-requires c κs = search needs
 
 add-requires : tie.Need-add-requires
 add-requires c κs =
-    let d = c .before in
-    let o = rw (d .before .before .p .given .1) at (d .before .before .before .before .product .ensures) in
-    let f = d .before .before .before .before .before in
+    let d = c .before .before .before .before in
+    let e = d .before .before .before in
+    let o = rw (e .p .given .1) at (e .before .before .product .ensures) in
+    let f = e .before .before .before in
     let t = f .before .before .before .before .args .total .now in
-    let s = takes-term t _ (f .before .refusal-to-add .ensures) (f .if1 .left) in
+    let g = e .p .given .0 in
+    let l = number-words t (takes-term t _ (f .before .refusal-to-add .ensures) (f .if1 .left)) (g .0) (g .1 .0) (d .count-term .last .0) (d .count-term .ensures) in
     let p = c .place .ensures in
-    ((s .0 .0, s .1), (omega (arith, p .2, o .bounded .exp), p .3))
+    (omega (arith, p .2, o .bounded .exp, l), p .3)
 
 enum-told : tie.Need-enum-told
 enum-told c = search needs
@@ -63,14 +85,15 @@ returns-2 : tie.Need-returns-2
 unfolding valueOf
 returns-2 c =
     let k = c .before .before in
-    let e = k .before .before .before .before in
     let p = k .before .place .ensures in
+    let d = k .before .before .before .before .before in
+    let e = d .before .before .before in
     let f = e .before .before .before in
     let a = f .before .before .before .before .args in
     let r = takes-term (a .total .now) _ (f .before .refusal-to-add .ensures) (f .if1 .left) in
     let v = rw (e .p .given .1) at (e .before .before .product .ensures) in
-    let w = k .add .ensures ∙ ap (withTerm (a .total .now)) (same-integer (p .0) (p .1) (p .2)) in
-    by-refusal (done tt) refl (added (a .total .now) (ofProduct (a .x) (a .y)) (r .0 .0) (r .0 .1) _ _ (v .is) (r .1) _ w)
+    let g = e .p .given .0 in
+    term-added (a .total .now) r (g .0) (g .1 .0) _ (d .count-term .ensures) (ofProduct (a .x) (a .y)) _ (v .is) (k .before .place .result) (p .0) (p .1) (p .2) _ (k .add .ensures)
 
 same-length-3 : tie.Need-same-length-3
 same-length-3 c = search needs
@@ -107,6 +130,10 @@ add-product-spec =
     returns
     product-requires
     enum-known-p
+    count-term-requires
+    sub-add
+    part-add-start
+    part-add-end
     place-requires
     add-requires
     enum-told

@@ -23,7 +23,9 @@ join-fit-requires c κs =
     let g = c .before in
     let a = c .before .before .before .before .before .before .args in
     let b = both-sound (a .first .now) (a .second .now) (sym (g .before .refusal-of-two .ensures) ∙ g .if1 .left) in
-    (b .0 .0, b .1 .0, fit-bounds (a .first .now) (b .0 .1) .0, fit-bounds (a .second .now) (b .1 .1) .0)
+    let f = fit-bounds (a .first .now) (b .0 .1) in
+    let s = fit-bounds (a .second .now) (b .1 .1) in
+    ((b .0 .0, b .1 .0, f .few, s .few), (f .sign, s .sign))
 
 same-length-2 : tie.Need-same-length-2
 same-length-2 c = search needs

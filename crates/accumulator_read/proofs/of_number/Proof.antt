@@ -32,8 +32,14 @@ zero-takes-requires c κs = search needs
 enum-told : tie.Need-enum-told
 enum-told c = search needs
 
+twice-requires : tie.Need-twice-requires
+twice-requires c κs = search needs
+
 enum-told-2 : tie.Need-enum-told-2
 enum-told-2 c = search needs
+
+twice-requires-2 : tie.Need-twice-requires-2
+twice-requires-2 c κs = search needs
 
 returns : tie.Need-returns
 returns c =
@@ -49,16 +55,16 @@ returns c =
 returns-2 : tie.Need-returns-2
 unfolding valueOf
 returns-2 c =
-    let k = c .before .before in
+    let k = c .before .before .before in
     let f = k .before in
-    halves-other (integer (f .before .args .number)) _ (f .rounded .ensures) _ (k .classify .ensures) (rw (c .enum-told .given .1) refl)
+    c .twice .ensures ∙ halves-other (integer (f .before .args .number)) _ (f .rounded .ensures) _ (k .classify .ensures) (rw (c .before .enum-told .given .1) refl)
 
 returns-3 : tie.Need-returns-3
 unfolding valueOf
 returns-3 c =
-    let k = c .before .before in
+    let k = c .before .before .before in
     let f = k .before in
-    halves-other (integer (f .before .args .number)) _ (f .rounded .ensures) _ (k .classify .ensures) (rw (c .enum-told2 .given .1) refl)
+    c .twice2 .ensures ∙ halves-other (integer (f .before .args .number)) _ (f .rounded .ensures) _ (k .classify .ensures) (rw (c .before .enum-told2 .given .1) refl)
 
 pub of-number-spec : {M : Type 1} → statement M
 of-number-spec =
@@ -72,7 +78,9 @@ of-number-spec =
     rounded-requires-2
     zero-takes-requires
     enum-told
+    twice-requires
     enum-told-2
+    twice-requires-2
     returns
     returns-2
     returns-3)

@@ -4,12 +4,16 @@
 
 #include <stdio.h>
 
-#define TOTAL 21
+#define OLD_TOTAL 21
+#define TOTAL 22
+#define COUNT 20
+#define SIGN_WORD 21
 #define SHEET 65
 #define ONE 0x3F800000u
 #define LARGEST 0x7F7FFFFFu
 #define INFINITE 0x7F800000u
 #define SIGNALLING 0xFF812345u
+#define MINUS_ZERO 0x80000000u
 
 static void print_word(uint32_t word) { printf(" %08lX", (unsigned long)word); }
 
@@ -32,7 +36,7 @@ static void print_words(const char *name, const uint32_t *words, size_t count, s
 
 static void print_sheet(const uint32_t *words, size_t count) { print_words("words", words, count, 5); }
 
-static void print_total(const char *name, const uint32_t *words, size_t count) { print_words(name, words, count, 7); }
+static void print_total(const char *name, const uint32_t *words, size_t count) { print_words(name, words, count, 11); }
 
 static void print_step(const char *name, uint32_t result) { print_words(name, &result, 1, 1); }
 
@@ -105,10 +109,53 @@ static void totals(void) {
     print_reading("read", jirmeklo_read(total, TOTAL));
     print_reading("read", jirmeklo_read(total, TOTAL + 1));
     jirmeklo_clear(total, TOTAL);
-    total[TOTAL - 1] = 65536;
+    total[COUNT] = 65536;
     print_refusal("add_product", jirmeklo_add_product(total, TOTAL, ONE, ONE));
-    total[TOTAL - 1] = 65537;
+    total[COUNT] = 65537;
     print_refusal("add_pattern", jirmeklo_add_pattern(total, TOTAL, ONE));
+}
+
+/* -0 as a pattern and as a product, which leave the sign word 0; +0, which does not; and the three kinds of total that it makes unfit. */
+static void minus_zeros(void) {
+    uint32_t total[TOTAL];
+    fill_with(total, TOTAL, 0);
+    print_reading("read", jirmeklo_read(total, TOTAL));
+    print_refusal("add_pattern", jirmeklo_add_pattern(total, TOTAL, MINUS_ZERO));
+    print_refusal("add_product", jirmeklo_add_product(total, TOTAL, MINUS_ZERO, ONE));
+    print_total("total", total + COUNT, TOTAL - COUNT);
+    print_reading("read", jirmeklo_read(total, TOTAL));
+    print_refusal("add_product", jirmeklo_add_product(total, TOTAL, MINUS_ZERO, MINUS_ZERO));
+    print_total("total", total + COUNT, TOTAL - COUNT);
+    print_reading("read", jirmeklo_read(total, TOTAL));
+    total[SIGN_WORD] = 2;
+    print_reading("read", jirmeklo_read(total, TOTAL));
+    total[0] = 1;
+    total[SIGN_WORD] = 0;
+    print_reading("read", jirmeklo_read(total, TOTAL));
+    total[0] = 0;
+    total[COUNT] = 0;
+    total[SIGN_WORD] = 1;
+    print_reading("read", jirmeklo_read(total, TOTAL));
+}
+
+/* An old total of one term and an empty one; then 5 of either array, and 6. */
+static void carried(void) {
+    uint32_t old[TOTAL], total[TOTAL + 1];
+    fill_with(old, TOTAL, 0);
+    fill_with(total, TOTAL + 1, 0xA5A5A5A5u);
+    old[COUNT] = 1;
+    print_refusal("carry_over", jirmeklo_carry_over(old, OLD_TOTAL, total, TOTAL));
+    print_total("total", total, TOTAL + 1);
+    print_reading("read", jirmeklo_read(total, TOTAL));
+    old[COUNT] = 0;
+    print_refusal("carry_over", jirmeklo_carry_over(old, OLD_TOTAL, total, TOTAL));
+    print_total("total", total + COUNT, TOTAL - COUNT);
+    old[COUNT] = 65537;
+    print_refusal("carry_over", jirmeklo_carry_over(old, TOTAL, total, TOTAL));
+    print_refusal("carry_over", jirmeklo_carry_over(old, OLD_TOTAL, total, TOTAL + 1));
+    print_refusal("carry_over", jirmeklo_carry_over(old, OLD_TOTAL, total, TOTAL));
+    print_total("old", old + COUNT, 1);
+    print_total("total", total + COUNT, TOTAL - COUNT);
 }
 
 /* -2^-298 and 2, of one term and of two; then each refusal where others could follow it, and 65,536 terms together. */
@@ -125,18 +172,18 @@ static void joins(void) {
     print_total("first", first, TOTAL + 1);
     print_total("second", second, TOTAL + 1);
     print_reading("read", jirmeklo_read(first, TOTAL));
-    second[TOTAL - 1] = 65537;
+    second[COUNT] = 65537;
     print_refusal("join", jirmeklo_join(first, TOTAL + 1, second, TOTAL));
-    first[TOTAL - 1] = 0;
+    first[COUNT] = 0;
     print_refusal("join", jirmeklo_join(first, TOTAL, second, TOTAL - 1));
-    first[TOTAL - 1] = 65535;
+    first[COUNT] = 65535;
     print_refusal("join", jirmeklo_join(first, TOTAL, second, TOTAL + 1));
     print_refusal("join", jirmeklo_join(first, TOTAL, second, TOTAL));
-    second[TOTAL - 1] = 2;
+    second[COUNT] = 2;
     print_refusal("join", jirmeklo_join(first, TOTAL, second, TOTAL));
     print_total("first", first, TOTAL + 1);
     print_total("second", second, TOTAL + 1);
-    second[TOTAL - 1] = 1;
+    second[COUNT] = 1;
     print_refusal("join", jirmeklo_join(first, TOTAL, second, TOTAL));
     print_total("first", first, TOTAL + 1);
 }
@@ -182,7 +229,9 @@ int main(void) {
     steps();
     pairs();
     totals();
+    minus_zeros();
     joins();
+    carried();
     sheets();
     lists();
     return 0;

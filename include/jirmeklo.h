@@ -54,23 +54,31 @@ struct jirmeklo_pair jirmeklo_sum(uint32_t x, uint32_t y);
 struct jirmeklo_pair jirmeklo_difference(uint32_t x, uint32_t y);
 struct jirmeklo_pair jirmeklo_product(uint32_t x, uint32_t y);
 
-/* Makes 21 words an empty total. A total is a whole number of 2^-298 in 20 words, lowest first, and a count of terms.
- * Refusal: 5, other than 21 words. */
+/* Makes 22 words an empty total. A total is a whole number of 2^-298 in 20 words, lowest first, a count of terms, and a sign word: 0 while
+ * every term has been -0 (a product by its own sign), 1 otherwise; 0 without terms. Refusal: 5, other than 22 words. */
 uint32_t jirmeklo_clear(uint32_t *total, size_t words);
 
 /* Adds a term, the pattern x or the product of x and y, exactly.
- * Refusals: 5, other than 21 words; 6, an unfit total (a count above 65,536, or a magnitude above count * 2^554);
- * 7, an infinite or NaN operand; 8, the count is 65,536. */
+ * Refusals: 5, other than 22 words; 6, an unfit total (a count above 65,536, a magnitude above count * 2^554, or a sign word that is
+ * above 1, 0 with a number that is not 0, or 1 with the count 0); 7, an infinite or NaN operand; 8, the count is 65,536. */
 uint32_t jirmeklo_add_pattern(uint32_t *total, size_t words, uint32_t x);
 uint32_t jirmeklo_add_product(uint32_t *total, size_t words, uint32_t x, uint32_t y);
 
-/* Joins two totals: the first becomes their exact sum, with the terms of both counted; the second stays as it was. Empty totals
- * are no exception. The two must be different arrays, which do not overlap: no total is joined to itself.
- * Refusals: 5, the first has other than 21 words; 6, the first is unfit, as in adding; 5 and 6, the same of the second; 12, the
+/* Joins two totals: the first becomes their exact sum, with the terms of both counted and the sign word 0 where both have 0; the
+ * second stays as it was. Empty totals are no exception. The two must be different arrays, which do not overlap: no total is joined
+ * to itself.
+ * Refusals: 5, the first has other than 22 words; 6, the first is unfit, as in adding; 5 and 6, the same of the second; 12, the
  * counts together are above 65,536. */
 uint32_t jirmeklo_join(uint32_t *first, size_t words, const uint32_t *second, size_t second_words);
 
-/* Reads a total as a pair: first is the total rounded, second the rest rounded. Refusals: 5 and 6, as in adding. */
+/* Carries an old total over, of 21 words without a sign word, into 22, whatever these held. The old one stays as it was. Without terms
+ * the sign word is 0, with any it is 1: the total reads as it did.
+ * Refusals: 5, other than 21 old words, or other than 22; 6, an unfit old total (a count above 65,536, or a magnitude above
+ * count * 2^554). */
+uint32_t jirmeklo_carry_over(const uint32_t *old, size_t old_words, uint32_t *total, size_t words);
+
+/* Reads a total as a pair: first is the total rounded, second the rest rounded. A zero total reads -0 twice where it has terms and
+ * the sign word 0, and +0 twice otherwise. Refusals: 5 and 6, as in adding. */
 struct jirmeklo_reading jirmeklo_read(const uint32_t *total, size_t words);
 
 /* Writes the step sheet of an operation (1 sum, 2 difference, 3 product) into the first 65 words: up to 13 lines (one where the
@@ -79,9 +87,10 @@ struct jirmeklo_reading jirmeklo_read(const uint32_t *total, size_t words);
 struct jirmeklo_filled jirmeklo_fill(uint32_t operation, uint32_t x, uint32_t y, uint32_t *words, size_t count);
 
 /* Fills the sheets of a list of questions, one after the other, the ith into the first counts[i] of the words. Where its
- * pair is finite and exact, adds the pair to the first total, and what was asked to the second: both then hold one number.
+ * pair is finite and exact, adds the pair to the first total, and what was asked to the second: both then hold one number,
+ * with one sign word.
  * Refusals: 101, operations, xs, ys and counts are not equally long; 102, more than 32,768 questions;
- * 103, a total that is not 21 zeros; 104, one of counts is more than the words. */
+ * 103, a total that is not 22 zeros; 104, one of counts is more than the words. */
 uint32_t jirmeklo_replay(const uint32_t *operations, size_t operations_count,
                          const uint32_t *xs, size_t xs_count,
                          const uint32_t *ys, size_t ys_count,

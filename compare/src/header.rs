@@ -118,7 +118,7 @@ fn type_in_rust(c: &str) -> String {
 }
 
 /// What is changed in the header, to what, and what is then wrong.
-const FAULTS: [(&str, &str, &str); 10] = [
+const FAULTS: [(&str, &str, &str); 11] = [
     ("jirmeklo_sub(", "jirmeklo_subtract(", "another name"),
     (
         "jirmeklo_fma(uint32_t x, uint32_t y, uint32_t z)",
@@ -128,6 +128,7 @@ const FAULTS: [(&str, &str, &str); 10] = [
     ("size_t words, uint32_t x)", "uint32_t x, size_t words)", "arguments in each other's place"),
     ("jirmeklo_read(const uint32_t *", "jirmeklo_read(uint32_t *", "an array that is written"),
     ("const uint32_t *second, size_t", "uint32_t *second, size_t", "a second array that is written"),
+    ("const uint32_t *old, size_t", "uint32_t *old, size_t", "an old array that is written"),
     ("struct jirmeklo_pair jirmeklo_sum", "struct jirmeklo_reading jirmeklo_sum", "another result"),
     ("uint32_t *words, size_t count", "uint32_t *words, uint32_t count", "an argument of another type"),
     ("overflow, underflow,", "underflow, overflow,", "fields in each other's place"),

@@ -50,6 +50,7 @@ extern "C" {
     pub fn jirmeklo_add_pattern(total: *mut u32, words: usize, x: u32) -> u32;
     pub fn jirmeklo_add_product(total: *mut u32, words: usize, x: u32, y: u32) -> u32;
     pub fn jirmeklo_join(first: *mut u32, words: usize, second: *const u32, second_words: usize) -> u32;
+    pub fn jirmeklo_carry_over(old: *const u32, old_words: usize, total: *mut u32, words: usize) -> u32;
     pub fn jirmeklo_read(total: *const u32, words: usize) -> Reading;
     pub fn jirmeklo_fill(operation: u32, x: u32, y: u32, words: *mut u32, count: usize) -> Filled;
     pub fn jirmeklo_replay(

@@ -31,13 +31,13 @@ use processor::Processor;
 use std::process::ExitCode;
 use step::{Question, Step, STEPS};
 use subject::{Library, Subject};
+use totals::model::LENGTH;
 
 const USAGE: &str = "usage: compare check [OPTION N]... | compare sheets [OPTION N]... | compare lists [OPTION N]...
      | compare bench [--seed N] | compare sheets-bench [--seed N] [--program WORDS]
      | compare step STEP PATTERN PATTERN [PATTERN] | compare pair OPERATION PATTERN PATTERN | compare total [TERM | +]...
-     | compare stored-totals | compare sheets-model | compare peer | compare sheets-input SHAPE NUMBER [--seed N]
+     | compare sheets-model | compare peer | compare sheets-input SHAPE NUMBER [--seed N]
     check       all comparisons; sheets: that of the program `sheet` alone; lists: those of filling and of lists alone
-    stored-totals        prints the file of stored totals, as the linked library makes it
     sheets-model, peer   answer question lines of standard input as `sheet` does: by the model, on the processor's floats
     sheets-input         prints a file of question lines that a difference names
     STEP        add, sub, mul or fma, which takes three patterns; a pattern is eight upper-case hexadecimal digits
@@ -61,7 +61,6 @@ fn main() -> ExitCode {
         "step" => one_step(rest),
         "pair" => one_pair(rest),
         "total" => one_total(rest),
-        "stored-totals" if rest.is_empty() => return totals::stored::print(),
         "peer" if rest.is_empty() => return sheets::peer::run(),
         "sheets-model" if rest.is_empty() => return sheets::check::of_input(),
         "sheets-input" => return sheets::check::input(rest).unwrap_or_else(wrong_usage),
@@ -135,7 +134,7 @@ fn one_pair(words: &[String]) -> Option<String> {
 
 /// Adds up each group of terms, and joins the others to the first: what that reads, first and second, or the first refusal.
 fn one_total(words: &[String]) -> Option<String> {
-    let mut joined: Option<[u32; 21]> = None;
+    let mut joined: Option<[u32; LENGTH]> = None;
     for group in words.split(|word| word == "+") {
         let total = match total_of(group)? {
             Ok(total) => total,
@@ -152,8 +151,8 @@ fn one_total(words: &[String]) -> Option<String> {
 }
 
 /// A cleared total with the terms added, or the first refusal.
-fn total_of(words: &[String]) -> Option<Result<[u32; 21], String>> {
-    let mut total = [0; 21];
+fn total_of(words: &[String]) -> Option<Result<[u32; LENGTH], String>> {
+    let mut total = [0; LENGTH];
     totals::subject::clear(&mut total);
     for word in words {
         let terms = word.split('*').map(pattern::read).collect::<Option<Vec<u32>>>()?;

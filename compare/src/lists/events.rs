@@ -1,5 +1,6 @@
 //! Lists of events: questions, and between them readings and adding calls that are refused.
 use super::subject::Question;
+use super::zeros;
 use crate::pairs::pair::Operation;
 use crate::pairs::questions::{self, shapes};
 use crate::pattern::{power, INFINITY, LARGEST, NAN, SIGN};
@@ -34,9 +35,12 @@ pub enum Shape {
     Tiny,
     /// 32,768 questions, most of which enter, and calls on full totals.
     Long,
+    /// Questions whose terms are all -0, and such with another zero among them.
+    Zeros,
 }
 
-pub const SHAPES: [Shape; 5] = [Shape::Random, Shape::Refused, Shape::Cancelling, Shape::Tiny, Shape::Long];
+pub const SHAPES: [Shape; 6] =
+    [Shape::Random, Shape::Refused, Shape::Cancelling, Shape::Tiny, Shape::Long, Shape::Zeros];
 
 /// The most questions of a list.
 pub const MOST: usize = 32_768;
@@ -49,6 +53,7 @@ impl Shape {
             Shape::Cancelling => "cancelling",
             Shape::Tiny => "tiny",
             Shape::Long => "long",
+            Shape::Zeros => "zeros",
         }
     }
 
@@ -68,6 +73,7 @@ impl Shape {
             Shape::Cancelling => cancelling(&mut r),
             Shape::Tiny => (0..r.within(1, 120)).map(|_| tiny(&mut r)).collect(),
             Shape::Long => long(number, &mut r),
+            Shape::Zeros => zeros::list(number, &mut r),
         }
     }
 }
@@ -100,10 +106,15 @@ fn any(r: &mut Random) -> Question {
 }
 
 fn event(r: &mut Random) -> Event {
+    with_calls(any, r)
+}
+
+/// A question, or now and then a reading of a total, or a term that is refused.
+pub fn with_calls(question: impl Fn(&mut Random) -> Question, r: &mut Random) -> Event {
     match r.within(0, 9) {
         0 => Event::Call(r.within(0, 1) as usize, Call::Read),
         1 => Event::Call(r.within(0, 1) as usize, refused(r)),
-        _ => Event::Ask(any(r)),
+        _ => Event::Ask(question(r)),
     }
 }
 
@@ -148,8 +159,8 @@ fn tiny(r: &mut Random) -> Event {
     Event::Ask(Question { operation: operation as u32, x: x | r.sign() << 31, y, lent: 65 })
 }
 
-/// Sums alone, which fill both totals; products alone; the largest of either; any, with calls between.
-const LONG: u64 = 5;
+/// Sums alone, which fill both totals; products alone; the largest of either; any, with calls between; -0 alone.
+const LONG: u64 = 6;
 
 fn long(number: u64, r: &mut Random) -> Vec<Event> {
     let large = |r: &mut Random| LARGEST ^ r.bits(22) as u32 ^ r.sign() << 31;
@@ -163,7 +174,8 @@ fn long(number: u64, r: &mut Random) -> Vec<Event> {
             y: power(0) | r.bits(23) as u32,
             lent: 65,
         },
-        _ => any(r),
+        4 => any(r),
+        _ => zeros::minus(r),
     };
     let mut events = Vec::new();
     for _ in 0..MOST {

@@ -9,3 +9,4 @@ mod planted;
 mod replays;
 mod subject;
 mod trial;
+mod zeros;

@@ -5,6 +5,7 @@ use super::fills::{before, wrong_words};
 use super::model;
 use super::subject::{Arrays, Lents, Question, Subject};
 use crate::random::Random;
+use crate::totals::model::{LENGTH, OLD_LENGTH};
 use crate::totals::subject::Lent;
 
 /// A call: the questions, the words that are lent for their sheets, and the two totals.
@@ -15,7 +16,7 @@ pub struct Replay {
     second: Vec<u32>,
 }
 
-const CLEARED: [u32; 21] = [0; 21];
+const CLEARED: [u32; LENGTH] = [0; LENGTH];
 /// As many as a question of a list lends at most.
 const LENT: u32 = 70;
 
@@ -82,7 +83,8 @@ pub fn difference<S: Subject>(subject: &S, mut replay: Replay) -> Option<String>
     wrong.into_iter().flatten().next()
 }
 
-/// The conditions that a replay meets are those of the bits of its number, so that 16 in turn have every set.
+/// The conditions that a replay meets are those of the bits of its number, so that 16 in turn have every set; and 64 in turn have
+/// each of them with every way that a total is not cleared.
 pub fn refused(number: u64, r: &mut Random) -> Replay {
     let [unequal, many, uncleared, long] = [0, 1, 2, 3].map(|bit| number >> bit & 1 == 1);
     let count = if many { MOST as i32 + r.within(1, 2) } else { r.within(2, 12) };
@@ -98,7 +100,7 @@ pub fn refused(number: u64, r: &mut Random) -> Replay {
     }
     if uncleared {
         let total = if r.once_in(2) { &mut replay.first } else { &mut replay.second };
-        spoil(total, r);
+        spoil(number >> 4 & 3, total, r);
     }
     replay
 }
@@ -122,11 +124,12 @@ fn make_unequal(arrays: &mut Arrays, r: &mut Random) {
     }
 }
 
-/// A word that is not 0, or a word more or less.
-fn spoil(total: &mut Vec<u32>, r: &mut Random) {
-    match r.within(0, 3) {
+/// A word more or less, a last word of 1, or any word that is not 0.
+fn spoil(way: u64, total: &mut Vec<u32>, r: &mut Random) {
+    match way {
         0 => total.push(0),
-        1 => total.truncate(20),
-        _ => total[r.within(0, 20) as usize] = 1 << r.within(0, 31),
+        1 => total.truncate(OLD_LENGTH),
+        2 => total[LENGTH - 1] = 1,
+        _ => total[r.within(0, LENGTH as i32 - 1) as usize] = 1 << r.within(0, 31),
     }
 }

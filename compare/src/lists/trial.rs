@@ -8,6 +8,7 @@ use crate::pattern::is_finite;
 use crate::random::Random;
 use crate::totals::call::{Call, Reading};
 use crate::totals::model::{LENGTH, MOST};
+use crate::totals::number::WORDS;
 use crate::totals::subject::{Lent, Library, Subject as _};
 use crate::workers::{self, Outcome};
 
@@ -108,7 +109,7 @@ fn ask<S: Subject>(subject: &S, q: Question, book: &mut Book, totals: &mut [Lent
 /// A reading reads S; an adding call that the rules refuse is refused. Any other adding call is no part of a list.
 fn called(call: Call, book: &Book, place: usize, total: &mut Lent) -> Option<String> {
     let held = if place == 0 { book.first() } else { book.second() };
-    let full = held.last() == Some(&MOST);
+    let full = held[WORDS] == MOST;
     let right = match call {
         Call::Read => book.reading(),
         _ if !call.operands().into_iter().all(is_finite) => Reading::refused(7),

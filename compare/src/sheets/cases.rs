@@ -64,6 +64,26 @@ const CASES: [(&str, &str); 11] = [
     ("mul\t3F800001\t3F800001", "3F800002\t28800000\t-"),
 ];
 
+const PLUS: &str = "00000000\t00000000";
+const MINUS: &str = "80000000\t80000000";
+
+/// Questions with the `total` line: -0 where all that is added is.
+const TOTALS: [(&str, &str); 11] = [
+    ("sum\t80000000\t80000000", MINUS),
+    ("dif\t80000000\t00000000", MINUS),
+    ("mul\t80000000\t3F800000", MINUS),
+    ("sum\t80000000\t80000000\nmul\t00000000\t80000000\ndif\t80000000\t00000000", MINUS),
+    ("sum\t80000000\t80000000\nsum\t00000000\t80000000\nsum\t80000000\t80000000", PLUS),
+    ("sum\tBF800000\t3F800000", PLUS),
+    // Half of the smallest number: the product rounds to a zero of its sign, which is added.
+    ("mul\t80000001\t3F000000", MINUS),
+    ("sum\t80000000\t80000000\nmul\t00000001\t3F000000", PLUS),
+    // A pair that is not finite, and a bad line, add nothing.
+    ("sum\t80000000\t80000000\nsum\t7F800000\t3F800000\nsum", MINUS),
+    ("mul\t7F800000\t80000000", PLUS),
+    ("\n", PLUS),
+];
+
 /// The first thing that the model does not give.
 pub fn distrusted(processor: Processor, seed: u64) -> Option<String> {
     let texts = [
@@ -72,17 +92,22 @@ pub fn distrusted(processor: Processor, seed: u64) -> Option<String> {
         ("empty input", "", EMPTY),
     ];
     let text = texts.iter().find(|(_, input, right)| model::printed(input.as_bytes()) != *right);
-    text.map(|text| text.0.to_string()).or_else(wrong_pair).or_else(|| wrong_step(processor, seed)).or_else(
-        || branches::missing(seed, WAYS).map(|asked| format!("a way without a row: {}", asked.shown())),
-    )
+    text.map(|text| text.0.to_string())
+        .or_else(|| wrong_line(&CASES, "pair"))
+        .or_else(|| wrong_line(&TOTALS, "total"))
+        .or_else(|| wrong_step(processor, seed))
+        .or_else(|| {
+            branches::missing(seed, WAYS).map(|asked| format!("a way without a row: {}", asked.shown()))
+        })
 }
 
-fn wrong_pair() -> Option<String> {
-    let wrong = |(question, pair): &&(&str, &str)| {
-        let printed = model::printed(question.as_bytes());
-        printed.lines().find_map(|line| line.strip_prefix("pair\t")) != Some(*pair)
+/// The questions whose line of this name is not the one that is given.
+fn wrong_line(cases: &[(&str, &str)], name: &str) -> Option<String> {
+    let wrong = |(questions, right): &&(&str, &str)| {
+        let printed = model::printed(questions.as_bytes());
+        printed.lines().find_map(|line| line.strip_prefix(name)?.strip_prefix('\t')) != Some(*right)
     };
-    CASES.iter().find(wrong).map(|case| case.0.to_string())
+    cases.iter().find(wrong).map(|case| case.0.to_string())
 }
 
 /// Random questions a step and shape, and random questions for ways.

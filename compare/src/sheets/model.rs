@@ -3,7 +3,7 @@ use super::line::{self, Asked};
 use super::sheet::{sheet, Line, Sheet};
 use crate::pattern::is_finite;
 use crate::step::Step;
-use crate::totals::model::{value, Total};
+use crate::totals::model::{Term, Total};
 
 /// The most lines that are answered.
 pub const MOST: usize = 32_768;
@@ -60,7 +60,7 @@ impl Page {
         self.text.push_str(&format!("pair\t{first:08X}\t{second:08X}\t{}\n", flags.shown()));
         // A pair is finite in both or in neither.
         if is_finite(first) {
-            self.total = self.total.with(&value(first)).with(&value(second));
+            self.total = self.total.with(&Term::pattern(first)).with(&Term::pattern(second));
         }
     }
 

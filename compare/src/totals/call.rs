@@ -39,6 +39,10 @@ pub enum Turn {
     On(usize, Call),
     /// The second is joined to the first, which is another.
     Join(usize, usize),
+    /// The first, an old total, is carried over into the second, which is another.
+    CarryOver(usize, usize),
+    /// No call: the second becomes the first without its last word, as the build before request 4 would have stored it.
+    AsOld(usize, usize),
 }
 
 impl Turn {
@@ -46,6 +50,8 @@ impl Turn {
         match self {
             Turn::On(_, call) => call.shown(),
             Turn::Join(..) => "join".to_string(),
+            Turn::CarryOver(..) => "carry over".to_string(),
+            Turn::AsOld(..) => "as an old total".to_string(),
         }
     }
 }

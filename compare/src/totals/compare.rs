@@ -1,7 +1,7 @@
 //! Compares a subject's totals with the model's, after every call.
 use super::call::{Reading, Turn};
 use super::columns::{Column, Source};
-use super::model;
+use super::model::{self, OLD_LENGTH};
 use super::subject::{Lent, Subject};
 use crate::workers::{self, Outcome};
 
@@ -74,15 +74,34 @@ impl Trial {
                 self.difference(turn, &[place], given, right)
             }
             Turn::Join(first, second) => {
-                let places = [first, second];
-                self.keep(&places);
-                let [one, other] = self.lent.get_disjoint_mut(places).expect("two totals of the column");
-                let given = subject.join(one, other);
-                let [one, other] = self.words.get_disjoint_mut(places).expect("two totals of the column");
-                let right = model::join(one, other);
-                self.difference(turn, &places, Reading::refused(given), Reading::refused(right))
+                let join = |one: &mut Lent, other: &mut Lent| subject.join(one, other);
+                self.make_on_two(turn, [first, second], join, |one, other| model::join(one, other))
+            }
+            Turn::CarryOver(old, new) => {
+                let carry_over = |old: &mut Lent, new: &mut Lent| subject.carry_over(old, new);
+                self.make_on_two(turn, [old, new], carry_over, |old, new| model::carry_over(old, new))
+            }
+            Turn::AsOld(from, to) => {
+                self.lent[to] = Lent::new(&self.lent[from].words()[..OLD_LENGTH]);
+                self.words[to] = self.words[from][..OLD_LENGTH].to_vec();
+                None
             }
         }
+    }
+
+    fn make_on_two(
+        &mut self,
+        turn: Turn,
+        places: [usize; 2],
+        subject: impl Fn(&mut Lent, &mut Lent) -> u32,
+        model: impl Fn(&mut [u32], &mut [u32]) -> u32,
+    ) -> Option<Difference> {
+        self.keep(&places);
+        let [one, other] = self.lent.get_disjoint_mut(places).expect("two totals of the column");
+        let given = subject(one, other);
+        let [one, other] = self.words.get_disjoint_mut(places).expect("two totals of the column");
+        let right = model(one, other);
+        self.difference(turn, &places, Reading::refused(given), Reading::refused(right))
     }
 
     fn keep(&mut self, places: &[usize]) {

@@ -1,4 +1,4 @@
-//! The reference for totals: a whole number and a count, and the rules of R6 and R8 on them.
+//! The reference for totals: a whole number, a count and the sign word, and the rules of R6 and R8 on them.
 //!
 //! It is written from the specification's words, to be believed rather than to be fast. A call turns the
 //! words into a number, works on that, and turns it back. It shares no code with the model of the pairs.
@@ -6,8 +6,12 @@ use super::call::{Call, Reading};
 use super::number::{Number, WORDS};
 use crate::pattern::{exponent_field, is_finite, magnitude, FRACTION, INFINITY, SIGN};
 
-/// The words of a total.
-pub const LENGTH: usize = 21;
+/// The words of a total: its number, its count and the sign word.
+pub const LENGTH: usize = OLD_LENGTH + 1;
+/// The words that a total had before request 4: its number and its count.
+pub const OLD_LENGTH: usize = WORDS + 1;
+/// Which word is the sign word.
+pub const ZERO_SIGN: usize = OLD_LENGTH;
 /// The most terms that a total takes.
 pub const MOST: u32 = 65_536;
 /// The place of 1, in bits above 2^-298.
@@ -23,35 +27,83 @@ pub struct Total {
     pub number: Number,
     /// The terms that are in it.
     pub count: u32,
+    /// 0 while all of them have been -0, else 1. In words that no calls left it may be anything.
+    pub sign_word: u32,
 }
 
 impl Total {
-    pub const CLEARED: Total = Total { number: Number::ZERO, count: 0 };
+    pub const CLEARED: Total = Total { number: Number::ZERO, count: 0, sign_word: 0 };
 
-    /// What 21 words hold.
+    /// As so many terms leave it that were not all -0.
+    pub fn new(number: Number, count: u32) -> Total {
+        Total { number, count, sign_word: u32::from(count > 0) }
+    }
+
+    /// So many terms of -0.
+    pub fn minus_zeros(count: u32) -> Total {
+        Total { count, ..Total::CLEARED }
+    }
+
+    /// What 22 words hold.
     pub fn of(words: &[u32]) -> Total {
-        Total { number: Number::of_words(&words[..WORDS]), count: words[WORDS] }
+        Total { sign_word: words[ZERO_SIGN], ..Total::of_old(&words[..OLD_LENGTH]) }
+    }
+
+    /// What 21 words hold, carried over: of what the terms were only their sum and their count is known.
+    pub fn of_old(words: &[u32]) -> Total {
+        assert_eq!(words.len(), OLD_LENGTH, "an old total has so many");
+        Total::new(Number::of_words(&words[..WORDS]), words[WORDS])
     }
 
     pub fn words(&self) -> Vec<u32> {
+        let mut words = self.old_words();
+        words.push(self.sign_word);
+        words
+    }
+
+    /// Number and count.
+    pub fn old_words(&self) -> Vec<u32> {
         let mut words = self.number.words().to_vec();
         words.push(self.count);
         words
     }
 
     pub fn fits(&self) -> bool {
+        let sign_fits = match self.sign_word {
+            0 => self.number == Number::ZERO,
+            1 => self.count > 0,
+            _ => false,
+        };
+        sign_fits && self.fits_as_old()
+    }
+
+    /// By number and count alone.
+    pub fn fits_as_old(&self) -> bool {
         self.count <= MOST && self.number.magnitude() <= Number::at(u64::from(self.count), BOUND)
     }
 
-    pub fn with(&self, term: &Number) -> Total {
-        Total { number: self.number.plus(term), count: self.count + 1 }
+    pub fn with(&self, term: &Term) -> Total {
+        let all_minus_zero = self.sign_word == 0 && term.minus_zero;
+        Total {
+            number: self.number.plus(&term.number),
+            count: self.count + 1,
+            sign_word: u32::from(!all_minus_zero),
+        }
     }
 
     pub fn joined(&self, other: &Total) -> Total {
-        Total { number: self.number.plus(&other.number), count: self.count + other.count }
+        let all_minus_zero = self.sign_word == 0 && other.sign_word == 0;
+        Total {
+            number: self.number.plus(&other.number),
+            count: self.count + other.count,
+            sign_word: u32::from(!all_minus_zero),
+        }
     }
 
     pub fn reading(&self) -> Reading {
+        if self.number == Number::ZERO && self.count > 0 && self.sign_word == 0 {
+            return Reading::of(SIGN, SIGN);
+        }
         let first = nearest(&self.number);
         if !is_finite(first) {
             return Reading::of(first, first);
@@ -84,7 +136,7 @@ pub fn answer(call: Call, words: &mut [u32]) -> Reading {
     if total.count == MOST {
         return Reading::refused(8);
     }
-    words.copy_from_slice(&total.with(&term(call)).words());
+    words.copy_from_slice(&total.with(&Term::of(call)).words());
     Reading::DONE
 }
 
@@ -106,12 +158,41 @@ pub fn join(first: &mut [u32], second: &[u32]) -> u32 {
     0
 }
 
+/// The refusal of carrying an old total over; where it is 0, the new words are what that leaves in them.
+pub fn carry_over(old: &[u32], new: &mut [u32]) -> u32 {
+    if old.len() != OLD_LENGTH || new.len() != LENGTH {
+        return 5;
+    }
+    let total = Total::of_old(old);
+    if !total.fits_as_old() {
+        return 6;
+    }
+    new.copy_from_slice(&total.words());
+    0
+}
+
 /// What an adding call with finite operands adds.
-pub fn term(call: Call) -> Number {
-    match call {
-        Call::Pattern(x) => value(x),
-        Call::Product(x, y) => product(x, y),
-        Call::Clear | Call::Read => unreachable!("these add nothing"),
+#[derive(Clone, Copy)]
+pub struct Term {
+    pub number: Number,
+    /// It is a zero, and its sign is minus.
+    pub minus_zero: bool,
+}
+
+impl Term {
+    pub fn pattern(x: u32) -> Term {
+        Term { number: value(x), minus_zero: x == SIGN }
+    }
+
+    pub fn of(call: Call) -> Term {
+        match call {
+            Call::Pattern(x) => Term::pattern(x),
+            Call::Product(x, y) => {
+                let zero = magnitude(x) == 0 || magnitude(y) == 0;
+                Term { number: product(x, y), minus_zero: zero && (x ^ y) & SIGN != 0 }
+            }
+            Call::Clear | Call::Read => unreachable!("these add nothing"),
+        }
     }
 }
 

@@ -87,6 +87,7 @@ impl Counted {
         Counted { number: Plain { limbs: std::array::from_fn(limb) }, count: words[2 * LIMBS] }
     }
 
+    /// Number and count as a total's words have them.
     pub fn words(&self) -> Vec<u32> {
         let mut words = self.number.words();
         words.push(self.count);

@@ -2,7 +2,7 @@
 use super::call::{Call, Reading};
 use crate::library;
 
-// SAFETY, for the five: the functions are proved for every slice and every pattern, touch no memory but the
+// SAFETY, for the six: the functions are proved for every slice and every pattern, touch no memory but the
 // slices', and keep none of it. No two slices overlap, as one of them is lent to be written.
 pub fn clear(total: &mut [u32]) -> u32 {
     unsafe { library::jirmeklo_clear(total.as_mut_ptr(), total.len()) }
@@ -18,6 +18,10 @@ pub fn add_product(total: &mut [u32], x: u32, y: u32) -> u32 {
 
 pub fn join(first: &mut [u32], second: &[u32]) -> u32 {
     unsafe { library::jirmeklo_join(first.as_mut_ptr(), first.len(), second.as_ptr(), second.len()) }
+}
+
+pub fn carry_over(old: &[u32], total: &mut [u32]) -> u32 {
+    unsafe { library::jirmeklo_carry_over(old.as_ptr(), old.len(), total.as_mut_ptr(), total.len()) }
 }
 
 pub fn read(total: &[u32]) -> Reading {
@@ -68,6 +72,9 @@ pub trait Subject: Sync {
 
     /// The refusal. Only a fault writes to the second.
     fn join(&self, first: &mut Lent, second: &mut Lent) -> u32;
+
+    /// The refusal. Only a fault writes to the old total.
+    fn carry_over(&self, old: &mut Lent, new: &mut Lent) -> u32;
 }
 
 pub struct Library;
@@ -84,5 +91,9 @@ impl Subject for Library {
 
     fn join(&self, first: &mut Lent, second: &mut Lent) -> u32 {
         join(first.words_mut(), second.words())
+    }
+
+    fn carry_over(&self, old: &mut Lent, new: &mut Lent) -> u32 {
+        carry_over(old.words(), new.words_mut())
     }
 }

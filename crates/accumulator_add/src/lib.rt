@@ -1,43 +1,43 @@
 // Terms of a total: patterns, and products of two (R6.2). A call answers by the refusal's number (R8.7), or by 0.
 use accumulator_spec::NUMBER_SIZE;
 use accumulator_spec::SIGN_WORD;
+use accumulator_words::fit::has_room;
 use accumulator_words::fit::refusal_to_add;
 use accumulator_words::place;
-use choose::choose_pattern;
 use exact;
 use pattern::both_finite;
 use pattern::classify;
-use pattern::is_finite;
 use pattern_spec::Class;
 ghost use mathlib.Core.Path.{_≡_};
 ghost use mathlib.Core.Bool.{cond, _&&_};
-ghost use Prim.Native.Nat.{_≤_, _<_};
+ghost use Prim.Native.Nat.{suc, _≤_, _<_};
 ghost use lib.Dec.{eqb};
-ghost use lib.ListN.{length};
-ghost use Rattle.accumulator_spec.specs.Totals.{totalSize, mostTerms, count, signWord, ofPattern, ofProduct, AddsNumbered};
-ghost use Rattle.accumulator_spec.specs.Inner.{counted};
+ghost use lib.ListN.{length, set};
+ghost use Rattle.accumulator_spec.specs.Totals.{numberSize, totalSize, mostTerms, count, signWord, ofPattern, ofProduct, AddsNumbered};
+ghost use Rattle.accumulator_add.specs.Inner.{Enters, noted};
 
+// Either call ends this one and is handed all that it was lent, so that nothing is kept for after it.
 pub fn add_pattern(total: &mut [u32], x: u32) -> u32
     ensures { λ r. ⌜ AddsNumbered (now (total .entry)) (ofPattern x) r (now (total .exit)) ⌝ }
 {
-    let wrong = refusal_to_add(total);
-    if wrong != 0 {
-        return in_order(wrong, is_finite(x));
+    if has_room(total) {
+        return enter_pattern(total, x);
     }
-    let a = classify(x);
-    match a {
-        Class::Finite { sign, sig, exp } => {
-            count_term(total, sign, sig);
-            // A pattern counts 2^-149.
-            accumulator_words::add_short(&mut total[0..NUMBER_SIZE], place(sign, sig, exp + 149));
-            0
-        }
-        Class::Infinite(_) => 7,
-        Class::NotANumber => 7,
-    }
+    // Seldom done: as the product with 1, which is the same term.
+    admit(total, x, 0x3f80_0000)
 }
 
 pub fn add_product(total: &mut [u32], x: u32, y: u32) -> u32
+    ensures { λ r. ⌜ AddsNumbered (now (total .entry)) (ofProduct x y) r (now (total .exit)) ⌝ }
+{
+    if has_room(total) {
+        return enter_product(total, x, y);
+    }
+    admit(total, x, y)
+}
+
+// A product with a total that may have to be refused, or whose sign word the term may change.
+fn admit(total: &mut [u32], x: u32, y: u32) -> u32
     ensures { λ r. ⌜ AddsNumbered (now (total .entry)) (ofProduct x y) r (now (total .exit)) ⌝ }
 {
     let wrong = refusal_to_add(total);
@@ -46,9 +46,42 @@ pub fn add_product(total: &mut [u32], x: u32, y: u32) -> u32
     }
     let p = exact::product(x, y);
     match p {
+        Class::Finite { sign, sig, exp: _ } => {
+            note_sign(total, sign, sig);
+            enter_product(total, x, y)
+        }
+        Class::Infinite(_) => 7,
+        Class::NotANumber => 7,
+    }
+}
+
+// Adds a finite term to number and count of a total with room for it, and leaves the sign word; 7 for any other.
+fn enter_pattern(total: &mut [u32], x: u32) -> u32
+    requires { ⌜ (length (now total) ≡ totalSize) × (count (now total) < mostTerms) ⌝ }
+    ensures { λ r. ⌜ Enters (now (total .entry)) (ofPattern x) r (now (total .exit)) ⌝ }
+{
+    let a = classify(x);
+    match a {
         Class::Finite { sign, sig, exp } => {
-            count_term(total, sign, sig);
+            // A pattern counts 2^-149.
+            accumulator_words::add_short(&mut total[0..NUMBER_SIZE], place(sign, sig, exp + 149));
+            count_term(total);
+            0
+        }
+        Class::Infinite(_) => 7,
+        Class::NotANumber => 7,
+    }
+}
+
+fn enter_product(total: &mut [u32], x: u32, y: u32) -> u32
+    requires { ⌜ (length (now total) ≡ totalSize) × (count (now total) < mostTerms) ⌝ }
+    ensures { λ r. ⌜ Enters (now (total .entry)) (ofProduct x y) r (now (total .exit)) ⌝ }
+{
+    let p = exact::product(x, y);
+    match p {
+        Class::Finite { sign, sig, exp } => {
             accumulator_words::add(&mut total[0..NUMBER_SIZE], place(sign, sig, exp));
+            count_term(total);
             0
         }
         Class::Infinite(_) => 7,
@@ -67,25 +100,25 @@ fn in_order(wrong: u32, finite: bool) -> u32
     }
 }
 
-// Counts a term ±sig * 2^exp of a total with room for it. The sign word changes at most once in a column, from 0 to 1, so that it is
-// looked at before it is written.
-fn count_term(total: &mut [u32], minus: bool, sig: u64)
-    requires { ⌜ (length (now total) ≡ totalSize) × (count (now total) < mostTerms) × (signWord (now total) ≤ 1) ⌝ }
-    ensures { λ _. ⌜ now (total .exit) ≡ counted (now (total .entry)) (cond (minus && eqb sig 0) 0 1) ⌝ }
+fn count_term(total: &mut [u32])
+    requires { ⌜ (length (now total) ≡ totalSize) × (count (now total) < mostTerms) ⌝ }
+    ensures { λ _. ⌜ now (total .exit) ≡ set (now (total .entry)) numberSize (suc (count (now (total .entry)))) ⌝ }
 {
     total[NUMBER_SIZE] = total[NUMBER_SIZE] + 1;
-    if total[SIGN_WORD] == 0 {
-        total[SIGN_WORD] = sign_word(minus, sig);
+}
+
+// The sign word after a term ±sig * 2^exp: 1, but after -0 as it was (R6.11).
+fn note_sign(total: &mut [u32], minus: bool, sig: u64)
+    requires { ⌜ (length (now total) ≡ totalSize) × (signWord (now total) ≤ 1) ⌝ }
+    ensures { λ _. ⌜ now (total .exit) ≡ noted (now (total .entry)) (cond (minus && eqb sig 0) 0 1) ⌝ }
+{
+    if !is_minus_zero(minus, sig) {
+        total[SIGN_WORD] = 1;
     }
 }
 
-// 0 for -0 alone.
-fn sign_word(minus: bool, sig: u64) -> u32
-    ensures { λ r. ⌜ r ≡ cond (minus && eqb sig 0) 0 1 ⌝ }
+fn is_minus_zero(minus: bool, sig: u64) -> bool
+    ensures { λ r. ⌜ r ≡ (minus && eqb sig 0) ⌝ }
 {
-    if minus {
-        choose_pattern(sig == 0, 0, 1)
-    } else {
-        1
-    }
+    if minus { sig == 0 } else { false }
 }

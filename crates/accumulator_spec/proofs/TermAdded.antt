@@ -1,20 +1,20 @@
--- A shifted significand goes into the words of a number from word w on; in a total the term is counted before that.
+-- A shifted significand goes into the words of a number from word w on; in a total the count is raised then.
 use mathlib.Core.Path.{_≡_, sym, ap, ap₂, _∙_}
 use mathlib.Core.Bool.{Bool}
 use mathlib.Core.List.{List, [], _∷_, _++_, append-nil, append-assoc}
 use Prim.Native.Nat.{ℕ, suc, _+_, _-_, _*_, _^_, _≤_}
 use native.Mathlib.Nat.{le-of-eq, mul-assoc, mul-comm}
 use native.Mathlib.Omega.{arith}
-use lib.IntN.{_+ℤ_}
+use lib.IntN.{ℤ, _+ℤ_}
 use lib.ListN.{length, take, drop, set, drop-of-length-le, length-append}
 use lib.Pow.{pow-add}
-use lib.Seq.{take-all, take-at, drop-at, drop-cons, set-at, set-split, set-getD, getD-set-other, length-take-le}
+use lib.Seq.{take-all, drop-cons, set-at, set-split, length-take-le}
 use Rattle.pattern_spec.specs.Exact.{int}
 use Rattle.accumulator_spec.specs.Words.{Words, integer, wordsOfInteger}
-use Rattle.accumulator_spec.specs.Totals.{numberSize, totalSize, number, count, signWord, totalOf, signOfBoth}
-use Rattle.accumulator_spec.specs.Inner.{afterTerm, carried, counted}
+use Rattle.accumulator_spec.specs.Totals.{numberSize, totalSize, number, count, signWord, totalOf}
+use Rattle.accumulator_spec.specs.Inner.{afterTerm, carried}
 use Rattle.accumulator_spec.proofs.Parts.{lent-on, part-added}
-use Rattle.accumulator_spec.proofs.Signs.{sign-idl, sign-comm, sign-one, is-one}
+use Rattle.accumulator_spec.proofs.Held.{words-full, total-count, total-full}
 
 -- the weight of the word times the number that is added there
 weighed : (sig w shift : ℕ) → 2 ^ (32 * w) * (sig * 2 ^ shift) ≡ sig * 2 ^ (32 * w + shift)
@@ -39,7 +39,7 @@ number-term ws s sig exp new l e =
     ap₂ (λ (xs ys : List ℕ). xs ++ ys) (e ∙ ap (λ (xs : List ℕ). afterTerm xs s sig exp) (take-all numberSize ws (le-of-eq l))) (drop-of-length-le ws (le-of-eq l))
     ∙ append-nil _ ∙ ap (λ (k : ℕ). wordsOfInteger k (integer ws +ℤ int s (sig * 2 ^ exp))) l
 
--- ---- a total: the term is counted first, then its number is moved
+-- ---- a total
 -- the words of the number, and two words written behind them
 pub counted-words : (t : List ℕ) (n w : ℕ) → length t ≡ totalSize → set (set t numberSize n) (numberSize + 1) w ≡ take numberSize t ++ (n ∷ w ∷ [])
 counted-words t n w full =
@@ -51,33 +51,23 @@ counted-words t n w full =
     set-split t numberSize n (omega arith) ∙ ap (λ (xs : List ℕ). front ++ n ∷ xs) last ∙ sym (append-assoc front (n ∷ []) (signWord t ∷ [])) in
     ap (λ (xs : List ℕ). set xs (numberSize + 1) w) e ∙ set-at (front ++ (n ∷ [])) (signWord t) [] w (numberSize + 1) k ∙ append-assoc front (n ∷ []) (w ∷ [])
 
--- so a term is counted: its sign word is written where that of the total was 0,
-pub sign-first : (t : List ℕ) (w : ℕ) → length t ≡ totalSize → w ≤ 1 → signWord t ≡ 0 → set (set t numberSize (suc (count t))) (numberSize + 1) w ≡ counted t w
-sign-first t w full h e =
-    counted-words t (suc (count t)) w full
-    ∙ ap (λ (v : ℕ). take numberSize t ++ (suc (count t) ∷ v ∷ [])) (sym (ap (λ (v : ℕ). signOfBoth v w) e ∙ sign-idl w h))
+-- The words of the number moved by a term, and the count behind them raised.
+module _ (t : List ℕ) (s : Bool) (sig exp : ℕ) (new : List ℕ) (full : length t ≡ totalSize) (moved : new ≡ afterTerm (take numberSize t) s sig exp) where
+  abbrev z : ℤ
+  z = number t +ℤ int s (sig * 2 ^ exp)
 
--- and else it stays as it is
-pub sign-kept : (t : List ℕ) (w : ℕ) → length t ≡ totalSize → signWord t ≤ 1 → (signWord t ≡ 0 → ⊥) → set t numberSize (suc (count t)) ≡ counted t w
-sign-kept t w full h n =
-    sym (set-getD (set t numberSize (suc (count t))) (numberSize + 1) 0)
-    ∙ ap (set (set t numberSize (suc (count t))) (numberSize + 1)) (getD-set-other t numberSize (numberSize + 1) (suc (count t)) 0 (λ e. omega (arith, e)))
-    ∙ counted-words t (suc (count t)) (signWord t) full
-    ∙ ap (λ (v : ℕ). take numberSize t ++ (suc (count t) ∷ v ∷ [])) (is-one (signWord t) h n ∙ sym (sign-comm (signWord t) w ∙ sign-one w (signWord t) n))
+  lent : new ++ drop numberSize t ≡ totalOf z (count t) (signWord t)
+  lent =
+      ap₂ (λ (xs ys : List ℕ). xs ++ ys) (moved ∙ ap (λ (x : ℕ). wordsOfInteger x z) (length-take-le numberSize t (omega arith)))
+      (drop-cons t numberSize 0 (omega arith)
+      ∙ ap (λ (xs : List ℕ). count t ∷ xs) (drop-cons t (numberSize + 1) 0 (omega arith) ∙ ap (λ (xs : List ℕ). signWord t ∷ xs) (drop-of-length-le t (le-of-eq full))))
 
-pub counted-full : (t : List ℕ) (w : ℕ) → length t ≡ totalSize → length (counted t w) ≡ totalSize
-counted-full t w full =
-    length-append (take numberSize t) (suc (count t) ∷ signOfBoth (signWord t) w ∷ []) ∙ ap (λ (k : ℕ). k + 2) (length-take-le numberSize t (omega arith))
-
--- The words of the number moved by a term behind which count and sign word stand.
-module _ (t : List ℕ) (n w : ℕ) (s : Bool) (sig exp : ℕ) (now new : List ℕ) (full : length t ≡ totalSize) (is : now ≡ take numberSize t ++ (n ∷ w ∷ []))
-    (moved : new ≡ afterTerm (take numberSize now) s sig exp) where
-  number-long : length (take numberSize t) ≡ numberSize
-  number-long = length-take-le numberSize t (omega arith)
-
-  pub counted-term : new ++ drop numberSize now ≡ totalOf (number t +ℤ int s (sig * 2 ^ exp)) n w
+  pub counted-term : (length (new ++ drop numberSize t) ≡ totalSize) × (count (new ++ drop numberSize t) ≡ count t)
+      × (set (new ++ drop numberSize t) numberSize (suc (count (new ++ drop numberSize t))) ≡ totalOf z (suc (count t)) (signWord t))
   counted-term =
-      let front : take numberSize now ≡ take numberSize t = ap (take numberSize) is ∙ take-at (take numberSize t) (n ∷ w ∷ []) numberSize number-long in
-      let back : drop numberSize now ≡ n ∷ w ∷ [] = ap (drop numberSize) is ∙ drop-at (take numberSize t) (n ∷ w ∷ []) numberSize number-long in
-      ap₂ (λ (xs ys : List ℕ). xs ++ ys)
-      (moved ∙ ap (λ (xs : List ℕ). afterTerm xs s sig exp) front ∙ ap (λ (k : ℕ). wordsOfInteger k (number t +ℤ int s (sig * 2 ^ exp))) number-long) back
+      let n = ap (λ (xs : List ℕ). count xs) lent ∙ total-count z (count t) (signWord t) in (
+        ap (λ (xs : List ℕ). length xs) lent ∙ total-full z (count t) (signWord t),
+        n,
+        ap₂ (λ (xs : List ℕ) (x : ℕ). set xs numberSize (suc x)) lent n
+            ∙ set-at (wordsOfInteger numberSize z) (count t) (signWord t ∷ []) (suc (count t)) numberSize (words-full z (count t) (signWord t)),
+      )

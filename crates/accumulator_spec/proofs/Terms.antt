@@ -40,12 +40,12 @@ finer-finite nan = refl
 finer-finite (infinite s) = refl
 finer-finite (finite s a) = refl
 
-term-finite : (x : Term) → finiteOperands x ≡ isFinite (exactTerm x)
+pub term-finite : (x : Term) → finiteOperands x ≡ isFinite (exactTerm x)
 term-finite (ofPattern x) = sym (finer-finite (decode binary32 x))
 term-finite (ofProduct x y) = sym (times-finite (decode binary32 x) (decode binary32 y))
 
 -- ---- digits count nothing where the significand is 0
-digits-zero : (sig exp : ℕ) → eqb (sig * 2 ^ exp) 0 ≡ eqb sig 0
+pub digits-zero : (sig exp : ℕ) → eqb (sig * 2 ^ exp) 0 ≡ eqb sig 0
 digits-zero zero exp = ap (λ (n : ℕ). eqb n 0) (zero-mul (2 ^ exp))
 digits-zero (suc sig) exp =
     let h : 0 < suc sig * 2 ^ exp = mul-pos (omega arith) (pow-pos exp) in

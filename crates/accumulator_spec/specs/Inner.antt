@@ -1,15 +1,14 @@
 -- What functions below the calls of `accumulator` promise each other of words and digits.
-use Prim.Native.Nat.{ℕ, suc, _*_, _^_, _≤_}
+use Prim.Native.Nat.{ℕ, _*_, _^_, _≤_}
 use mathlib.Core.Path.{_≡_}
 use mathlib.Core.Bool.{Bool}
-use mathlib.Core.List.{List, [], _∷_, _++_}
+use mathlib.Core.List.{List}
 use mathlib.Core.Logic.{_⊎_}
 use lib.IntN.{pos, _+ℤ_}
-use lib.ListN.{length, take}
+use lib.ListN.{length}
 use Rattle.pattern_spec.specs.Exact.{int}
 use Rattle.pattern_spec.specs.Inner.{Odd}
 use Rattle.accumulator_spec.specs.Words.{natural, integer, wordsOfInteger}
-use Rattle.accumulator_spec.specs.Totals.{numberSize, count, signWord, signOfBoth}
 
 -- R6.4: the words after ±sig * 2 ^ exp went into them; what goes beyond the last word is lost
 abbrev pub afterTerm : List ℕ → Bool → ℕ → ℕ → List ℕ
@@ -18,10 +17,6 @@ afterTerm ws minus sig exp = wordsOfInteger (length ws) (integer ws +ℤ int min
 -- R6.4: the words after a walk that adds ±n to the natural number that they hold; what goes beyond the last word is lost
 abbrev pub carried : List ℕ → Bool → ℕ → List ℕ
 carried ws minus n = wordsOfInteger (length ws) (pos (natural ws) +ℤ int minus n)
-
--- R6.4, R6.11: the words of a total whose count has gone up by a term of this sign word, and whose number is still to be moved
-abbrev pub counted : List ℕ → ℕ → List ℕ
-counted t w = take numberSize t ++ (suc (count t) ∷ signOfBoth (signWord t) w ∷ [])
 
 -- The digits sig * 2 ^ exp stand for N: they are N itself, or 33 or more leading digits of it, the last one set to 1 since others follow.
 abbrev pub Leading : ℕ → ℕ → ℕ → Type 0

@@ -13,7 +13,7 @@ ghost use Prim.Native.Nat.{_<_};
 ghost use lib.ListN.{length};
 ghost use Rattle.pattern_spec.specs.Answer.{refusalOf};
 ghost use Rattle.accumulator_spec.specs.Words.{complement};
-ghost use Rattle.accumulator_spec.specs.Totals.{numberSize, totalSize, withinLimits, signFits, fit};
+ghost use Rattle.accumulator_spec.specs.Totals.{numberSize, totalSize, signWord, withinLimits, signFits, fit};
 ghost use Rattle.accumulator_spec.specs.Carrying.{carrying};
 ghost use Rattle.accumulator_words.specs.Inner.{fault, faultToAdd, belowLimit};
 
@@ -37,18 +37,15 @@ pub fn refusal(total: &[u32]) -> u32
     0
 }
 
-// Of a total that a term is to go into: 5, 6, 8 or 0 (R8.7); 7, which stands before 8, is the operand's. Length, count and top words
-// mostly show that nothing is to be refused. The rest is looked at where the total is empty, full, at its limit, or to be refused.
+// Of a total that a term is to go into: 5, 6, 8 or 0 (R8.7); 7, which stands before 8, is the operand's.
 pub fn refusal_to_add(total: &[u32]) -> u32
     ensures { λ r. ⌜ r ≡ faultToAdd (now (total .entry)) ⌝ }
 {
-    if has_room(total) {
-        return 0;
+    if total.len() != TOTAL_SIZE {
+        return 5;
     }
-    // Lent as a part, so that the slice's address and length go to memory on this path only.
-    let wrong = refusal(&total[0..]);
-    if wrong != 0 {
-        return wrong;
+    if !is_fit(total) {
+        return 6;
     }
     choose_pattern(total[NUMBER_SIZE] == MOST_TERMS, 8, 0)
 }
@@ -69,10 +66,11 @@ pub fn refusal_to_carry(old: &[u32], new: &[u32]) -> u32
     0
 }
 
-// Count and number are below their limits, by words that nearly every total has: of the top two nothing but the sign, all zeros or all
-// ones; and the sign word is 1. False leaves it open.
-fn has_room(total: &[u32]) -> bool
-    ensures { λ r. ⌜ (r ≡ true → faultToAdd (now (total .entry)) ≡ 0) ⌝ }
+// Nothing is to be refused, and the sign word is 1: told by length, count and top words, of which nearly every total's top two have nothing
+// but the sign, all zeros or all ones. False leaves it open: where the total is empty, full, at its limit or unfit, or its terms have been
+// -0.
+pub fn has_room(total: &[u32]) -> bool
+    ensures { λ r. ⌜ (r ≡ true → (faultToAdd (now (total .entry)) ≡ 0) × (signWord (now (total .entry)) ≡ 1)) ⌝ }
 {
     if total.len() != TOTAL_SIZE {
         return false;

@@ -57,6 +57,9 @@ fn main() {
     of_file(b"cases", STDOUT_FILENO);
     of_file(b"unended", STDOUT_FILENO);
     of_file(b"empty", STDOUT_FILENO);
+    of_file(b"minus_zero", STDOUT_FILENO);
+    of_file(b"minus_zeros", STDOUT_FILENO);
+    of_file(b"plus_zero", STDOUT_FILENO);
     of_newlines(b"");
     of_newlines(b"x");
 }

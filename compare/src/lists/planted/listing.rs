@@ -4,7 +4,9 @@ use crate::lists::events::Shape;
 use crate::lists::model::Filled;
 use crate::lists::subject::{enter, Arrays, Lents, Question, Subject, TESTED};
 use crate::lists::trial::Source;
-use crate::pattern::{is_finite, SIGN};
+use crate::pattern::{is_finite, magnitude, SIGN};
+use crate::totals::model::{LENGTH, OLD_LENGTH, ZERO_SIGN};
+use crate::totals::number::WORDS;
 use crate::totals::subject::{add_pattern, Lent};
 
 #[derive(Clone, Copy, PartialEq, Debug)]
@@ -24,12 +26,23 @@ pub enum Fault {
     ReplayTakesLong,
     ReplayOrder,
     ReplayRefusalWrites,
+    ReplayTakesOld,
+    ReplayTakesOne,
+    SecondStaysZero,
+    SecondIsOne,
+    FirstIsOne,
+    FootLosesSign,
+    ProductLosesSign,
+    OthersWrite,
 }
 
 const EVENTS: Source = Source::Events(Shape::Random);
 const CALL: Source = Source::Replayed(Shape::Random);
 
-pub const FAULTS: [(Fault, Source, &str); 24] = [
+const ZERO_EVENTS: Source = Source::Events(Shape::Zeros);
+const ZERO_CALL: Source = Source::Replayed(Shape::Zeros);
+
+pub const FAULTS: [(Fault, Source, &str); 43] = [
     (Fault::RefusedEnters, Source::Events(Shape::Refused), "a refused question added"),
     (Fault::RefusedEnters, Source::Replayed(Shape::Refused), "a refused question added"),
     (Fault::InexactEnters, Source::Events(Shape::Tiny), "a product with X added"),
@@ -54,7 +67,35 @@ pub const FAULTS: [(Fault, Source, &str); 24] = [
     (Fault::ReplayOrder, Source::RefusedReplays, "104 before 103"),
     (Fault::ReplayRefusalWrites, Source::RefusedReplays, "a refused replay that writes"),
     (Fault::InexactEnters, Source::Replayed(Shape::Random), "a product with X added"),
+    (Fault::ReplayTakesOld, Source::RefusedReplays, "a total of 21 zeros taken"),
+    (Fault::ReplayTakesOne, Source::RefusedReplays, "a total with a last word of 1 taken"),
+    (Fault::SecondStaysZero, ZERO_EVENTS, "the last word of the first total alone"),
+    (Fault::SecondStaysZero, ZERO_CALL, "the last word of the first total alone"),
+    (Fault::SecondIsOne, ZERO_EVENTS, "a last word of 1 in the second total"),
+    (Fault::SecondIsOne, ZERO_CALL, "a last word of 1 in the second total"),
+    (Fault::SecondIsOne, Source::Replayed(Shape::Long), "a last word of 1 in the second total"),
+    (Fault::FirstIsOne, ZERO_EVENTS, "a last word of 1 in the first total"),
+    (Fault::FirstIsOne, ZERO_CALL, "a last word of 1 in the first total"),
+    (Fault::FootLosesSign, ZERO_EVENTS, "a foot's zeros without their sign"),
+    (Fault::FootLosesSign, ZERO_CALL, "a foot's zeros without their sign"),
+    (Fault::ProductLosesSign, ZERO_EVENTS, "a product of zeros without its sign"),
+    (Fault::ProductLosesSign, ZERO_CALL, "a product of zeros without its sign"),
+    (Fault::YNotFlipped, ZERO_EVENTS, "a difference's y not flipped"),
+    (Fault::YNotFlipped, ZERO_CALL, "a difference's y not flipped"),
+    (Fault::OthersWrite, ZERO_EVENTS, "a question that does not enter and writes the last words"),
+    (Fault::OthersWrite, ZERO_CALL, "a question that does not enter and writes the last words"),
+    (Fault::InexactEnters, ZERO_EVENTS, "a product with X added"),
+    (Fault::InexactEnters, ZERO_CALL, "a product with X added"),
 ];
+
+const CLEARED: [u32; LENGTH] = [0; LENGTH];
+
+/// Cleared, but for the last word.
+const ONE: [u32; LENGTH] = {
+    let mut words = CLEARED;
+    words[ZERO_SIGN] = 1;
+    words
+};
 
 impl Fault {
     /// What a wrong caller or replay gives the totals.
@@ -62,17 +103,28 @@ impl Fault {
         let entering = match self {
             Fault::RefusedEnters => sheet.refusal != 0 && is_finite(q.x) && is_finite(q.y) || enters(sheet),
             Fault::InexactEnters => sheet.refusal == 0 && is_finite(sheet.first),
-            Fault::LastLost if first.last() > Some(&0) && sheet.first & 7 == 5 => false,
+            Fault::LastLost if first[WORDS] > 0 && sheet.first & 7 == 5 => false,
             _ => enters(sheet),
         };
-        if !entering {
-            return 0;
-        }
+        let refusal = if entering { self.enter(q, sheet, first, second) } else { 0 };
+        self.spoil_last(entering, first, second);
+        refusal
+    }
+
+    fn enter(self, q: Question, sheet: &Filled, first: &mut [u32], second: &mut [u32]) -> u32 {
         match self {
             Fault::OneOfTheOther => enter(q, sheet, second, first),
             Fault::FirstAlone => {
                 let refusal = add_pattern(first, sheet.first);
-                enter(q, sheet, &mut [0; 21], second) | refusal
+                enter(q, sheet, &mut [0; LENGTH], second) | refusal
+            }
+            Fault::FootLosesSign => {
+                let [one, other] =
+                    [sheet.first, sheet.second].map(|half| if half == SIGN { 0 } else { half });
+                enter(q, &Filled { first: one, second: other, ..*sheet }, first, second)
+            }
+            Fault::ProductLosesSign if q.operation == 3 && magnitude(sheet.first) == 0 => {
+                enter(Question { x: magnitude(q.x), y: magnitude(q.y), ..q }, sheet, first, second)
             }
             Fault::YNotFlipped if q.operation == 2 => {
                 enter(Question { y: q.y ^ SIGN, ..q }, sheet, first, second)
@@ -87,9 +139,25 @@ impl Fault {
         }
     }
 
+    /// The last words, after a question that entered or not.
+    fn spoil_last(self, entered: bool, first: &mut [u32], second: &mut [u32]) {
+        match self {
+            Fault::SecondStaysZero => second[ZERO_SIGN] = 0,
+            Fault::SecondIsOne if entered => second[ZERO_SIGN] = 1,
+            Fault::FirstIsOne if entered => first[ZERO_SIGN] = 1,
+            Fault::OthersWrite if !entered && first[WORDS] > 0 => {
+                (first[ZERO_SIGN], second[ZERO_SIGN]) = (1, 1)
+            }
+            _ => {}
+        }
+    }
+
     fn replay(self, arrays: &Arrays, lents: &mut Lents) -> u32 {
         let count = arrays.operations.len();
-        let uncleared = lents.first.words() != [0; 21] || lents.second.words() != [0; 21];
+        let totals = [lents.first.words(), lents.second.words()];
+        let uncleared = totals.iter().any(|&words| words != CLEARED);
+        let all_but = |other: &[u32]| totals.iter().all(|&words| words == CLEARED || words == other);
+        let in_order = arrays.are_equal() && count <= 32_768;
         let long = arrays.counts.iter().any(|&count| count as usize > lents.words.words().len());
         match self {
             Fault::ReplayTakesFewer if count == 32_768 => return 102,
@@ -97,7 +165,9 @@ impl Fault {
             Fault::ReplayTakesMore if arrays.are_equal() && count > 32_768 => return 0,
             Fault::ReplayTakesUncleared if arrays.are_equal() && uncleared => return 0,
             Fault::ReplayTakesLong if arrays.are_equal() && long => return 0,
-            Fault::ReplayOrder if arrays.are_equal() && count <= 32_768 && long => return 104,
+            Fault::ReplayOrder if in_order && long => return 104,
+            Fault::ReplayTakesOld if in_order && uncleared && all_but(&CLEARED[..OLD_LENGTH]) => return 0,
+            Fault::ReplayTakesOne if in_order && uncleared && all_but(&ONE) => return 0,
             _ => {}
         }
         self.given(arrays, lents)

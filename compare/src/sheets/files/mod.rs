@@ -4,6 +4,7 @@ mod ends;
 mod full;
 mod lengths;
 mod malformed;
+mod zeros;
 
 pub mod branches;
 pub mod cuts;
@@ -65,9 +66,11 @@ pub enum Shape {
     Ends,
     /// 32,768 lines, and a few less or more.
     Full,
+    /// Lists of minus zeros, and such with another zero among them.
+    Zeros,
 }
 
-pub const SHAPES: [Shape; 9] = [
+pub const SHAPES: [Shape; 10] = [
     Shape::Branches,
     Shape::Specials,
     Shape::Uniform,
@@ -77,6 +80,7 @@ pub const SHAPES: [Shape; 9] = [
     Shape::Malformed,
     Shape::Ends,
     Shape::Full,
+    Shape::Zeros,
 ];
 
 impl Shape {
@@ -91,6 +95,7 @@ impl Shape {
             Shape::Malformed => "malformed",
             Shape::Ends => "ends",
             Shape::Full => "full",
+            Shape::Zeros => "zeros",
         }
     }
 
@@ -105,6 +110,7 @@ impl Shape {
             Shape::Malformed => malformed::CONSTRUCTED,
             Shape::Ends => ends::CONSTRUCTED,
             Shape::Full => full::CONSTRUCTED,
+            Shape::Zeros => zeros::CONSTRUCTED,
         }
     }
 
@@ -123,6 +129,7 @@ impl Shape {
             Shape::Malformed => malformed::constructed(number),
             Shape::Ends => ends::constructed(number),
             Shape::Full => full::constructed(number, r),
+            Shape::Zeros => zeros::constructed(number),
         }
     }
 
@@ -139,6 +146,7 @@ impl Shape {
             Shape::Lengths => lengths::drawn(r),
             Shape::Malformed => malformed::drawn(r),
             Shape::Ends => ends::drawn(r),
+            Shape::Zeros => zeros::drawn(r),
             Shape::Specials | Shape::Full => unreachable!("none is drawn"),
         }
     }

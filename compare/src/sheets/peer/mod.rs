@@ -5,7 +5,7 @@ mod floats;
 mod question;
 mod text;
 
-use crate::pattern::is_finite;
+use crate::pattern::{is_finite, SIGN};
 use crate::totals::model::Total;
 use crate::totals::plain::{self, Plain};
 use question::{Question, LENGTH};
@@ -144,6 +144,9 @@ impl Block {
 struct Page {
     text: Text,
     total: Plain,
+    /// Terms are in the total, and whether one of them was not -0.
+    entered: bool,
+    sign_word: u32,
     /// Lines answered.
     number: u32,
     bad: u32,
@@ -151,7 +154,7 @@ struct Page {
 
 impl Page {
     fn new() -> Page {
-        Page { text: Text::new(), total: Plain::CLEARED, number: 0, bad: 0 }
+        Page { text: Text::new(), total: Plain::CLEARED, entered: false, sign_word: 0, number: 0, bad: 0 }
     }
 
     /// Answers the line that the bytes begin with; where the next one begins. None if no line ends in them, or
@@ -201,6 +204,8 @@ impl Page {
         if is_finite(first) {
             plain::add_pattern(&mut self.total, first);
             plain::add_pattern(&mut self.total, second);
+            self.entered = true;
+            self.sign_word |= u32::from(first != SIGN || second != SIGN);
         }
     }
 
@@ -213,7 +218,7 @@ impl Page {
     fn ended(mut self, output: &mut impl Write) -> std::io::Result<()> {
         self.text.make_room(output)?;
         let mut words = self.total.words();
-        words.push(2 * MOST);
+        words.extend([if self.entered { 2 * MOST } else { 0 }, self.sign_word]);
         let read = Total::of(&words).reading();
         self.text.total(read.first, read.second);
         self.text.end(self.number - self.bad, self.bad);

@@ -4,7 +4,7 @@ use crate::bench::{median, ratio, shown, QUESTIONS, REPETITIONS};
 use crate::pattern::{is_finite, magnitude};
 use crate::random::Random;
 use crate::totals::call::Call;
-use crate::totals::model::{term, Total, BOUND, LENGTH, MOST};
+use crate::totals::model::{Term, Total, BOUND, LENGTH, MOST, OLD_LENGTH};
 use crate::totals::number::Number;
 use crate::totals::plain::{self, Counted};
 use crate::totals::subject;
@@ -34,7 +34,7 @@ impl Inputs {
 
     fn total(self, r: &mut Random) -> Total {
         if self == Inputs::Any {
-            return Total { number: any(r), count: COUNT };
+            return Total::new(any(r), COUNT);
         }
         let mut finite = || loop {
             let x = if self == Inputs::Finite { r.pattern() } else { near_one(r) };
@@ -43,7 +43,7 @@ impl Inputs {
             }
         };
         let terms = [Call::Pattern(finite()), Call::Product(finite(), finite())];
-        terms.into_iter().fold(Total::CLEARED, |total, call| total.with(&term(call)))
+        terms.into_iter().fold(Total::CLEARED, |total, call| total.with(&Term::of(call)))
     }
 }
 
@@ -124,7 +124,7 @@ fn by_plain(totals: &[Counted]) -> Counted {
 /// Both come to the same number and the same count.
 fn agree(row: &Row) -> bool {
     let library = by_library(&row.words);
-    by_plain(&row.counted).words() == library && Total::of(&library).count == MOST
+    by_plain(&row.counted).words() == library[..OLD_LENGTH] && Total::of(&library).count == MOST
 }
 
 fn print_table(rows: &[Row]) {

@@ -4,7 +4,7 @@ use crate::bench::{median, ratio, shown, QUESTIONS, REPETITIONS};
 use crate::pattern::{is_finite, magnitude};
 use crate::random::Random;
 use crate::step::Question;
-use crate::totals::model::{Total, MOST};
+use crate::totals::model::{Total, LENGTH, MOST};
 use crate::totals::number::WORDS;
 use crate::totals::plain::{self, Plain};
 use crate::totals::subject;
@@ -112,7 +112,7 @@ fn row(inputs: Inputs, term: Term, seed: u64) -> Row {
 
 /// A cleared total after every term: its words. The refusals are gathered, so that no answer is dropped.
 fn by_library(term: Term, operands: &[Question]) -> Vec<u32> {
-    let mut total = vec![0; WORDS + 1];
+    let mut total = vec![0; LENGTH];
     let cleared = subject::clear(&mut total);
     let refusals = match term {
         Term::Pattern => operands.iter().fold(cleared, |all, q| all | subject::add_pattern(&mut total, q.x)),

@@ -39,7 +39,7 @@ fn to_and_fro(start: &Number, term: Call) -> [Column; 2] {
     let calls = [term, opposite(term), opposite(term), opposite(term), term, term];
     let column = |number, calls: Vec<Call>| {
         let calls = calls.into_iter().flat_map(read_after).collect();
-        Column::new(Total { number, count: COUNT }, calls)
+        Column::new(Total::new(number, COUNT), calls)
     };
     [column(*start, calls.to_vec()), column(start.opposite(), calls.map(opposite).to_vec())]
 }
@@ -58,7 +58,7 @@ const TERMS: usize = 10;
 pub fn drawn(r: &mut Random) -> Column {
     let number = number(r);
     let calls = (0..TERMS).flat_map(|_| read_after(terms::term(r, terms::ANY))).collect();
-    Column::new(Total { number, count: COUNT }, calls)
+    Column::new(Total::new(number, COUNT), calls)
 }
 
 /// Such words, of a number below 2^569.

@@ -57,7 +57,7 @@ const SQUARE: Call = Call::Product(LARGEST, LARGEST);
 const MINUS_SQUARE: Call = Call::Product(LARGEST, SIGN | LARGEST);
 
 /// The terms that a column of the largest ones takes in turn.
-pub const REPEATED: [&[Call]; 11] = [
+pub const REPEATED: [&[Call]; 12] = [
     &[OMEGA],
     &[MINUS_OMEGA],
     &[OMEGA, MINUS_OMEGA],
@@ -70,6 +70,7 @@ pub const REPEATED: [&[Call]; 11] = [
     &[MINUS_SQUARE, OMEGA, Call::Product(1, 1)],
     // Zeros count.
     &[Call::Pattern(0), Call::Pattern(SIGN), Call::Product(SIGN, LARGEST)],
+    &[Call::Pattern(SIGN), Call::Product(SIGN, LARGEST)],
 ];
 
 pub fn largest(terms: &[Call]) -> Column {

@@ -55,7 +55,7 @@ fn second_ties(significand: u64, place: u32) -> Vec<Column> {
 fn about(first: &Number, rest: &Number, moves: &[Call]) -> Vec<Column> {
     let calls: Vec<Call> =
         [Call::Read].into_iter().chain(moves.iter().copied().flat_map(read_after)).collect();
-    let column = |number| Column::new(Total { number, count: 2 }, calls.clone());
+    let column = |number| Column::new(Total::new(number, 2), calls.clone());
     let numbers = [first.plus(rest), first.minus(rest)];
     numbers.iter().flat_map(|number| [column(*number), column(number.opposite())]).collect()
 }
@@ -72,7 +72,7 @@ pub fn drawn(r: &mut Random) -> Column {
     let number = if r.once_in(4) { tie } else { with(&tie, &trace, r.once_in(2)) };
     let number = if r.once_in(2) { number } else { number.opposite() };
     let calls = [Call::Read, DOWN, Call::Read, Call::Product(1, 2), Call::Read];
-    Column::new(Total { number, count: 2 }, calls.to_vec())
+    Column::new(Total::new(number, 2), calls.to_vec())
 }
 
 /// Of 24 bits or fewer.

@@ -30,7 +30,7 @@ fn pair(first: &Total, second: &Total) -> Column {
     Column::joined(first.words(), second.words())
 }
 
-/// For each count the least and greatest numbers that fit, those beside them, and those about zero.
+/// For each count the least and greatest numbers that fit, those beside them, and those about zero; and -0 alone.
 fn at_limits() -> Vec<Total> {
     let one = Number::at(1, 0);
     let numbers = |count: u32| {
@@ -39,7 +39,11 @@ fn at_limits() -> Vec<Total> {
         let fitting = signed.into_iter().flatten().filter(move |_| count > 0);
         fitting.chain([Number::ZERO])
     };
-    COUNTS.into_iter().flat_map(|count| numbers(count).map(move |number| Total { number, count })).collect()
+    let totals = |count: u32| {
+        let minus_zeros = (count > 0).then(|| Total::minus_zeros(count));
+        numbers(count).map(move |number| Total::new(number, count)).chain(minus_zeros)
+    };
+    COUNTS.into_iter().flat_map(totals).collect()
 }
 
 /// A carry that begins at 2^place and runs up to 2^end, for the ends where words begin, for the next place and the last; numbers
@@ -57,7 +61,7 @@ fn carried(place: u32) -> Vec<Column> {
 }
 
 fn half(first: Number, second: Number) -> Column {
-    let total = |number| Total { number, count: HALF };
+    let total = |number| Total::new(number, HALF);
     pair(&total(first), &total(second))
 }
 

@@ -1,6 +1,7 @@
 //! The columns of calls that totals are tried with, by shape.
 mod cancelling;
 mod carries;
+mod carrying;
 mod damaged;
 mod full;
 mod halfway;
@@ -12,6 +13,7 @@ mod random;
 pub mod terms;
 mod tiny;
 mod trees;
+mod zeros;
 
 use super::call::{Call, Turn};
 use super::model::Total;
@@ -69,17 +71,21 @@ pub enum Shape {
     Damaged,
     /// Totals at the limit of what fits.
     Limits,
-    /// Other lengths than 21.
+    /// Other lengths than 22.
     Lengths,
-    /// Terms added and totals joined, in trees of any shape.
+    /// Terms added, totals joined and carried over, in trees of any shape.
     Trees,
     /// Totals at the limits, and carries from word to word, in joining.
     Joins,
     /// Joining where either total does not fit or has another length, or there is no room.
     Misfits,
+    /// Zeros of either sign, and products of zeros, joined and carried over.
+    Zeros,
+    /// Old totals, fit or not and of any length, carried over into words of any kind and length.
+    Carrying,
 }
 
-pub const SHAPES: [Shape; 14] = [
+pub const SHAPES: [Shape; 16] = [
     Shape::Random,
     Shape::Long,
     Shape::Largest,
@@ -94,6 +100,8 @@ pub const SHAPES: [Shape; 14] = [
     Shape::Trees,
     Shape::Joins,
     Shape::Misfits,
+    Shape::Zeros,
+    Shape::Carrying,
 ];
 
 impl Shape {
@@ -113,6 +121,8 @@ impl Shape {
             Shape::Trees => "trees",
             Shape::Joins => "joins",
             Shape::Misfits => "misfits",
+            Shape::Zeros => "zeros",
+            Shape::Carrying => "carrying",
         }
     }
 
@@ -133,6 +143,8 @@ impl Shape {
             Shape::Trees => trees::FULL.len() as u64,
             Shape::Joins => joins::chunks(),
             Shape::Misfits => misfits::chunks(),
+            Shape::Zeros => zeros::CHUNKS,
+            Shape::Carrying => carrying::CHUNKS,
         }
     }
 
@@ -157,6 +169,8 @@ impl Shape {
             Shape::Trees => vec![trees::full(trees::FULL[chunk as usize], r)],
             Shape::Joins => joins::constructed(chunk as usize),
             Shape::Misfits => misfits::constructed(chunk as usize, r),
+            Shape::Zeros => zeros::constructed(chunk as usize, r),
+            Shape::Carrying => carrying::constructed(chunk, r),
         }
     }
 
@@ -172,6 +186,8 @@ impl Shape {
             Shape::Trees => vec![trees::drawn(r)],
             Shape::Joins => vec![joins::drawn(r)],
             Shape::Misfits => vec![misfits::drawn(r)],
+            Shape::Zeros => vec![zeros::drawn(r)],
+            Shape::Carrying => vec![carrying::drawn(r)],
             Shape::Long | Shape::Largest | Shape::Limits | Shape::Lengths => unreachable!("none is drawn"),
         }
     }

@@ -23,7 +23,7 @@ pub fn constructed(place: u32) -> Vec<Column> {
 fn both_signs(number: &Number) -> [Column; 2] {
     let moves = [Call::Product(1, 1), Call::Product(SIGN | 1, 1), Call::Product(SIGN | 1, 1)];
     let calls: Vec<Call> = [Call::Read].into_iter().chain(moves.into_iter().flat_map(read_after)).collect();
-    let column = |number| Column::new(Total { number, count: COUNT }, calls.clone());
+    let column = |number| Column::new(Total::new(number, COUNT), calls.clone());
     [column(*number), column(number.opposite())]
 }
 

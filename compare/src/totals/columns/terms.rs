@@ -62,6 +62,18 @@ pub fn zero(r: &mut Random) -> Call {
     }
 }
 
+pub const MINUS_ZERO: Call = Call::Pattern(SIGN);
+pub const PLUS_ZERO: Call = Call::Pattern(0);
+
+/// -0, alone or as a product.
+pub fn minus_zero(r: &mut Random) -> Call {
+    match zero(r) {
+        Call::Product(x, y) if (x ^ y) & SIGN == 0 => Call::Product(x ^ SIGN, y),
+        Call::Pattern(_) => MINUS_ZERO,
+        product => product,
+    }
+}
+
 /// An infinity, or a NaN of any payload.
 fn not_finite(r: &mut Random) -> u32 {
     let payload = if r.once_in(2) { 0 } else { r.pattern() & FRACTION };

@@ -20,7 +20,7 @@ pub fn constructed() -> Vec<Column> {
 fn column(number: Number) -> Column {
     let (up, down) = (Call::Product(1, 1), Call::Product(SIGN | 1, 1));
     let calls = [Call::Read, up, Call::Read, down, down, Call::Read, power(LAST - 1), Call::Read];
-    Column::new(Total { number, count: 1 }, calls.to_vec())
+    Column::new(Total::new(number, 1), calls.to_vec())
 }
 
 const TERMS: usize = 24;

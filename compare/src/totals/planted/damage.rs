@@ -1,7 +1,7 @@
 //! Damage to the stored totals, which has to be found with the library as it is: a file that holds nothing would hold anything.
-use crate::totals::stored::compare::{remade, reread};
+use crate::totals::stored::compare::{by_model, compare, not_gone_on, unread};
 use crate::totals::stored::record::Record;
-use crate::totals::stored::records;
+use crate::totals::stored::{old, records};
 use crate::totals::subject::Library;
 
 /// What was tried, all of it found, or what was missed.
@@ -24,10 +24,12 @@ pub fn found(text: &str, stored: &[Record]) -> Result<[&'static str; 6], String>
 const DIGIT: &str = "a digit changed";
 const LINE: &str = "another answer, word or reading in each line";
 
-/// Neither taken for a file of stored totals, nor as the library makes and reads it.
+/// Not taken for a file of stored totals, or the library or the model comes to something else.
 fn fails(text: &str) -> bool {
-    let differs = |record: &Record| remade(&Library, record).is_some() || reread(&Library, record).is_some();
-    records(text).map_or(true, |records| records.iter().any(differs))
+    let differs = |records: Vec<Record>| {
+        !compare(&Library, &records).differences.is_empty() || by_model(&records).is_some()
+    };
+    records(text).map_or(true, differs)
 }
 
 fn legend(text: &str) -> &str {
@@ -78,7 +80,14 @@ fn is_seen(record: &Record, line: usize) -> bool {
         let i = line % words.len();
         words[i] ^= 1 << (line % 32);
     });
-    let reading = with(&|record| record.left[line].reading.second ^= 1);
-    let made = [&answer, &word, &reading].into_iter().all(|damaged| remade(&Library, damaged).is_some());
-    made && reread(&Library, &reading).is_some()
+    let reading = with(&|record| match &mut record.left[line].reading {
+        read if read.refusal == 0 => read.second ^= 1,
+        refused => refused.refusal += 1,
+    });
+    let by_model = [&answer, &word, &reading].iter().all(|damaged| !old::agrees(damaged, Some(line)));
+    // Where the state before is not carried over, no call is made.
+    let made = record.before(line).1.refusal == 0;
+    let by_calls =
+        !made || [&answer, &word].iter().all(|damaged| not_gone_on(&Library, damaged, line).is_some());
+    by_model && by_calls && unread(&Library, &reading, line + 1).is_some()
 }

@@ -3,7 +3,7 @@ use super::words::{moved, Fault as Lost};
 use super::Done;
 use crate::pattern::exponent_field;
 use crate::totals::call::Call;
-use crate::totals::model::{term, Total, LAST};
+use crate::totals::model::{Term, Total, LAST, LENGTH};
 use crate::totals::number::{Number, WORDS};
 
 #[derive(Clone, Copy, Debug)]
@@ -89,7 +89,7 @@ impl Fault {
             return;
         }
         let (start, is) = (start(done.call), |kind| kind == self::kind(done.call));
-        let term = term(done.call);
+        let term = Term::of(done.call).number;
         match self {
             Fault::Shifted(kind, place) if is(kind) && start == place => added(&term.plus(&term), done),
             Fault::NextWord(word) if in_word(start) == word => added(&moved_up(&term), done),
@@ -112,7 +112,7 @@ impl Fault {
         match self {
             Fault::CarryCounts if was && !is => words[WORDS] += 1,
             Fault::BorrowCounts if !was && is => words[WORDS] -= 1,
-            Fault::Beyond => words[WORDS + 1] ^= 1,
+            Fault::Beyond => words[LENGTH] ^= 1,
             _ => {}
         }
     }
@@ -129,10 +129,10 @@ fn run_on(by: u32, done: &mut Done) {
     }
 }
 
-/// The total with another term than it was given.
-fn added(term: &Number, done: &mut Done) {
+/// The total with another number added than it was given.
+fn added(number: &Number, done: &mut Done) {
     let total = Total::of(&done.before);
-    done.leave(total.with(term));
+    done.leave(total.with(&Term { number: *number, ..Term::of(done.call) }));
 }
 
 fn kind(call: Call) -> Kind {

@@ -3,7 +3,7 @@ use super::Done;
 use crate::pattern::{is_finite, magnitude, INFINITY, LARGEST, SIGN};
 use crate::totals::call::{Call, Reading};
 use crate::totals::columns::Shape;
-use crate::totals::model::{nearest, overflow_edge, value, LAST};
+use crate::totals::model::{nearest, overflow_edge, value, Total, LAST};
 use crate::totals::number::Number;
 
 #[derive(Clone, Copy, Debug)]
@@ -34,8 +34,14 @@ pub enum Fault {
     OppositeInfinity,
     /// Second is zero at overflow.
     ZeroAtOverflow,
-    /// A zero total reads -0.
+    /// A zero total that is not empty reads -0, whatever its terms were.
     MinusZero,
+    /// An empty total reads -0.
+    EmptyMinus,
+    /// A total of -0 alone reads +0.
+    MinusZerosPlus,
+    /// A total of -0 alone reads -0 and +0.
+    PlusBesideMinus,
     /// A negative total that is too small reads +0.
     TinyPlus,
     /// A positive total that is too small reads -0.
@@ -62,7 +68,7 @@ pub const FAULTS: [(Fault, Shape, &str); 19] = [
     (Fault::AboveEdge, Shape::Overflow, "no overflow just above it"),
     (Fault::OppositeInfinity, Shape::Overflow, "second the opposite infinity"),
     (Fault::ZeroAtOverflow, Shape::Largest, "second zero at overflow"),
-    (Fault::MinusZero, Shape::Cancelling, "-0 of a zero total"),
+    (Fault::MinusZero, Shape::Cancelling, "-0 of numbers that cancel"),
     (Fault::TinyPlus, Shape::Tiny, "+0 of a negative total"),
     (Fault::TinyMinus, Shape::Tiny, "-0 of a positive total"),
     (Fault::PlusSecond, Shape::Random, "a plus sign on every zero second"),
@@ -70,7 +76,19 @@ pub const FAULTS: [(Fault, Shape, &str); 19] = [
     (Fault::RefusedReads, Shape::Damaged, "a refused reading that reads"),
 ];
 
+/// Faults that only a total of no terms, or of -0 alone, shows.
+pub const OF_ZEROS: [(Fault, Shape, &str); 3] = [
+    (Fault::EmptyMinus, Shape::Zeros, "-0 of an empty total"),
+    (Fault::MinusZerosPlus, Shape::Zeros, "+0 of a total of -0 alone"),
+    (Fault::PlusBesideMinus, Shape::Zeros, "second +0 of a total of -0 alone"),
+];
+
 impl Fault {
+    /// Whether the reading of a fit total shows it.
+    pub fn is_of_fit(self) -> bool {
+        !matches!(self, Fault::RefusedReads)
+    }
+
     pub fn spoil(self, done: &mut Done) {
         let Some(total) = done.total().filter(|_| done.call == Call::Read) else { return };
         if done.answer.refusal != 0 {
@@ -81,7 +99,9 @@ impl Fault {
             return;
         }
         let Reading { first, second, .. } = done.answer;
-        let spoilt = if is_finite(first) {
+        let spoilt = if total.number == Number::ZERO {
+            self.zero(&total)
+        } else if is_finite(first) {
             self.finite(&total.number, first, second)
         } else {
             self.infinite(&total.number, first)
@@ -127,12 +147,24 @@ impl Fault {
         }
     }
 
+    /// What a zero total reads.
+    fn zero(self, total: &Total) -> Option<(u32, u32)> {
+        let minus_zeros = total.count > 0 && total.sign_word == 0;
+        match self {
+            Fault::MinusZero if total.count > 0 => Some((SIGN, SIGN)),
+            Fault::EmptyMinus if total.count == 0 => Some((SIGN, SIGN)),
+            Fault::MinusZerosPlus if minus_zeros => Some((0, 0)),
+            Fault::PlusBesideMinus if minus_zeros => Some((SIGN, 0)),
+            _ => None,
+        }
+    }
+
+    /// A half that is zero, of a total that is not.
     fn zeros(self, number: &Number, first: u32, second: u32) -> Option<(u32, u32)> {
-        let tiny = magnitude(first) == 0 && *number != Number::ZERO;
+        let tiny = magnitude(first) == 0;
         let rest = number.minus(&value(first));
         let no_second = magnitude(second) == 0;
         match self {
-            Fault::MinusZero if *number == Number::ZERO => Some((SIGN, SIGN)),
             Fault::TinyPlus if tiny && first == SIGN => Some((0, 0)),
             Fault::TinyMinus if tiny && first == 0 => Some((SIGN, SIGN)),
             Fault::PlusSecond if no_second => Some((first, 0)),

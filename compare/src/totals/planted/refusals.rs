@@ -3,7 +3,7 @@ use super::Done;
 use crate::pattern::{is_finite, magnitude, INFINITY};
 use crate::totals::call::Call;
 use crate::totals::columns::Shape;
-use crate::totals::model::{Total, BOUND, MOST};
+use crate::totals::model::{Term, Total, BOUND, LENGTH, MOST, OLD_LENGTH};
 use crate::totals::number::{Number, WORDS};
 
 #[derive(Clone, Copy, Debug)]
@@ -59,13 +59,23 @@ pub const FAULTS: [(Fault, Shape, &str); 24] = [
     (Fault::FullLate, Shape::Largest, "no 8 at 65,536 terms"),
     (Fault::SecondFactor, Shape::Random, "a second factor that is not finite"),
     (Fault::ZeroTimesInfinity, Shape::Random, "zero times infinity as a term"),
-    (Fault::ClearTakes(20), Shape::Lengths, "clearing takes 20 words"),
-    (Fault::ClearTakes(22), Shape::Lengths, "clearing takes 22 words"),
-    (Fault::ClearTakes(256 + 21), Shape::Lengths, "clearing takes 277 words"),
+    (Fault::ClearTakes(OLD_LENGTH), Shape::Lengths, "clearing takes 21 words"),
+    (Fault::ClearTakes(LENGTH + 1), Shape::Lengths, "clearing takes 23 words"),
+    (Fault::ClearTakes(LENGTH + 256), Shape::Lengths, "clearing takes 278 words"),
     (Fault::ClearUnfit, Shape::Damaged, "clearing refuses what does not fit"),
 ];
 
 impl Fault {
+    /// Whether calls on a fit total show it.
+    pub fn is_of_fit(self) -> bool {
+        match self {
+            Fault::LimitBelow { .. } | Fault::CountBelow | Fault::Writes(7 | 8) | Fault::Before(8, 7) => true,
+            Fault::FullEarly | Fault::FullLate | Fault::SecondFactor | Fault::ZeroTimesInfinity => true,
+            Fault::LimitAbove { .. } | Fault::CountAbove | Fault::LeastFits | Fault::LowestUnseen => false,
+            Fault::Writes(_) | Fault::Before(..) | Fault::ClearTakes(_) | Fault::ClearUnfit => false,
+        }
+    }
+
     pub fn spoil(self, done: &mut Done) {
         match done.answer.refusal {
             0 => self.spoil_carried_out(done),
@@ -118,7 +128,7 @@ impl Fault {
             Fault::FullLate if refusal == 8 => done.carry_out(),
             Fault::SecondFactor if refusal == 7 && only_second(done.call) => done.carry_out(),
             Fault::ZeroTimesInfinity if refusal == 7 && zero_times_infinity(done.call) => {
-                done.leave(total.with(&Number::ZERO));
+                done.leave(total.with(&Term { number: Number::ZERO, minus_zero: false }));
             }
             _ if refusal == 6 && !done.has_bad_operand() && self.fits(total, done.call) => done.carry_out(),
             _ => {}

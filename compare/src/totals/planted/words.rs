@@ -3,7 +3,7 @@ use super::Done;
 use crate::pattern::{is_subnormal, magnitude};
 use crate::totals::call::{Call, Reading};
 use crate::totals::columns::Shape;
-use crate::totals::model::{term, Total};
+use crate::totals::model::{Term, Total, LENGTH};
 use crate::totals::number::{Number, WORDS};
 
 #[derive(Clone, Copy, Debug)]
@@ -51,21 +51,21 @@ impl Fault {
             Fault::Uncounted if done.has_added() => {
                 done.lent.words_mut()[WORDS] = done.before[WORDS];
             }
-            Fault::ZeroUncounted if done.has_added() && term(done.call) == Number::ZERO => {
+            Fault::ZeroUncounted if done.has_added() && Term::of(done.call).number == Number::ZERO => {
                 done.lent.words_mut()[WORDS] = done.before[WORDS];
             }
             Fault::SubnormalAsZero
                 if done.has_added() && done.call.operands().into_iter().any(is_subnormal) =>
             {
                 let total = Total::of(&done.before);
-                done.leave(total.with(&Number::ZERO));
+                done.leave(total.with(&Term { number: Number::ZERO, minus_zero: false }));
             }
             Fault::SignLost if done.has_added() => self.spoil_sign(done),
             Fault::CountLeft if done.call == Call::Clear && done.answer == Reading::DONE => {
                 done.lent.words_mut()[WORDS] = done.before[WORDS];
             }
             Fault::ClearedBeyond if done.call == Call::Clear && done.answer == Reading::DONE => {
-                done.lent.words_and_next()[WORDS + 1] = 0;
+                done.lent.words_and_next()[LENGTH] = 0;
             }
             Fault::ReadingWrites if done.call == Call::Read && done.answer.refusal == 0 => {
                 done.lent.words_mut()[WORDS - 1] ^= 1;
@@ -79,7 +79,7 @@ impl Fault {
         if !done.has_added() {
             return;
         }
-        let negative = term(done.call).is_negative();
+        let negative = Term::of(done.call).number.is_negative();
         let below = |words: &[u32], word| words[..word].iter().rev().copied().collect::<Vec<u32>>();
         let after = done.lent.words_mut();
         match self {
@@ -96,7 +96,8 @@ impl Fault {
     fn spoil_sign(self, done: &mut Done) {
         if let Call::Product(x, y) = done.call {
             let total = Total::of(&done.before);
-            done.leave(total.with(&term(Call::Product(magnitude(x), magnitude(y)))));
+            let number = Term::of(Call::Product(magnitude(x), magnitude(y))).number;
+            done.leave(total.with(&Term { number, ..Term::of(done.call) }));
         }
     }
 }

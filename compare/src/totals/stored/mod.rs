@@ -1,28 +1,16 @@
-//! Stored totals: a file of calls, with the words that the build before request 3 left and what these read.
+//! Stored totals: a file of calls, with the 21 words that the build before request 3 left and what these read.
 //!
-//! Totals go from one build to another. So a build has to leave the words of the file, bit for bit, and to read them as it says.
+//! Totals go from one build to another. So a build has to carry each of them over, to read it as the file says, and to go on with it
+//! as the file does.
 mod columns;
 pub mod compare;
+pub mod old;
 pub mod record;
 pub mod text;
 
-use super::call::{Call, Reading};
-use super::model;
-use super::subject::{Lent, Library, Subject};
+use super::subject::Library;
 use record::Record;
-use std::io::Write;
 use std::path::Path;
-use std::process::ExitCode;
-
-/// `compare stored-totals`: the file, as the linked library makes it.
-pub fn print() -> ExitCode {
-    let records: Vec<Record> =
-        columns::all().into_iter().map(|column| Record::made(&Library, column)).collect();
-    match std::io::stdout().write_all(text::of(&records).as_bytes()) {
-        Ok(()) => ExitCode::SUCCESS,
-        Err(_) => ExitCode::FAILURE,
-    }
-}
 
 /// The file's text.
 pub fn file() -> Result<String, String> {
@@ -47,8 +35,7 @@ pub fn distrusted() -> Option<String> {
         Ok(records) => records,
         Err(what) => return Some(what),
     };
-    let outcome = compare::compare(&Model, &records);
-    outcome.differences.first().map(|difference| format!("by the model, {}", difference.shown(&records)))
+    compare::by_model(&records).map(|difference| difference.shown(&records))
 }
 
 /// The library held to the file. How many calls were made, and differences.
@@ -63,17 +50,5 @@ pub fn compared() -> (u64, usize) {
             println!("total     stored      {what}");
             (0, 1)
         }
-    }
-}
-
-struct Model;
-
-impl Subject for Model {
-    fn answer(&self, call: Call, lent: &mut Lent) -> Reading {
-        model::answer(call, lent.words_mut())
-    }
-
-    fn join(&self, first: &mut Lent, second: &mut Lent) -> u32 {
-        model::join(first.words_mut(), second.words())
     }
 }

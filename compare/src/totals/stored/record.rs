@@ -1,7 +1,6 @@
-//! A column of calls on one total, and the record of what they left.
+//! A column of calls on one old total, and the record of what they left.
 use crate::totals::call::{Call, Reading};
 use crate::totals::model::Total;
-use crate::totals::subject::{Lent, Subject};
 
 /// Calls, and the words that they are made on.
 #[derive(Clone, PartialEq, Eq, Debug)]
@@ -22,7 +21,7 @@ impl Column {
     }
 
     pub fn cleared(shows: impl Into<String>, calls: Vec<Call>) -> Column {
-        Column::new(shows, Total::CLEARED.words(), calls)
+        Column::new(shows, Total::CLEARED.old_words(), calls)
     }
 
     pub fn apart(self) -> Column {
@@ -47,38 +46,22 @@ pub struct Record {
 }
 
 impl Record {
-    pub fn made<S: Subject>(subject: &S, column: Column) -> Record {
-        let mut lent = Lent::new(&column.start);
-        let start = subject.answer(Call::Read, &mut lent);
-        let left = column.calls.iter().map(|&made| {
-            if column.apart {
-                lent = Lent::new(&column.start);
-            }
-            left_by(subject, made, &mut lent)
-        });
-        Record { start, left: left.collect(), column }
+    /// The state that a line's call is made on, and what it reads.
+    pub fn before(&self, line: usize) -> (&[u32], Reading) {
+        let state = if self.column.apart { 0 } else { line };
+        self.state(state)
     }
 
-    /// The words that a line's call is made on.
-    pub fn before(&self, line: usize) -> &[u32] {
-        match line.checked_sub(1).filter(|_| !self.column.apart) {
-            Some(last) => &self.left[last].words,
-            None => &self.column.start,
+    /// The start, or what the call of the line before left.
+    pub fn state(&self, number: usize) -> (&[u32], Reading) {
+        match number.checked_sub(1).map(|line| &self.left[line]) {
+            Some(left) => (&left.words, left.reading),
+            None => (&self.column.start, self.start),
         }
     }
 
-    /// Every state that the record has, the start first, and what it reads.
-    pub fn states(&self) -> impl Iterator<Item = (&[u32], Reading)> {
-        let left = self.left.iter().map(|left| (left.words.as_slice(), left.reading));
-        std::iter::once((self.column.start.as_slice(), self.start)).chain(left)
+    /// How many states the record has.
+    pub fn states(&self) -> usize {
+        1 + self.left.len()
     }
-}
-
-fn left_by<S: Subject>(subject: &S, (call, times): (Call, u32), lent: &mut Lent) -> Left {
-    let answer = subject.answer(call, lent).refusal;
-    for _ in 1..times {
-        assert_eq!(subject.answer(call, lent).refusal, answer, "a line has one answer");
-    }
-    let reading = subject.answer(Call::Read, lent);
-    Left { answer, words: lent.words().to_vec(), reading }
 }

@@ -35,7 +35,7 @@ pub fn of(records: &[Record]) -> String {
 pub fn line(record: &Record, i: usize) -> String {
     let ((call, times), left) = (record.column.calls[i], &record.left[i]);
     let times = if times == 1 { String::new() } else { format!(" x{times}") };
-    let changed = left.words.iter().zip(record.before(i)).enumerate();
+    let changed = left.words.iter().zip(record.before(i).0).enumerate();
     let changed = changed.filter(|(_, (word, before))| word != before).map(|(i, (&word, _))| (i, word));
     let reading = reading_text(left.reading);
     format!("{}{times} {}{} = {reading}", self::call(call), left.answer, spans(changed))
@@ -140,7 +140,7 @@ fn take_call<'a>(
         None => 1,
     };
     let answer = words.next()?.parse().ok()?;
-    let mut after = record.before(record.left.len()).to_vec();
+    let mut after = record.before(record.left.len()).0.to_vec();
     let length = after.len();
     change(&mut after, words, length)?;
     record.column.calls.push((call, times));

@@ -3,7 +3,7 @@ mod refusals;
 mod words;
 
 use crate::totals::columns::Shape;
-use crate::totals::model::{Total, LENGTH, MOST};
+use crate::totals::model::{Total, LENGTH, MOST, ZERO_SIGN};
 use crate::totals::number::{Number, WORDS};
 use crate::totals::subject::{Lent, Library, Subject as _};
 
@@ -15,7 +15,8 @@ pub enum Fault {
 
 pub fn faults() -> Vec<(Fault, Shape, &'static str)> {
     let words = words::faults().into_iter().map(|(fault, shape, name)| (Fault::Words(fault), shape, name));
-    let refusals = refusals::FAULTS.map(|(fault, shape, name)| (Fault::Refusal(fault), shape, name));
+    let refusals = refusals::faults().into_iter();
+    let refusals = refusals.map(|(fault, shape, name)| (Fault::Refusal(fault), shape, name));
     words.chain(refusals).collect()
 }
 
@@ -60,7 +61,7 @@ impl Joined<'_> {
         &self.before[side as usize]
     }
 
-    /// What the first 21 words held, if there are so many.
+    /// What the first 22 words held, if there are so many.
     fn total(&self, side: Side) -> Option<Total> {
         self.words(side).get(..LENGTH).map(Total::of)
     }
@@ -97,10 +98,13 @@ impl Joined<'_> {
         self.refusal = refusal;
     }
 
+    /// With the last word that is right for the two.
     fn leave(&mut self, number: &Number, count: u32) {
+        let all_minus_zero = self.before.iter().all(|words| words[ZERO_SIGN] == 0);
         let words = self.lent[0].words_mut();
         words[..WORDS].copy_from_slice(&number.words());
         words[WORDS] = count;
+        words[ZERO_SIGN] = u32::from(!all_minus_zero);
         self.refusal = 0;
     }
 }

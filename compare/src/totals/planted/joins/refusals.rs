@@ -2,7 +2,8 @@
 use super::{Condition, Joined, Side};
 use crate::totals::columns::Shape;
 use crate::totals::model::{Total, BOUND, LENGTH, MOST};
-use crate::totals::number::Number;
+use crate::totals::number::{Number, WORDS};
+use crate::totals::planted::kinds::{Fit, Unfit as Misfit, FIT, UNFIT};
 
 #[derive(Clone, Copy, Debug)]
 pub enum Fault {
@@ -20,8 +21,6 @@ pub enum Fault {
     RoomNever,
     /// 5 for an unfit second, and 6 for its length.
     Exchanged,
-    /// An empty total is refused.
-    Empty(Side),
     /// A join that is refused for this writes to a total.
     Writes(Condition, Side),
     /// A join that is refused with 12 leaves the sum.
@@ -38,7 +37,13 @@ pub enum Fault {
     CountAbove(Side),
     /// A count of 65,536 does not fit.
     CountBelow(Side),
-    /// So many words are taken as if they were 21.
+    /// A total that the last word makes unfit in this way is joined.
+    LastUnseen(Side, Misfit),
+    /// A fit total of this kind is refused.
+    Refuses(Side, Fit),
+    /// A join that is refused for this writes the last word of the first.
+    WritesLast(Condition),
+    /// So many words are taken as if they were 22.
     Takes(Side, usize),
 }
 
@@ -52,7 +57,30 @@ use Condition::{Length, Room, Unfit};
 use Side::{First, Second};
 use Sign::{Minus, Plus};
 
-pub const FAULTS: [(Fault, Shape, &str); 44] = [
+pub fn faults() -> Vec<(Fault, Shape, &'static str)> {
+    let on = |side: Side| {
+        let unseen = UNFIT.map(|kind| (Fault::LastUnseen(side, kind), Shape::Misfits, unseen_name(side)));
+        let refused = FIT.map(|kind| (Fault::Refuses(side, kind), Shape::Zeros, refused_name(side)));
+        unseen.into_iter().chain(refused)
+    };
+    FAULTS.into_iter().chain(on(First)).chain(on(Second)).collect()
+}
+
+fn unseen_name(side: Side) -> &'static str {
+    match side {
+        First => "joining to a first whose last word does not fit, in each way",
+        Second => "joining a second whose last word does not fit, in each way",
+    }
+}
+
+fn refused_name(side: Side) -> &'static str {
+    match side {
+        First => "joining, a fit first of each kind refused",
+        Second => "joining, a fit second of each kind refused",
+    }
+}
+
+const FAULTS: [(Fault, Shape, &str); 47] = [
     (Fault::SecondFirst, Shape::Misfits, "joining, the second tried before the first"),
     (Fault::LengthsFirst, Shape::Misfits, "joining, the second's 5 before the first's 6"),
     (Fault::RoomBefore(Length(First)), Shape::Misfits, "joining, 12 before the first's 5"),
@@ -65,8 +93,6 @@ pub const FAULTS: [(Fault, Shape, &str); 44] = [
     (Fault::RoomLate, Shape::Trees, "no 12 at 65,537 terms"),
     (Fault::RoomNever, Shape::Joins, "no 12 at all"),
     (Fault::Exchanged, Shape::Misfits, "joining, the second's 5 and 6 exchanged"),
-    (Fault::Empty(First), Shape::Trees, "joining, an empty first refused"),
-    (Fault::Empty(Second), Shape::Trees, "joining, an empty second refused"),
     (Fault::Writes(Length(First), First), Shape::Misfits, "joining refused with the first's 5 that writes"),
     (Fault::Writes(Unfit(First), First), Shape::Misfits, "joining refused with the first's 6 that writes"),
     (Fault::Writes(Length(Second), First), Shape::Misfits, "joining refused with the second's 5 that writes"),
@@ -77,6 +103,11 @@ pub const FAULTS: [(Fault, Shape, &str); 44] = [
     (Fault::Writes(Length(Second), Second), Shape::Misfits, "the same, to the second"),
     (Fault::Writes(Unfit(Second), Second), Shape::Misfits, "the same, to the second"),
     (Fault::Writes(Room, Second), Shape::Misfits, "the same, to the second"),
+    (Fault::WritesLast(Length(First)), Shape::Misfits, "a refused join that writes the last word"),
+    (Fault::WritesLast(Unfit(First)), Shape::Misfits, "a refused join that writes the last word"),
+    (Fault::WritesLast(Length(Second)), Shape::Misfits, "a refused join that writes the last word"),
+    (Fault::WritesLast(Unfit(Second)), Shape::Misfits, "a refused join that writes the last word"),
+    (Fault::WritesLast(Room), Shape::Misfits, "a refused join that writes the last word"),
     (Fault::RoomJoins, Shape::Joins, "joining refused with 12 that leaves the sum"),
     (Fault::RoomCounts, Shape::Misfits, "joining refused with 12 that leaves the count"),
     (Fault::Unseen(First), Shape::Misfits, "joining to an unfit first"),
@@ -93,10 +124,10 @@ pub const FAULTS: [(Fault, Shape, &str); 44] = [
     (Fault::CountAbove(Second), Shape::Misfits, "joining, a count of 65,537 fits"),
     (Fault::CountBelow(First), Shape::Joins, "joining, a count of 65,536 does not fit"),
     (Fault::CountBelow(Second), Shape::Joins, "joining, a count of 65,536 does not fit"),
-    (Fault::Takes(First, LENGTH + 1), Shape::Misfits, "joining to a first of 22 words"),
-    (Fault::Takes(First, LENGTH + 256), Shape::Misfits, "joining to a first of 277 words"),
-    (Fault::Takes(Second, LENGTH + 1), Shape::Misfits, "joining a second of 22 words"),
-    (Fault::Takes(Second, LENGTH + 256), Shape::Misfits, "joining a second of 277 words"),
+    (Fault::Takes(First, LENGTH + 1), Shape::Misfits, "joining to a first of 23 words"),
+    (Fault::Takes(First, LENGTH + 256), Shape::Misfits, "joining to a first of 278 words"),
+    (Fault::Takes(Second, LENGTH + 1), Shape::Misfits, "joining a second of 23 words"),
+    (Fault::Takes(Second, LENGTH + 256), Shape::Misfits, "joining a second of 278 words"),
 ];
 
 impl Fault {
@@ -113,7 +144,7 @@ impl Fault {
         let total = |side| if side == First { first } else { second };
         match self {
             Fault::RoomEarly if first.count + second.count == MOST => joined.refuse(12),
-            Fault::Empty(side) if total(side).count == 0 => joined.refuse(6),
+            Fault::Refuses(side, kind) if kind.is(&total(side)) => joined.refuse(6),
             // Not the empty total, which is at its limit too.
             Fault::LimitBelow(side, sign) if total(side).count > 0 && above_limit(&total(side), sign, 0) => {
                 joined.refuse(6)
@@ -140,6 +171,11 @@ impl Fault {
                     *word ^= 1;
                 }
             }
+            Fault::WritesLast(of) if of == condition => {
+                if let Some(word) = joined.lent[0].words_mut().last_mut() {
+                    *word ^= 1;
+                }
+            }
             _ => {
                 if let Some((first, second)) = joined.totals() {
                     self.spoil_refused_totals(condition, &first, &second, joined);
@@ -159,8 +195,9 @@ impl Fault {
                 carry_out(joined);
                 joined.refusal = 12;
             }
-            Fault::RoomCounts if condition == Room => joined.lent[0].words_mut()[LENGTH - 1] = count,
+            Fault::RoomCounts if condition == Room => joined.lent[0].words_mut()[WORDS] = count,
             Fault::Unseen(side) if at(side) && total(side).count <= MOST => carry_out(joined),
+            Fault::LastUnseen(side, kind) if at(side) && kind.is(total(side)) => carry_out(joined),
             Fault::LimitAbove(side, sign) if at(side) && above_limit(total(side), sign, 1) => {
                 carry_out(joined)
             }

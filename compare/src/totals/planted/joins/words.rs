@@ -1,7 +1,7 @@
 //! Faults in the words that a join leaves.
 use super::Joined;
 use crate::totals::columns::Shape;
-use crate::totals::model::Total;
+use crate::totals::model::{Total, LENGTH, ZERO_SIGN};
 use crate::totals::number::{Number, WORDS};
 use crate::totals::planted::words::moved;
 
@@ -29,6 +29,18 @@ pub enum Fault {
     Replaced,
     /// Numbers that cancel leave an empty total.
     CancelledUncounted,
+    /// The last word is 0 where either total's is.
+    SignOfEither,
+    /// It is the first's.
+    SignOfFirst,
+    /// It is the second's.
+    SignOfSecond,
+    /// It is 0 wherever the sum is.
+    SignOfNumber,
+    /// It is always 1.
+    SignAlwaysOne,
+    /// The second's is written, too.
+    SignOfBoth,
     /// The second is empty afterwards.
     SecondCleared,
     /// The second is the sum too.
@@ -55,6 +67,12 @@ pub fn faults() -> Vec<(Fault, Shape, &'static str)> {
         (Fault::Twice, Shape::Trees, "joining, the second added twice"),
         (Fault::Replaced, Shape::Trees, "joining, the second in the first's place"),
         (Fault::CancelledUncounted, Shape::Joins, "joining, numbers that cancel not counted"),
+        (Fault::SignOfEither, Shape::Zeros, "joining, a last word of 0 where either is"),
+        (Fault::SignOfFirst, Shape::Zeros, "joining, the first's last word alone"),
+        (Fault::SignOfSecond, Shape::Zeros, "joining, the second's last word alone"),
+        (Fault::SignOfNumber, Shape::Zeros, "joining, a last word of 0 wherever the sum is"),
+        (Fault::SignAlwaysOne, Shape::Zeros, "joining, a last word of 1 always"),
+        (Fault::SignOfBoth, Shape::Zeros, "joining that writes the second's last word"),
         (Fault::SecondCleared, Shape::Trees, "joining that empties the second"),
         (Fault::SecondJoined, Shape::Trees, "joining that gives both the sum"),
         (Fault::SecondCounted, Shape::Joins, "joining that writes the second's count"),
@@ -74,7 +92,26 @@ impl Fault {
             Fault::CountLeft => joined.lent[0].words_mut()[WORDS] = first.count,
             Fault::CountOfSecond => joined.lent[0].words_mut()[WORDS] = second.count,
             Fault::CountByOne => joined.lent[0].words_mut()[WORDS] = first.count + 1,
-            _ => self.spoil_number(&first, &second, joined),
+            Fault::SignOfBoth => {
+                let last = joined.lent[0].words()[ZERO_SIGN];
+                joined.lent[1].words_mut()[ZERO_SIGN] = last;
+            }
+            _ => match self.sign_word(&first, &second) {
+                Some(sign_word) => joined.lent[0].words_mut()[ZERO_SIGN] = sign_word,
+                None => self.spoil_number(&first, &second, joined),
+            },
+        }
+    }
+
+    /// The last word, if the fault is in it.
+    fn sign_word(self, first: &Total, second: &Total) -> Option<u32> {
+        match self {
+            Fault::SignOfEither => Some(first.sign_word.min(second.sign_word)),
+            Fault::SignOfFirst => Some(first.sign_word),
+            Fault::SignOfSecond => Some(second.sign_word),
+            Fault::SignOfNumber => Some(u32::from(first.joined(second).number != Number::ZERO)),
+            Fault::SignAlwaysOne => Some(1),
+            _ => None,
         }
     }
 
@@ -99,8 +136,8 @@ impl Fault {
             Fault::SecondCleared => second.words_mut().fill(0),
             Fault::SecondJoined => second.words_mut().copy_from_slice(first.words()),
             Fault::SecondCounted => second.words_mut()[WORDS] = first.words()[WORDS],
-            Fault::BehindFirst => first.words_and_next()[WORDS + 1] = 0,
-            Fault::BehindSecond => second.words_and_next()[WORDS + 1] = 0,
+            Fault::BehindFirst => first.words_and_next()[LENGTH] = 0,
+            Fault::BehindSecond => second.words_and_next()[LENGTH] = 0,
             _ => {}
         }
     }

@@ -3,7 +3,7 @@ use super::{full, DOWN, UP};
 use crate::pattern::{fields, FRACTION};
 use crate::totals::call::Call;
 use crate::totals::columns::terms::{opposite, power};
-use crate::totals::model::{term, Total};
+use crate::totals::model::{Term, Total};
 use crate::totals::number::Number;
 use crate::totals::stored::record::Column;
 
@@ -60,10 +60,10 @@ const COUNT: u32 = 60_000;
 
 /// From as far below 2^569, or above its opposite, as the term goes: a carry runs to the last word that it can reach. And back.
 fn run(from: &str, call: Call) -> Column {
-    let term = term(call);
+    let term = Term::of(call).number;
     let far = Number::at(1, 569);
     let (run, far) =
         if term.is_negative() { ("a borrow to -2^569", far.opposite()) } else { ("a carry to 2^569", far) };
-    let start = Total { number: far.minus(&term), count: COUNT };
-    Column::new(format!("{run} from {from}, and back"), start.words(), vec![call, opposite(call)])
+    let start = Total::new(far.minus(&term), COUNT);
+    Column::new(format!("{run} from {from}, and back"), start.old_words(), vec![call, opposite(call)])
 }

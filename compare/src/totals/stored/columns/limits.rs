@@ -23,7 +23,7 @@ impl Start {
     fn words(&self) -> Vec<u32> {
         let number = Number::at(u64::from(self.count), BOUND).plus(&self.outwards);
         let number = if self.negative { number.opposite() } else { number };
-        Total { number, count: self.count }.words()
+        Total::new(number, self.count).old_words()
     }
 
     /// `beside` says where the start is, and `what` what is tried there.

@@ -53,5 +53,5 @@ fn full(term: Call) -> Column {
 }
 
 fn repeated(shows: String, calls: &[(Call, u32)]) -> Column {
-    Column { shows, start: Total::CLEARED.words(), apart: false, calls: calls.to_vec() }
+    Column { shows, start: Total::CLEARED.old_words(), apart: false, calls: calls.to_vec() }
 }

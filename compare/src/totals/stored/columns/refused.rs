@@ -2,7 +2,7 @@
 use super::{DOWN, OMEGA, SQUARE, UP};
 use crate::pattern::{INFINITY, LARGEST, NAN, SIGN};
 use crate::totals::call::Call;
-use crate::totals::model::{Total, LENGTH, MOST};
+use crate::totals::model::{Total, MOST, OLD_LENGTH};
 use crate::totals::number::Number;
 use crate::totals::stored::record::Column;
 
@@ -39,9 +39,9 @@ const CALLS: [Call; 5] =
 
 /// Cleared words of other lengths, and such as would not fit. 277 is 21 in its lowest byte.
 fn lengths() -> Vec<Column> {
-    let lengths = [1, LENGTH - 1, LENGTH + 1, 256 + LENGTH];
+    let lengths = [1, OLD_LENGTH - 1, OLD_LENGTH + 1, 256 + OLD_LENGTH];
     let zeros = lengths.map(|length| vec![0; length]);
-    let ones = [LENGTH - 1, LENGTH + 1].map(|length| vec![u32::MAX; length]);
+    let ones = [OLD_LENGTH - 1, OLD_LENGTH + 1].map(|length| vec![u32::MAX; length]);
     let column = |words: Vec<u32>| {
         let shows = format!("5: a length of {}, whatever the call and the words", words.len());
         Column::new(shows, words, CALLS.to_vec())
@@ -63,7 +63,7 @@ fn unfit() -> Vec<Column> {
         ("2^639 - 1, and a count of 65,536", least.plus(&one).opposite(), MOST),
     ];
     let column = |(shows, number, count)| {
-        let words = Total { number, count }.words();
+        let words = Total::new(number, count).old_words();
         Column::new(format!("6: {shows}, before 7 and 8"), words, CALLS.to_vec()).apart()
     };
     totals.map(column).to_vec()
@@ -71,7 +71,7 @@ fn unfit() -> Vec<Column> {
 
 /// 7 comes before 8; a total that is cleared takes terms again.
 fn full() -> Column {
-    let words = Total { number: Number::at(12_345, 290), count: MOST }.words();
+    let words = Total::new(Number::at(12_345, 290), MOST).old_words();
     let zero = [Call::Pattern(0), Call::Pattern(SIGN), Call::Product(0, 0)];
     let taken = [Call::Pattern(ONE), OMEGA, SQUARE, UP, DOWN];
     let bad = [Call::Pattern(INFINITY), Call::Product(LARGEST, SIGN | NAN), Call::Product(0x7F80_0001, 0)];
@@ -81,7 +81,7 @@ fn full() -> Column {
 }
 
 fn last_term() -> Column {
-    let words = Total { number: Number::at(12_345, 290).opposite(), count: MOST - 1 }.words();
+    let words = Total::new(Number::at(12_345, 290).opposite(), MOST - 1).old_words();
     let calls = vec![Call::Pattern(NAN), Call::Pattern(ONE), Call::Pattern(ONE), Call::Pattern(NAN)];
     Column::new("the last term that is taken, and 8", words, calls)
 }

@@ -78,7 +78,7 @@ returns-5 c e =
     let top = h .before .wrapping-add-u64 .ensures ∙ ap₂ (λ (x y : ℕ). (x + y * 4294967296 + 1) % 2 ^ 64) (w .before .before .wide .ensures) (w .wide2 .ensures) in
     let less = ltb-true _ _ e in
     let in-limits = sym (well-within t (omega (arith, full)) words (omega (arith, r .if2 .left)) (le-trans (le-of-eq (sym top)) (h .if4 .left)) less) in
-    no-fault t full (fit-with-terms t in-limits (s .if3 .left) (omega (arith, less))) (omega (arith, r .if2 .left))
+    (no-fault t full (fit-with-terms t in-limits (s .if3 .left) (omega (arith, less))) (omega (arith, r .if2 .left)), s .if3 .left)
 
 pub has-room-spec : {M : Type 1} → statement M
 has-room-spec =

@@ -14,52 +14,16 @@ ghost use Prim.Native.Nat.{suc, _≤_, _<_};
 ghost use lib.Dec.{eqb};
 ghost use lib.ListN.{length, set};
 ghost use Rattle.accumulator_spec.specs.Totals.{numberSize, totalSize, mostTerms, count, signWord, ofPattern, ofProduct, AddsNumbered};
-ghost use Rattle.accumulator_add.specs.Inner.{Enters, noted};
+ghost use Rattle.accumulator_add.specs.Inner.{noted};
 
-// Either call ends this one and is handed all that it was lent, so that nothing is kept for after it.
+// Nearly every total shows at once that nothing but the operand can be refused, and has the sign word 1, which stays.
 pub fn add_pattern(total: &mut [u32], x: u32) -> u32
     ensures { λ r. ⌜ AddsNumbered (now (total .entry)) (ofPattern x) r (now (total .exit)) ⌝ }
 {
-    if has_room(total) {
-        return enter_pattern(total, x);
+    if !has_room(total) {
+        // The product with 1 is the same term.
+        return admit(total, x, 0x3f80_0000);
     }
-    // Seldom done: as the product with 1, which is the same term.
-    admit(total, x, 0x3f80_0000)
-}
-
-pub fn add_product(total: &mut [u32], x: u32, y: u32) -> u32
-    ensures { λ r. ⌜ AddsNumbered (now (total .entry)) (ofProduct x y) r (now (total .exit)) ⌝ }
-{
-    if has_room(total) {
-        return enter_product(total, x, y);
-    }
-    admit(total, x, y)
-}
-
-// A product with a total that may have to be refused, or whose sign word the term may change.
-fn admit(total: &mut [u32], x: u32, y: u32) -> u32
-    ensures { λ r. ⌜ AddsNumbered (now (total .entry)) (ofProduct x y) r (now (total .exit)) ⌝ }
-{
-    let wrong = refusal_to_add(total);
-    if wrong != 0 {
-        return in_order(wrong, both_finite(x, y));
-    }
-    let p = exact::product(x, y);
-    match p {
-        Class::Finite { sign, sig, exp: _ } => {
-            note_sign(total, sign, sig);
-            enter_product(total, x, y)
-        }
-        Class::Infinite(_) => 7,
-        Class::NotANumber => 7,
-    }
-}
-
-// Adds a finite term to number and count of a total with room for it, and leaves the sign word; 7 for any other.
-fn enter_pattern(total: &mut [u32], x: u32) -> u32
-    requires { ⌜ (length (now total) ≡ totalSize) × (count (now total) < mostTerms) ⌝ }
-    ensures { λ r. ⌜ Enters (now (total .entry)) (ofPattern x) r (now (total .exit)) ⌝ }
-{
     let a = classify(x);
     match a {
         Class::Finite { sign, sig, exp } => {
@@ -73,13 +37,36 @@ fn enter_pattern(total: &mut [u32], x: u32) -> u32
     }
 }
 
-fn enter_product(total: &mut [u32], x: u32, y: u32) -> u32
-    requires { ⌜ (length (now total) ≡ totalSize) × (count (now total) < mostTerms) ⌝ }
-    ensures { λ r. ⌜ Enters (now (total .entry)) (ofProduct x y) r (now (total .exit)) ⌝ }
+pub fn add_product(total: &mut [u32], x: u32, y: u32) -> u32
+    ensures { λ r. ⌜ AddsNumbered (now (total .entry)) (ofProduct x y) r (now (total .exit)) ⌝ }
 {
+    if !has_room(total) {
+        return admit(total, x, y);
+    }
     let p = exact::product(x, y);
     match p {
         Class::Finite { sign, sig, exp } => {
+            accumulator_words::add(&mut total[0..NUMBER_SIZE], place(sign, sig, exp));
+            count_term(total);
+            0
+        }
+        Class::Infinite(_) => 7,
+        Class::NotANumber => 7,
+    }
+}
+
+// The same for any other total: where it may have to be refused, or the term may change the sign word.
+fn admit(total: &mut [u32], x: u32, y: u32) -> u32
+    ensures { λ r. ⌜ AddsNumbered (now (total .entry)) (ofProduct x y) r (now (total .exit)) ⌝ }
+{
+    let wrong = refusal_to_add(total);
+    if wrong != 0 {
+        return in_order(wrong, both_finite(x, y));
+    }
+    let p = exact::product(x, y);
+    match p {
+        Class::Finite { sign, sig, exp } => {
+            note_sign(total, sign, sig);
             accumulator_words::add(&mut total[0..NUMBER_SIZE], place(sign, sig, exp));
             count_term(total);
             0

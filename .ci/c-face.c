@@ -115,13 +115,19 @@ static void totals(void) {
     print_refusal("add_pattern", jirmeklo_add_pattern(total, TOTAL, ONE));
 }
 
-/* -0 as a pattern and as a product, which leave the sign word 0; +0, which does not; and the three kinds of total that it makes unfit. */
+/* -0 as a pattern and as a product, which leave the sign word 0, and a join of two such totals; +0, which does not; and the three kinds of
+ * total that it makes unfit. */
 static void minus_zeros(void) {
-    uint32_t total[TOTAL];
+    uint32_t total[TOTAL], other[TOTAL];
     fill_with(total, TOTAL, 0);
+    fill_with(other, TOTAL, 0);
     print_reading("read", jirmeklo_read(total, TOTAL));
     print_refusal("add_pattern", jirmeklo_add_pattern(total, TOTAL, MINUS_ZERO));
     print_refusal("add_product", jirmeklo_add_product(total, TOTAL, MINUS_ZERO, ONE));
+    print_total("total", total + COUNT, TOTAL - COUNT);
+    print_reading("read", jirmeklo_read(total, TOTAL));
+    jirmeklo_add_pattern(other, TOTAL, MINUS_ZERO);
+    print_refusal("join", jirmeklo_join(total, TOTAL, other, TOTAL));
     print_total("total", total + COUNT, TOTAL - COUNT);
     print_reading("read", jirmeklo_read(total, TOTAL));
     print_refusal("add_product", jirmeklo_add_product(total, TOTAL, MINUS_ZERO, MINUS_ZERO));
@@ -143,10 +149,12 @@ static void carried(void) {
     uint32_t old[TOTAL], total[TOTAL + 1];
     fill_with(old, TOTAL, 0);
     fill_with(total, TOTAL + 1, 0xA5A5A5A5u);
+    old[0] = 7;
     old[COUNT] = 1;
     print_refusal("carry_over", jirmeklo_carry_over(old, OLD_TOTAL, total, TOTAL));
     print_total("total", total, TOTAL + 1);
     print_reading("read", jirmeklo_read(total, TOTAL));
+    old[0] = 0;
     old[COUNT] = 0;
     print_refusal("carry_over", jirmeklo_carry_over(old, OLD_TOTAL, total, TOTAL));
     print_total("total", total + COUNT, TOTAL - COUNT);
@@ -225,6 +233,23 @@ static void lists(void) {
     print_reading("read", jirmeklo_read(second, TOTAL));
 }
 
+/* -0 + -0, -0 - +0 and -0 * 1. */
+static void list_of_minus_zeros(void) {
+    const uint32_t operations[] = {1, 2, 3};
+    const uint32_t xs[] = {MINUS_ZERO, MINUS_ZERO, MINUS_ZERO};
+    const uint32_t ys[] = {MINUS_ZERO, 0, ONE};
+    const uint32_t counts[] = {SHEET, SHEET, SHEET};
+    uint32_t words[SHEET], first[TOTAL], second[TOTAL];
+    fill_with(words, SHEET, 0);
+    fill_with(first, TOTAL, 0);
+    fill_with(second, TOTAL, 0);
+    print_refusal("replay", jirmeklo_replay(operations, 3, xs, 3, ys, 3, counts, 3, words, SHEET, first, TOTAL, second, TOTAL));
+    print_total("first", first + COUNT, TOTAL - COUNT);
+    print_total("second", second + COUNT, TOTAL - COUNT);
+    print_reading("read", jirmeklo_read(first, TOTAL));
+    print_reading("read", jirmeklo_read(second, TOTAL));
+}
+
 int main(void) {
     steps();
     pairs();
@@ -234,5 +259,6 @@ int main(void) {
     carried();
     sheets();
     lists();
+    list_of_minus_zeros();
     return 0;
 }

@@ -54,8 +54,8 @@ struct jirmeklo_pair jirmeklo_sum(uint32_t x, uint32_t y);
 struct jirmeklo_pair jirmeklo_difference(uint32_t x, uint32_t y);
 struct jirmeklo_pair jirmeklo_product(uint32_t x, uint32_t y);
 
-/* Makes 22 words an empty total. A total is a whole number of 2^-298 in 20 words, lowest first, a count of terms, and a sign word: 0 while
- * every term has been -0 (a product by its own sign), 1 otherwise; 0 without terms. Refusal: 5, other than 22 words. */
+/* Makes 22 words an empty total. A total is a whole number of 2^-298 in 20 words, lowest first, a count of terms, and a sign word:
+ * 0 as long as no term but -0 was added (a product by its own sign), else 1. Refusal: 5, other than 22 words. */
 uint32_t jirmeklo_clear(uint32_t *total, size_t words);
 
 /* Adds a term, the pattern x or the product of x and y, exactly.
@@ -64,17 +64,18 @@ uint32_t jirmeklo_clear(uint32_t *total, size_t words);
 uint32_t jirmeklo_add_pattern(uint32_t *total, size_t words, uint32_t x);
 uint32_t jirmeklo_add_product(uint32_t *total, size_t words, uint32_t x, uint32_t y);
 
-/* Joins two totals: the first becomes their exact sum, with the terms of both counted and the sign word 0 where both have 0; the
+/* Joins two totals: the first becomes their exact sum, with the terms of both counted and the sign word 0 exactly where both have 0; the
  * second stays as it was. Empty totals are no exception. The two must be different arrays, which do not overlap: no total is joined
  * to itself.
  * Refusals: 5, the first has other than 22 words; 6, the first is unfit, as in adding; 5 and 6, the same of the second; 12, the
  * counts together are above 65,536. */
 uint32_t jirmeklo_join(uint32_t *first, size_t words, const uint32_t *second, size_t second_words);
 
-/* Carries an old total over, of 21 words without a sign word, into 22, whatever these held. The old one stays as it was. Without terms
- * the sign word is 0, with any it is 1: the total reads as it did.
- * Refusals: 5, other than 21 old words, or other than 22; 6, an unfit old total (a count above 65,536, or a magnitude above
- * count * 2^554). */
+/* Carries an old total over, of 21 words without a sign word, into a total of 22, whatever this held: not in place, the two must not
+ * overlap. The old one stays as it was. Without terms the sign word is 0, with any it is 1, even if all have been -0: the total reads
+ * as it did.
+ * Refusals: 5, the old one has other than 21 words, or the total other than 22; 6, the old one is unfit (a count above 65,536, or a
+ * magnitude above count * 2^554). */
 uint32_t jirmeklo_carry_over(const uint32_t *old, size_t old_words, uint32_t *total, size_t words);
 
 /* Reads a total as a pair: first is the total rounded, second the rest rounded. A zero total reads -0 twice where it has terms and

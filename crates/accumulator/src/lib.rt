@@ -78,7 +78,7 @@ pub fn add_product(total: &mut [u32], x: u32, y: u32) -> Added
     named(accumulator_add::add_product(total, x, y))
 }
 
-// Adds the second's number and count to the first's (R6.9).
+// Adds the second's number and count to the first's (R6.9); the sign word is 0 where both have it (R6.11).
 pub fn join(first: &mut [u32], second: &[u32]) -> Joined
     ensures { λ r. ⌜ Joins (now (first .entry)) (now (second .entry)) (answerJoined r) (now (first .exit)) ⌝ }
     ensures { λ _. ⌜ now (second .exit) ≡ now (second .entry) ⌝ }
@@ -91,7 +91,7 @@ pub fn carry_over(old: &[u32], new: &mut [u32]) -> Carried
     ensures { λ r. ⌜ Carries (now (old .entry)) (now (new .entry)) (answerCarried r) (now (new .exit)) ⌝ }
     ensures { λ _. ⌜ now (old .exit) ≡ now (old .entry) ⌝ }
 {
-    named_carry(accumulator_carry::carry_over(old, new))
+    named_carry(accumulator_carry_over::carry_over(old, new))
 }
 
 pub fn read(total: &[u32]) -> Reading

@@ -63,8 +63,8 @@ fn admit(total: &mut [u32], x: u32, y: u32) -> u32
     if wrong != 0 {
         return in_order(wrong, both_finite(x, y));
     }
-    let p = exact::product(x, y);
-    match p {
+    let term = exact::product(x, y);
+    match term {
         Class::Finite { sign, sig, exp } => {
             note_sign(total, sign, sig);
             accumulator_words::add(&mut total[0..NUMBER_SIZE], place(sign, sig, exp));

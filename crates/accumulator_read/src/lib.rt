@@ -1,4 +1,4 @@
-// What a total reads: RN0 of its number, and RN0 of the number less that (R6.5 to R6.8).
+// What a total reads: RN0 of its number, and RN0 of the number less that; -0 where all its terms have been (R6.5 to R6.8).
 mod leading;
 
 use accumulator_spec::NUMBER_SIZE;

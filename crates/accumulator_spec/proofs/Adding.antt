@@ -16,7 +16,7 @@ use Rattle.pattern_spec.specs.Exact.{whole}
 use Rattle.accumulator_spec.specs.Totals.{totalSize, mostTerms, number, count, signWord, totalOf, withinLimits, signFits, fit, FitTotal}
 use Rattle.accumulator_spec.specs.Totals.{Term, finiteOperands, exactTerm, termSign, signOfBoth, adding}
 use Rattle.accumulator_spec.specs.Theorems.{FitIs, LowestUnfit, AcceptedTerm, ExactAdding}
-use Rattle.accumulator_spec.specs.SignTheorems.{UnfitSigns}
+use Rattle.accumulator_spec.specs.SignTheorems.{WithinIs, UnfitSigns}
 use Rattle.accumulator_spec.proofs.Answers.{adding-done, after-done}
 use Rattle.accumulator_spec.proofs.Held.{total-number, total-count, total-sign, total-full, total-words}
 use Rattle.accumulator_spec.proofs.Rest.{abs-sub}
@@ -114,6 +114,9 @@ refute false h = refl
 pub lowest-unfit : LowestUnfit
 lowest-unfit t e =
     refute (fit t) (λ f. let b = fit-bounds t f in lt-irrefl _ (lt-of-le-of-lt (le-of-eq (sym (ap natAbs e))) (sum-room (natAbs (number t)) (count t) (b .few) (b .small))))
+
+pub within-is : WithinIs
+within-is t = (limits t, λ b. limits-within t (b .0) (b .1))
 
 pub unfit-signs : UnfitSigns
 unfit-signs t = (

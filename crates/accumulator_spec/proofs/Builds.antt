@@ -9,19 +9,20 @@ use native.Mathlib.Bridge.{le-prop}
 use native.Mathlib.Nat.{le-trans, le-of-eq, add-zero, zero-add}
 use native.Mathlib.Omega.{arith}
 use lib.IntN.{ℤ, pos, _+ℤ_, +ℤ-assoc, +ℤ-idl, +ℤ-idr}
-use lib.ListN.{length, length-append}
+use lib.ListN.{length, take, length-append}
 use Rattle.pattern_spec.specs.Answer.{done}
 use Rattle.pattern_spec.specs.Exact.{whole}
 use Rattle.accumulator_spec.specs.Words.{Words, natural, integer, wordsOfNatural, wordsOfInteger}
 use Rattle.accumulator_spec.specs.Totals.{zeros, mostTerms, number, count, signWord, totalOf, fit, FitTotal, signOfBoth}
 use Rattle.accumulator_spec.specs.Totals.{Term, finiteOperands, exactTerm, adding, afterAdding}
 use Rattle.accumulator_spec.specs.Columns.{column, Accepted, AllFinite, columnSum, columnSign}
-use Rattle.accumulator_spec.specs.Carrying.{oldColumn, carrying, afterCarrying, carriedTerms}
+use Rattle.accumulator_spec.specs.Carrying.{oldSize, oldColumn, carrying, afterCarrying, carriedTerms}
 use Rattle.accumulator_spec.specs.Joins.{joining, afterJoining, Built, fromCleared, byAdding, byJoining, byCarrying}
+use Rattle.accumulator_spec.specs.SignTheorems.{OldBuiltIs}
 use Rattle.accumulator_spec.specs.JoinTheorems.{BuiltBy, BuiltIsColumn, JoinedIsColumn, ColumnsJoin, ColumnBuilt, EmptyJoins, JoinLandmarks}
 use Rattle.accumulator_spec.proofs.Adding.{limits, fit-bounds, accepted-term}
 use Rattle.accumulator_spec.proofs.Signs.{sign-idl, sign-idr, both-signs}
-use Rattle.accumulator_spec.proofs.Carried.{old-count, carry-conditions, carried-finite, carried-column}
+use Rattle.accumulator_spec.proofs.Carried.{old-count, carry-conditions, carried-finite, carried-column, old-column-is}
 use Rattle.accumulator_spec.proofs.Columns.{column-next, all-finite-is, exact-column, any-order, perm-length, perm-finite}
 use Rattle.accumulator_spec.proofs.Held.{total-same, total-unique}
 use Rattle.accumulator_spec.proofs.Joining.{conditions, joins, after-joined}
@@ -134,6 +135,10 @@ built-is-column t xs zs b p =
 
 pub joined-is-column : JoinedIsColumn
 joined-is-column f s xs ys zs b d e p = let c = built-is-column (afterJoining f s) (xs ++ ys) zs (byJoining b d e) p in (c .0, c .1)
+
+-- an old one that was built has the words of the old total of its terms
+pub old-built-is : OldBuiltIs
+old-built-is t xs b = let c = built b in ap (take oldSize) (c .is) ∙ old-column-is xs (c .few) (c .finite)
 
 -- ---- and columns are built, term by term
 more-built : (xs : List Term) (t : List ℕ) (ys : List Term) → Built t ys → Accepted t xs → Built (column t xs) (ys ++ xs)

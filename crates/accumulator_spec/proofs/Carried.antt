@@ -170,7 +170,14 @@ module _ {A : Type 0} (g : Answer (Unit {0}) → A) (old new : List ℕ) (answer
     λ full room. (
       λ h. refuses 6 (old-unfit old new full room h),
       λ h. let d = carries old new full room h in
-          rw (w ∙ carry-done old new d) (e ∙ ap g d, carried-front old full, carried-full old full, sign-empty old full, sign-some old full),
+          rw (w ∙ carry-done old new d) (
+            e ∙ ap g d,
+            carried-front old full,
+            carried-full old full,
+            λ words. (carried-total-fit old full words h, carried-number old full, carried-count old full),
+            sign-empty old full,
+            sign-some old full,
+          ),
     ),
   )
 

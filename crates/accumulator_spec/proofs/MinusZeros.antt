@@ -90,6 +90,7 @@ column-minus-zero xs h f =
 
 -- ---- by computation
 pub sign-landmarks : SignLandmarks
-unfolding adding afterAdding joining afterJoining carrying afterCarrying reading fit integer natural wordsOfInteger wordsOfNatural decode unsigned magnitude fields times finer encode bits size pairOf keep
-    lastPlace
-sign-landmarks = (refl, refl, refl, refl, refl, refl, refl, refl, refl, refl, refl, refl, refl, refl, refl)
+unfolding
+    adding afterAdding joining afterJoining carrying afterCarrying reading fit integer natural wordsOfInteger wordsOfNatural
+    decode unsigned magnitude fields times finer encode bits size pairOf keep lastPlace
+sign-landmarks = (refl, refl, refl, refl, refl, refl, refl, refl, refl, refl, refl, refl, refl, refl, refl, refl, refl)

@@ -12,7 +12,7 @@ use lib.Seq.{take-all, drop-cons, set-at, set-split, length-take-le}
 use Rattle.pattern_spec.specs.Exact.{int}
 use Rattle.accumulator_spec.specs.Words.{Words, integer, wordsOfInteger}
 use Rattle.accumulator_spec.specs.Totals.{numberSize, totalSize, number, count, signWord, totalOf}
-use Rattle.accumulator_spec.specs.Inner.{afterTerm, carried}
+use Rattle.accumulator_spec.specs.Inner.{afterTerm, afterWalk}
 use Rattle.accumulator_spec.proofs.Parts.{lent-on, part-added}
 use Rattle.accumulator_spec.proofs.Held.{words-full, total-count, total-full}
 
@@ -25,10 +25,10 @@ weighed sig w shift =
 
 -- What the walk leaves in the words from there on, as they are lent to it, moves the number of all of them.
 pub part-term : (ws : List ℕ) (words : Words ws) (s : Bool) (sig w shift : ℕ) (fits : w ≤ length ws) (new : List ℕ)
-    → new ≡ carried (take (length ws - w) (drop w ws)) s (sig * 2 ^ shift)
+    → new ≡ afterWalk (take (length ws - w) (drop w ws)) s (sig * 2 ^ shift)
     → take w ws ++ (new ++ drop (length ws - w) (drop w ws)) ≡ afterTerm ws s sig (32 * w + shift)
 part-term ws words s sig w shift fits new added =
-    lent-on ws w (λ (xs : List ℕ). carried xs s (sig * 2 ^ shift)) new added
+    lent-on ws w (λ (xs : List ℕ). afterWalk xs s (sig * 2 ^ shift)) new added
     ∙ part-added ws w words fits s (sig * 2 ^ shift)
     ∙ ap (λ (x : ℕ). wordsOfInteger (length ws) (integer ws +ℤ int s x)) (weighed sig w shift)
 

@@ -7,7 +7,7 @@ use Rattle.accumulator_spec.proofs.Zeros.{cleared-zeros}
 use Rattle.accumulator_spec.proofs.Held.{number-and-count, number-held, total-unique}
 use Rattle.accumulator_spec.proofs.Landmarks.{total-landmarks, finite-operands-are, pattern-term, product-term, term-landmarks, exact-back}
 use Rattle.accumulator_spec.proofs.Answers.{adding-refused, refused-term, clearing-is, reading-refused}
-use Rattle.accumulator_spec.proofs.Adding.{fit-is, lowest-unfit, unfit-signs, accepted-term, exact-adding}
+use Rattle.accumulator_spec.proofs.Adding.{fit-is, lowest-unfit, within-is, unfit-signs, accepted-term, exact-adding}
 use Rattle.accumulator_spec.proofs.Signs.{sign-of-both-is}
 use Rattle.accumulator_spec.proofs.MinusZeros.{pattern-minus-zero, product-minus-zero, column-sign-is, column-minus-zero, sign-landmarks}
 use Rattle.accumulator_spec.proofs.Carried.{carrying-refused, carries-means, carries-numbered-means, old-reads, carried-fit}
@@ -15,7 +15,7 @@ use Rattle.accumulator_spec.proofs.Carried.{old-column-is, carried-term
 use Rattle.accumulator_spec.proofs.Relations.{clears-means, adds-means, adds-numbered-means, adds-alike}
 use Rattle.accumulator_spec.proofs.Columns.{column-next, accepted-each, all-finite-is, exact-column, any-order}
 use Rattle.accumulator_spec.proofs.Joining.{joining-refused, accepted-join, exact-join, refused-join, joins-means, joins-numbered-means}
-use Rattle.accumulator_spec.proofs.Builds.{built-by, built-is-column, joined-is-column, columns-join, column-built, empty-joins, join-landmarks}
+use Rattle.accumulator_spec.proofs.Builds.{built-by, built-is-column, old-built-is, joined-is-column, columns-join, column-built, empty-joins, join-landmarks}
 use Rattle.accumulator_spec.proofs.ReadTotal.{read-fit, read-column, read-finite, read-zero, read-rounded-to-zero}
 use Rattle.accumulator_spec.proofs.ReadPairs.{read-overflow, read-sum, read-product}
 
@@ -81,6 +81,7 @@ all = (
   sign-of-both-is,
   pattern-minus-zero,
   product-minus-zero,
+  within-is,
   unfit-signs,
   column-sign-is,
   column-minus-zero,
@@ -90,6 +91,7 @@ all = (
   old-reads,
   carried-fit,
   old-column-is,
+  old-built-is,
   carried-terms-are,
   carried-column,
   sign-landmarks,

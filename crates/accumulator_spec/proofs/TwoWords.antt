@@ -11,7 +11,7 @@ use lib.Dec.{ltb}
 use lib.ListN.{length, take, drop, set, getD, length-set}
 use lib.Seq.{drop-set-lt}
 use Rattle.accumulator_spec.specs.Words.{Words}
-use Rattle.accumulator_spec.specs.Inner.{carried}
+use Rattle.accumulator_spec.specs.Inner.{afterWalk}
 use Rattle.accumulator_spec.proofs.Carry.{turn, turn-lt, turn-xor, walk}
 use Rattle.accumulator_spec.proofs.Parts.{drop-words, walk-is}
 
@@ -93,7 +93,7 @@ module _ (s : Bool) (m : ℕ) (is : m ≡ cond s 0xffff_ffff_ffff_ffff 0) (ws : 
 
   pub two-words-added : (length after ≡ length ws) × (carry ≤ 1)
       × ((high : ℕ)
-      → take 2 after ++ carried (drop 2 after) s (high + carry) ≡ carried ws s (low + 2 ^ 64 * high))
+      → take 2 after ++ afterWalk (drop 2 after) s (high + carry) ≡ afterWalk ws s (low + 2 ^ 64 * high))
   two-words-added =
       let l : sum < 2 ^ 64 = omega arith in (
         simp length-set refl,

@@ -41,7 +41,8 @@ oldReading t =
     (pairAnswer (pairOf binary32 (exactNumber (number t)))))
 
 -- ---- R8.17: carrying over
--- the answer: 5, the old one has not its 21 words or the new one not a total's; 6, the old one is unfit. What the new one held is not asked.
+-- the answer: 5, the old one has not its 21 words or the new one not a total's; 6, the old one is unfit. What the new one held is not
+-- asked.
 unfoldable pub carrying : List ℕ → List ℕ → Answer (Unit {0})
 carrying old new =
     cond (not (eqb (length old) oldSize)) (refused 5)

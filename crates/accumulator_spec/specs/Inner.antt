@@ -15,8 +15,8 @@ abbrev pub afterTerm : List ℕ → Bool → ℕ → ℕ → List ℕ
 afterTerm ws minus sig exp = wordsOfInteger (length ws) (integer ws +ℤ int minus (sig * 2 ^ exp))
 
 -- R6.4: the words after a walk that adds ±n to the natural number that they hold; what goes beyond the last word is lost
-abbrev pub carried : List ℕ → Bool → ℕ → List ℕ
-carried ws minus n = wordsOfInteger (length ws) (pos (natural ws) +ℤ int minus n)
+abbrev pub afterWalk : List ℕ → Bool → ℕ → List ℕ
+afterWalk ws minus n = wordsOfInteger (length ws) (pos (natural ws) +ℤ int minus n)
 
 -- The digits sig * 2 ^ exp stand for N: they are N itself, or 33 or more leading digits of it, the last one set to 1 since others follow.
 abbrev pub Leading : ℕ → ℕ → ℕ → Type 0

@@ -1,4 +1,5 @@
--- What holds of joining: that the definitions mean what is asked (R6.9, R6.10, R8.16). Theorems.antt has these statements in its `All`.
+-- What holds of joining: that the definitions mean what is asked (R6.9 to R6.11, R6.14, R8.16). Theorems.antt has these statements in its
+-- `All`.
 use Prim.Native.Nat.{ℕ, _+_, _^_, _≤_, _<_}
 use mathlib.Core.Path.{_≡_}
 use mathlib.Core.Logic.{_≢_, _↔_}
@@ -32,7 +33,7 @@ AcceptedJoin =
     → (joining f s ≡ done tt → FitTotal f × FitTotal s × (count f + count s ≤ mostTerms))
     × (FitTotal f → FitTotal s → count f + count s ≤ mostTerms → joining f s ≡ done tt)
 
--- R6.9: a joined total is fit, and holds the exact sum of both numbers and of both counts; its sign word is 0 exactly where both are
+-- R6.9, R6.11: a joined total is fit, and holds the exact sum of both numbers and of both counts; its sign word is 0 exactly where both are
 abbrev pub ExactJoin : Type 0
 ExactJoin =
     (f s : List ℕ) → joining f s ≡ done tt
@@ -46,7 +47,8 @@ abbrev pub RefusedJoin : Type 0
 RefusedJoin = (f s : List ℕ) (n : ℕ) → joining f s ≡ refused n → afterJoining f s ≡ f
 
 -- ---- what the contracts' relations say, with an answer of any type that has a `refusal` for each number and `carriedOut`
--- R8.16, R8.1: the refusals in their order, which leave the first's words; else a fit total with the sums of both
+-- R8.16, R8.1: the refusals in their order, which leave the first's words; else a fit total with the sums of both, and 0 as the sign
+-- word exactly where both have it (R6.11)
 abbrev pub JoinedAs : {A : Type 0} → (ℕ → A) → A → List ℕ → List ℕ → A → List ℕ → Type 0
 JoinedAs refusal carriedOut first second answer after =
     (length first ≢ totalSize → (answer ≡ refusal 5) × (after ≡ first))
@@ -83,7 +85,8 @@ BuiltBy =
     × ((new : List ℕ) (xs : List Term) → AllFinite xs → carrying (oldColumn xs) new ≡ done tt
     → Built (afterCarrying (oldColumn xs) new) (carriedTerms xs))
 
--- However it was built, its words are those of one column of all its terms, in any order, each of which that column accepts.
+-- However it was built, its words are those of one column of all the terms that it stands for, in any order, each of which that column
+-- accepts.
 abbrev pub BuiltIsColumn : Type 0
 BuiltIsColumn =
     (t : List ℕ) (xs zs : List Term) → Built t xs → Perm xs zs

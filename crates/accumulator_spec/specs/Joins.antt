@@ -1,4 +1,4 @@
--- Joining two totals (R6.9, R8.16), and totals that were built by adding, joining and carrying over (R6.10, R6.14).
+-- Joining two totals (R6.9, R6.11, R8.16), and totals that were built by adding, joining and carrying over (R6.10, R6.14).
 use Prim.Native.Nat.{ℕ, _+_}
 use mathlib.Core.Path.{_≡_}
 use mathlib.Core.Bool.{Bool, not, cond}
@@ -45,7 +45,7 @@ abbrev pub JoinsNumbered : List ℕ → List ℕ → ℕ → List ℕ → Type 0
 JoinsNumbered first second n after = (n ≡ refusalOf (joining first second)) × (after ≡ afterJoining first second)
 
 -- ---- R6.10, R6.14: totals built from cleared ones by adding and joining, old ones that are carried over among them
--- The words, and the terms of the steps that led to them. A refused step changes no word, so that it is none.
+-- The words, and the terms that they stand for. A refused step changes no word, so that it is none.
 pub data Built : List ℕ → List Term → Type 0 where
   fromCleared : Built zeros []
   byAdding : {t : List ℕ} {xs : List Term} (x : Term) → Built t xs → adding t x ≡ done tt → Built (afterAdding t x) (xs ++ (x ∷ []))

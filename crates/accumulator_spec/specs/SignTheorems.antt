@@ -1,6 +1,6 @@
 -- What holds of the sign word (R6.8, R6.11, R6.12), and of old totals that are carried over (R6.13, R6.14, R8.17). Theorems.antt has these
 -- statements in its `All`.
-use Prim.Native.Nat.{ℕ, _+_, _^_, _≤_, _<_}
+use Prim.Native.Nat.{ℕ, _*_, _^_, _≤_, _<_}
 use mathlib.Core.Path.{_≡_}
 use mathlib.Core.Logic.{_≢_, _↔_}
 use mathlib.Core.Bool.{Bool, true, false, _&&_, _||_}
@@ -8,7 +8,7 @@ use mathlib.Core.List.{List, [], _∷_, _++_}
 use lib.Dec.{eqb}
 use lib.Ieee.{unlike}
 use lib.ListN.{length, take, replicate}
-use lib.IntN.{pos}
+use lib.IntN.{pos, natAbs}
 use Rattle.rounding_spec.specs.Format.{binary32}
 use Rattle.rounding_spec.specs.Value.{finite, decode}
 use Rattle.pattern_spec.specs.Answer.{Answer, refused, done}
@@ -19,7 +19,8 @@ use Rattle.accumulator_spec.specs.Totals.{pairRead, exactNumber, pairAns
 use Rattle.accumulator_spec.specs.Columns.{column, AllFinite, AllMinusZero}
 use Rattle.accumulator_spec.specs.Carrying.{oldSize, oldColumn, FitOld, oldReading, carrying, afterCarrying, Carries, CarriesNumbered}
 use Rattle.accumulator_spec.specs.Carrying.{carriedTerms}
-use Rattle.accumulator_spec.specs.Joins.{afterJoining}
+use Rattle.accumulator_spec.specs.Joins.{afterJoining, Built}
+use Rattle.accumulator_spec.specs.Words.{Words}
 
 -- ---- the sign word (R6.11)
 -- 0 exactly where both are 0, and else 1
@@ -35,6 +36,10 @@ abbrev pub ProductMinusZero : Type 0
 ProductMinusZero =
     (x y : ℕ) (s t : Bool) (a b : ℕ) → decode binary32 x ≡ finite s a → decode binary32 y ≡ finite t b
     → isMinusZero (exactTerm (ofProduct x y)) ≡ (unlike s t && (eqb a 0 || eqb b 0))
+
+-- R6.3: count and magnitude, both bounds inclusive, of a total as of an old one
+abbrev pub WithinIs : Type 0
+WithinIs = (t : List ℕ) → (withinLimits t ≡ true) ↔ ((count t ≤ mostTerms) × (natAbs (number t) ≤ count t * 2 ^ 554))
 
 -- R6.12: the three kinds of total that it makes unfit
 abbrev pub UnfitSigns : Type 0
@@ -68,7 +73,7 @@ CarryingRefused =
     × (length old ≡ oldSize → length new ≡ totalSize → withinLimits old ≡ false → carrying old new ≡ refused 6)
 
 -- what the contracts' relations say, with an answer of any type that has a `refusal` for each number and `carriedOut`: the refusals, which
--- leave the new one's words; else a fit total with the old one's number, count and words, and a sign word by the count
+-- leave the new one's words; else a fit total with the old one's words, number and count, and a sign word by the count
 abbrev pub CarriedAs : {A : Type 0} → (ℕ → A) → A → List ℕ → List ℕ → A → List ℕ → Type 0
 CarriedAs refusal carriedOut old new answer after =
     (length old ≢ oldSize → (answer ≡ refusal 5) × (after ≡ new))
@@ -78,6 +83,7 @@ CarriedAs refusal carriedOut old new answer after =
     × (withinLimits old ≡ true
     → (answer ≡ carriedOut)
     × (take oldSize after ≡ old) × (length after ≡ totalSize)
+    × (Words old → FitTotal after × (number after ≡ number old) × (count after ≡ count old))
     × (count old ≡ 0 → signWord after ≡ 0)
     × (count old ≢ 0 → signWord after ≡ 1)))
 
@@ -109,6 +115,10 @@ CarriedFit =
 abbrev pub OldColumnIs : Type 0
 OldColumnIs = (xs : List Term) → length xs ≤ mostTerms → AllFinite xs → take oldSize (column zeros xs) ≡ oldColumn xs
 
+-- so has one that was built from these terms by adding and joining (R6.10)
+abbrev pub OldBuiltIs : Type 0
+OldBuiltIs = (t : List ℕ) (xs : List Term) → Built t xs → take oldSize t ≡ oldColumn xs
+
 -- all of them -0: as if the first had been +0; else its own terms
 abbrev pub CarriedTermsAre : Type 0
 CarriedTermsAre =
@@ -129,8 +139,8 @@ CarriedColumn =
 abbrev pub zeroWith : ℕ → ℕ → List ℕ
 zeroWith n w = replicate numberSize 0 ++ (n ∷ w ∷ [])
 
--- -0, +0, -0 times 1 and times -1, +0 times -1, each to a cleared total; +0 to a column of -0; joins of all kinds; old totals without terms
--- and with one; readings
+-- -0, +0, -0 times 1 and times -1, +0 times -1, -1, each to a cleared total; +0 to a column of -0; joins of all kinds; old totals without
+-- terms and with one; readings
 abbrev pub SignLandmarks : Type 0
 SignLandmarks =
     (afterAdding zeros (ofPattern 0x8000_0000) ≡ zeroWith 1 0)
@@ -138,11 +148,13 @@ SignLandmarks =
     × (afterAdding zeros (ofProduct 0x8000_0000 0x3f80_0000) ≡ zeroWith 1 0)
     × (afterAdding zeros (ofProduct 0x8000_0000 0xbf80_0000) ≡ zeroWith 1 1)
     × (afterAdding zeros (ofProduct 0 0xbf80_0000) ≡ zeroWith 1 0)
+    × (signWord (afterAdding zeros (ofPattern 0xbf80_0000)) ≡ 1)
     × (afterAdding (zeroWith 7 0) (ofPattern 0) ≡ zeroWith 8 1)
     × (afterAdding (zeroWith 7 1) (ofPattern 0x8000_0000) ≡ zeroWith 8 1)
     × (afterJoining (zeroWith 2 0) (zeroWith 3 0) ≡ zeroWith 5 0)
     × (afterJoining (zeroWith 2 0) (zeroWith 3 1) ≡ zeroWith 5 1)
     × (afterJoining (zeroWith 2 1) (zeroWith 3 0) ≡ zeroWith 5 1)
+    × (afterJoining (zeroWith 2 1) (zeroWith 3 1) ≡ zeroWith 5 1)
     × (afterCarrying (replicate 21 0) (replicate 22 7) ≡ zeros)
     × (afterCarrying (replicate 20 0 ++ (1 ∷ [])) (replicate 22 7) ≡ zeroWith 1 1)
     × (reading (zeroWith 1 0) ≡ pairRead 0x8000_0000 0x8000_0000)

@@ -25,9 +25,9 @@ use Rattle.accumulator_spec.specs.Carrying.{oldSize}
 use Rattle.accumulator_spec.specs.JoinTheorems.{JoiningRefused, AcceptedJoin, ExactJoin, RefusedJoin, JoinsMeans, JoinsNumberedMeans}
 use Rattle.accumulator_spec.specs.JoinTheorems.{BuiltBy, BuiltIsColumn, JoinedIsColumn, ColumnsJoin, ColumnBuilt, EmptyJoins}
 use Rattle.accumulator_spec.specs.JoinTheorems.{JoinLandmarks}
-use Rattle.accumulator_spec.specs.SignTheorems.{SignOfBothIs, PatternMinusZero, ProductMinusZero, UnfitSigns, ColumnSignIs}
+use Rattle.accumulator_spec.specs.SignTheorems.{SignOfBothIs, PatternMinusZero, ProductMinusZero, WithinIs, UnfitSigns, ColumnSignIs}
 use Rattle.accumulator_spec.specs.SignTheorems.{ColumnMinusZero, CarryingRefused, CarriesMeans, CarriesNumberedMeans, OldReads}
-use Rattle.accumulator_spec.specs.SignTheorems.{CarriedFit, OldColumnIs, CarriedTermsAre, CarriedColumn, SignLandmarks}
+use Rattle.accumulator_spec.specs.SignTheorems.{CarriedFit, OldColumnIs, OldBuiltIs, CarriedTermsAre, CarriedColumn, SignLandmarks}
 
 -- ---- words, however many (R6.1)
 -- word i counts 2 ^ (32 i); the words of -(n + 1) are the complements of n's
@@ -143,7 +143,8 @@ AcceptedTerm =
     → (adding t x ≡ done tt → FitTotal t × (finiteOperands x ≡ true) × (count t < mostTerms))
     × (FitTotal t → finiteOperands x ≡ true → count t < mostTerms → adding t x ≡ done tt)
 
--- an accepted term: the total is fit again, holds the exact sum, one term more, and 0 as the sign word where it did and the term is -0
+-- an accepted term: the total is fit again, holds the exact sum, one term more, and 0 as the sign word exactly where it did and the term
+-- is -0 (R6.11)
 abbrev pub ExactAdding : Type 0
 ExactAdding =
     (t : List ℕ) (x : Term) → Words t → adding t x ≡ done tt
@@ -175,7 +176,7 @@ ClearsMeans =
     (before after : List ℕ) (answer : Answer (Unit {0})) → Clears before answer after → ClearedAs refused (done tt) before answer after
 
 -- R8.7, R8.1: the four refusals in their order, which leave the words; else a fit total, whose number is the exact sum, one term more, and
--- 0 as the sign word where it was 0 and the term is -0 (R6.11)
+-- 0 as the sign word exactly where it was 0 and the term is -0 (R6.11)
 abbrev pub AddedAs : {A : Type 0} → (ℕ → A) → A → List ℕ → Term → A → List ℕ → Type 0
 AddedAs refusal carriedOut before x answer after =
     (length before ≢ totalSize → (answer ≡ refusal 5) × (after ≡ before))
@@ -251,7 +252,7 @@ ReadFit =
     × ((signWord t ≡ 1) ⊎ (count t ≡ 0) → reading t ≡ pairAnswer (pairOf binary32 (exactNumber (number t))))
     × (signWord t ≡ 0 → 0 < count t → reading t ≡ pairAnswer (pairOf binary32 (finite true 0)))
 
--- so that a column reads the pair of its exact sum
+-- so that a column reads the pair of its exact sum, or of -0 where it has terms and all are -0
 abbrev pub ReadColumn : Type 0
 ReadColumn =
     (xs : List Term) → length xs ≤ mostTerms → AllFinite xs
@@ -311,5 +312,6 @@ All =
     × AcceptedEach × AllFiniteIs × ExactColumn × AnyOrder × ReadingRefused × ReadFit × ReadColumn × ExactBack × ReadFinite × ReadOverflow
     × ReadZero × ReadRoundedToZero × ReadSum × ReadProduct × JoiningRefused × AcceptedJoin × ExactJoin × RefusedJoin × JoinsMeans
     × JoinsNumberedMeans × BuiltBy × BuiltIsColumn × JoinedIsColumn × ColumnsJoin × ColumnBuilt × EmptyJoins × JoinLandmarks
-    × SignOfBothIs × PatternMinusZero × ProductMinusZero × UnfitSigns × ColumnSignIs × ColumnMinusZero × CarryingRefused × CarriesMeans
-    × CarriesNumberedMeans × OldReads × CarriedFit × OldColumnIs × CarriedTermsAre × CarriedColumn × SignLandmarks
+    × SignOfBothIs × PatternMinusZero × ProductMinusZero × WithinIs × UnfitSigns × ColumnSignIs × ColumnMinusZero × CarryingRefused
+    × CarriesMeans × CarriesNumberedMeans × OldReads × CarriedFit × OldColumnIs × OldBuiltIs × CarriedTermsAre × CarriedColumn
+    × SignLandmarks

@@ -36,7 +36,7 @@ number t = integer (take numberSize t)
 abbrev pub count : List ℕ → ℕ
 count t = getD t numberSize 0
 
--- R6.1, R6.11: what the sign of a zero total goes by, in the last word: 0 while every term so far has been -0, 1 otherwise; 0 without terms
+-- R6.1, R6.11: what the sign of a zero total goes by, in the last word: 0 as long as no term but -0 was added, else 1
 abbrev pub signWord : List ℕ → ℕ
 signWord t = getD t (numberSize + 1) 0
 
@@ -91,7 +91,7 @@ isMinusZero nan = false
 isMinusZero (infinite s) = false
 isMinusZero (finite s a) = s && eqb a 0
 
--- R6.11: the sign word of a term alone; a product has the sign of its factors' signs
+-- R6.11: the sign word of a term alone; a product is minus where its factors' signs differ
 abbrev pub termSign : Term → ℕ
 termSign x = cond (isMinusZero (exactTerm x)) 0 1
 

@@ -1,6 +1,6 @@
 -- What is wrong with lent words, by its number.
 use mathlib.Core.Path.{_≡_, refl, sym, _∙_}
-use mathlib.Core.Bool.{Bool, true, false}
+use mathlib.Core.Bool.{Bool, true, false, cond}
 use mathlib.Core.Logic.{inl, inr}
 use mathlib.Core.List.{List}
 use Prim.Native.Nat.{ℕ, _<_}
@@ -50,6 +50,12 @@ module _ (t : List ℕ) where
         | inl k ↦ eight (h, k) (rw (n, eq-eqb (count t) mostTerms k))
         | inr k ↦ none (h, k) (rw (n, ne-eqb (count t) mostTerms (λ e. absurd (omega arith))))
       ])
+
+  pub fault-first : (fault t ≡ 0 → ⊥) → fault t ≡ faultToAdd t
+  fault-first h = rw (ne-eqb (fault t) 0 h)
+
+  pub fault-none : fault t ≡ 0 → cond (eqb (count t) mostTerms) 8 0 ≡ faultToAdd t
+  fault-none h = rw (eq-eqb (fault t) 0 h)
 
   pub takes-term : (n : ℕ) → n ≡ faultToAdd t → n ≡ 0 → Takes
   takes-term n is z =

@@ -8,7 +8,7 @@ use lib.IntN.{ℤ, _+ℤ_}
 use lib.ListN.{length, take, drop}
 use Rattle.pattern_spec.specs.Exact.{int}
 use Rattle.accumulator_spec.specs.Words.{allZero, integer, wordsOfInteger}
-use Rattle.accumulator_spec.specs.Inner.{carried}
+use Rattle.accumulator_spec.specs.Inner.{afterWalk}
 use Rattle.accumulator_spec.specs.Totals.{totalSize, mostTerms, count, fit}
 use Rattle.accumulator_words.specs.declared.Placed.{Placed}
 
@@ -25,7 +25,7 @@ afterPlaced ws term = wordsOfInteger (length ws) (integer ws +ℤ placedInteger 
 abbrev pub TwoWordsAdded : List ℕ → Bool → ℕ → ℕ → List ℕ → Type 0
 TwoWordsAdded before minus low carry after =
     (length after ≡ length before) × (carry ≤ 1)
-    × ((high : ℕ) → take 2 after ++ carried (drop 2 after) minus (high + carry) ≡ carried before minus (low + 2 ^ 64 * high))
+    × ((high : ℕ) → take 2 after ++ afterWalk (drop 2 after) minus (high + carry) ≡ afterWalk before minus (low + 2 ^ 64 * high))
 
 -- the number of what is wrong with lent words, whatever the call: 0 for a fit total (R8.7, R8.8, R8.16)
 abbrev pub fault : List ℕ → ℕ

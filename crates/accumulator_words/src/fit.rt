@@ -1,9 +1,9 @@
-// Whether lent words are a fit total (R6.3, R6.12), and one that takes a term: the top words tell, but at the limit itself.
+// Whether lent words are a fit total (R6.3, R6.12), and one that takes a term: of the number the top words tell, but at the limit itself,
+// and where the sign word asks for 0.
 use crate::is_zero;
 use crate::wide;
 use accumulator_spec::MOST_TERMS;
 use accumulator_spec::NUMBER_SIZE;
-use accumulator_spec::OLD_SIZE;
 use accumulator_spec::SIGN_WORD;
 use accumulator_spec::TOTAL_SIZE;
 use choose::choose_pattern;
@@ -11,10 +11,8 @@ ghost use mathlib.Core.Path.{_≡_};
 ghost use mathlib.Core.Bool.{true, cond};
 ghost use Prim.Native.Nat.{_<_};
 ghost use lib.ListN.{length};
-ghost use Rattle.pattern_spec.specs.Answer.{refusalOf};
 ghost use Rattle.accumulator_spec.specs.Words.{complement};
 ghost use Rattle.accumulator_spec.specs.Totals.{numberSize, totalSize, signWord, withinLimits, signFits, fit};
-ghost use Rattle.accumulator_spec.specs.Carrying.{carrying};
 ghost use Rattle.accumulator_words.specs.Inner.{fault, faultToAdd, belowLimit};
 
 // The top three words of the number: the limit counts the weight of the third.
@@ -41,34 +39,16 @@ pub fn refusal(total: &[u32]) -> u32
 pub fn refusal_to_add(total: &[u32]) -> u32
     ensures { λ r. ⌜ r ≡ faultToAdd (now (total .entry)) ⌝ }
 {
-    if total.len() != TOTAL_SIZE {
-        return 5;
-    }
-    if !is_fit(total) {
-        return 6;
+    let wrong = refusal(total);
+    if wrong != 0 {
+        return wrong;
     }
     choose_pattern(total[NUMBER_SIZE] == MOST_TERMS, 8, 0)
 }
 
-// Of a total that is to be carried over into lent words, whatever these hold: 5, 6 or 0 (R8.17).
-pub fn refusal_to_carry(old: &[u32], new: &[u32]) -> u32
-    ensures { λ r. ⌜ r ≡ refusalOf (carrying (now (old .entry)) (now (new .entry))) ⌝ }
-{
-    if old.len() != OLD_SIZE {
-        return 5;
-    }
-    if new.len() != TOTAL_SIZE {
-        return 5;
-    }
-    if !within_limits(old) {
-        return 6;
-    }
-    0
-}
-
-// Nothing is to be refused, and the sign word is 1: told by length, count and top words, of which nearly every total's top two have nothing
-// but the sign, all zeros or all ones. False leaves it open: where the total is empty, full, at its limit or unfit, or its terms have been
-// -0.
+// Nothing is to be refused, and the sign word is 1: told by length, count, sign word and top words, of which nearly every total's top two
+// have nothing but the sign, all zeros or all ones. False leaves it open: where the total is empty, full, at its limit or unfit, or its
+// terms have been -0.
 pub fn has_room(total: &[u32]) -> bool
     ensures { λ r. ⌜ (r ≡ true → (faultToAdd (now (total .entry)) ≡ 0) × (signWord (now (total .entry)) ≡ 1)) ⌝ }
 {
@@ -115,7 +95,7 @@ fn sign_fits(total: &[u32]) -> bool
 
 // Of a total or of an old one. The limit is count * 1024 times the weight of the third. A negative number is below it where its complement,
 // which is smaller by one, is: no negation, so that -2^639 needs no care.
-fn within_limits(total: &[u32]) -> bool
+pub fn within_limits(total: &[u32]) -> bool
     requires { ⌜ numberSize < length (now total) ⌝ }
     ensures { λ r. ⌜ r ≡ withinLimits (now (total .entry)) ⌝ }
 {

@@ -1,5 +1,6 @@
 // Words of 32 bits, lowest first: a term goes into the number that they hold; whether they are all zero; whether they are a fit total.
 pub mod fit;
+pub mod old;
 
 use choose::choose;
 use choose::choose_pattern;
@@ -7,7 +8,7 @@ ghost use mathlib.Core.Path.{_≡_};
 ghost use Prim.Native.Nat.{_+_, _*_, _^_, _≤_, _<_};
 ghost use lib.ListN.{length};
 ghost use Rattle.accumulator_spec.specs.Words.{allZero};
-ghost use Rattle.accumulator_spec.specs.Inner.{carried};
+ghost use Rattle.accumulator_spec.specs.Inner.{afterWalk};
 ghost use Rattle.accumulator_words.specs.Inner.{afterPlaced, TwoWordsAdded};
 
 // A term and where it goes in the words of a number: ±sig * 2^shift from `word` on. All that the walk over the words asks of a term (R6.4).
@@ -52,7 +53,7 @@ pub fn add_short(number: &mut [u32], term: Placed)
 // Taking away is adding to the complements, so that nothing jumps by the sign.
 fn walk(words: &mut [u32], minus: bool, sig: u64, shift: u16)
     requires { ⌜ (3 ≤ length (now words)) × (shift < 32) ⌝ }
-    ensures { λ _. ⌜ now (words .exit) ≡ carried (now (words .entry)) minus (sig * 2 ^ shift) ⌝ }
+    ensures { λ _. ⌜ now (words .exit) ≡ afterWalk (now (words .entry)) minus (sig * 2 ^ shift) ⌝ }
 {
     let carry = add_two_words(words, minus, sig << shift);
     // The digits that the shift moves beyond 64. Halved first: without a shift this would be one by 64.
@@ -63,7 +64,7 @@ fn walk(words: &mut [u32], minus: bool, sig: u64, shift: u16)
 // The same over two words and seldom more.
 fn walk_short(words: &mut [u32], minus: bool, sig: u64, shift: u16)
     requires { ⌜ (2 ≤ length (now words)) × (shift < 32) × (sig < 2 ^ 32) ⌝ }
-    ensures { λ _. ⌜ now (words .exit) ≡ carried (now (words .entry)) minus (sig * 2 ^ shift) ⌝ }
+    ensures { λ _. ⌜ now (words .exit) ≡ afterWalk (now (words .entry)) minus (sig * 2 ^ shift) ⌝ }
 {
     let carry = add_two_words(words, minus, sig << shift);
     if carry != 0 {
@@ -88,7 +89,7 @@ fn add_two_words(words: &mut [u32], minus: bool, low: u64) -> u64
 // Adds to the lowest word, or takes away, and seldom carries on.
 fn add_word(words: &mut [u32], minus: bool, n: u64)
     requires { ⌜ (1 ≤ length (now words)) × (n < 2 ^ 32) ⌝ }
-    ensures { λ _. ⌜ now (words .exit) ≡ carried (now (words .entry)) minus n ⌝ }
+    ensures { λ _. ⌜ now (words .exit) ≡ afterWalk (now (words .entry)) minus n ⌝ }
 {
     let mask = choose_pattern(minus, 0xffff_ffff, 0);
     let sum = wide(words[0] ^ mask) + n;
@@ -100,7 +101,7 @@ fn add_word(words: &mut [u32], minus: bool, n: u64)
 
 // Adds 1, or takes it away: word by word, for as long as it is carried on.
 fn add_one(words: &mut [u32], minus: bool)
-    ensures { λ _. ⌜ now (words .exit) ≡ carried (now (words .entry)) minus 1 ⌝ }
+    ensures { λ _. ⌜ now (words .exit) ≡ afterWalk (now (words .entry)) minus 1 ⌝ }
 {
     let mask = choose_pattern(minus, 0xffff_ffff, 0);
     let mut i: usize = 0;

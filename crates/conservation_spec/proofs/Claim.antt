@@ -1,6 +1,6 @@
 -- The claim about every list, and that a question enters exactly under its three conditions.
 use mathlib.Core.Path.{_≡_, refl, sym, ap, ap₂, _∙_, subst}
-use mathlib.Core.Logic.{inr}
+use mathlib.Core.Logic.{_⊎_, inl, inr}
 use mathlib.Core.Bool.{true≢false, Bool, true, false, not, cond}
 use mathlib.Core.List.{List, [], _∷_}
 use Prim.Native.Nat.{ℕ, _+_, _*_, _≤_, _<_}
@@ -21,7 +21,7 @@ use Rattle.pattern_spec.specs.Classes.{bothFinite}
 use Rattle.worksheet_spec.specs.Lines.{sheetSize}
 use Rattle.worksheet_spec.specs.Filling.{sheetAnswer, filling}
 use Rattle.accumulator_spec.specs.Words.{wordsOfInteger}
-use Rattle.accumulator_spec.specs.Totals.{numberSize, totalSize, number, totalOf, signOfBoth, exactNumber, exactTotal, pairAnswer, reading}
+use Rattle.accumulator_spec.specs.Totals.{numberSize, totalSize, number, totalOf, signOfBoth, pairRead, exactNumber, exactTotal, pairAnswer, reading}
 use Rattle.accumulator_spec.proofs.Held.{words-full, total-number, total-count, total-sign}
 use Rattle.accumulator_spec.proofs.Adding.{Fits, held, total-fit}
 use Rattle.accumulator_spec.proofs.Answers.{clearing-done}
@@ -77,6 +77,11 @@ other-some s p =
       | no n ↦ ne-eqb (2 * s + p) 0 (λ (e : 2 * s + p ≡ 0). n (omega arith)) ∙ sym (ne-eqb (s + p) 0 n)
     ]
 
+-- +0 twice
+as-plus : (z : ℤ) (n w : ℕ) → (w ≡ 1) ⊎ (n ≡ 0) → z ≡ pos 0 → pairAnswer (pairOf binary32 (exactTotal z n w)) ≡ pairRead 0 0
+as-plus z n w h e =
+    ap (λ (v : Value). pairAnswer (pairOf binary32 v)) (exact-number z n w h) ∙ ap (λ (y : ℤ). pairAnswer (pairOf binary32 (exactNumber y))) e ∙ plus-read
+
 holds : (es : List Event) → Fits (book es) (firstTerms es) (bookSign es) → Fits (book es) (otherTerms es) (bookSign es)
     → BothHold (holding (book es) (bookSign es) (firstTerms es) (otherTerms es)) es
 holds es f o =
@@ -101,8 +106,8 @@ holds es f o =
       otherRead = other;
       minusRead = λ (e : z ≡ pos 0) (g : w ≡ 0) (h : 0 < s + p).
           let m = ap (λ (v : Value). pairAnswer (pairOf binary32 v)) (exact-minus z (s + p) w g h) ∙ minus-read in (first ∙ m, other ∙ m);
-      plusRead = λ (e : z ≡ pos 0) (g : w ≡ 0) (h : s + p ≡ 0).
-          let m = ap (λ (v : Value). pairAnswer (pairOf binary32 v)) (exact-number z (s + p) w (inr h)) ∙ ap (λ (y : ℤ). pairAnswer (pairOf binary32 (exactNumber y))) e ∙ plus-read in (first ∙ m, other ∙ m);
+      emptyRead = λ (e : z ≡ pos 0) (g : w ≡ 0) (h : s + p ≡ 0). let m = as-plus z (s + p) w (inr h) e in (first ∙ m, other ∙ m);
+      plusRead = λ (e : z ≡ pos 0) (g : w ≡ 1). let m = as-plus z (s + p) w (inl g) e in (first ∙ m, other ∙ m);
     }
 
 -- ---- the claim

@@ -23,7 +23,7 @@ use Rattle.conservation_spec.specs.Claim.{MetNow, Met}
 use Rattle.conservation_spec.specs.Theorems.{AllowedNow, Allowed}
 use Rattle.conservation_spec.proofs.Entering.{entering}
 use Rattle.conservation_spec.proofs.Allowed.{asks-only, adds-only}
-use Rattle.conservation_spec.proofs.Book.{book-sign-le}
+use Rattle.conservation_spec.proofs.Book.{book-sign-le, sign-asks}
 
 -- two totals that hold z with the sign word w, and m and n terms
 abbrev pub holding : ℤ → ℕ → ℕ → ℕ → Totals
@@ -155,7 +155,8 @@ module _ (z : ℤ) (w m n : ℕ) (es : List Event) (fits : Fits z m w) (fits' : 
   unfolding book bookSign enteringSums enteringProducts
   outside-step q e =
       let u : afterEvent (holding z w m n) (asks q) ≡ holding z w m n = rw e in
-      idle z w m n (asks q) es fits fits' u (λ (f : enters q ≡ true). absurd (true≢false (sym f ∙ e)), λ (f : enters q ≡ false). u) (rw e) (rw e) (rw e (omega arith)) (rw e (omega arith))
+      idle z w m n (asks q) es fits fits' u (λ (f : enters q ≡ true). absurd (true≢false (sym f ∙ e)), λ (f : enters q ≡ false). u) (rw e) (sign-asks q es ∙ rw e) (rw e (omega arith))
+      (rw e (omega arith))
 
   entering-step : (q : Posed) → q .y < 2 ^ 32 → enters q ≡ true → m + 2 ≤ mostTerms → n + 2 ≤ mostTerms
       → Step z (exactOfPatterns (operationFor q) (q .x) (q .y)) w (signOfPatterns (operationFor q) (q .x) (q .y)) m n (2 * (oneSum (operationFor q) + oneProduct (operationFor q)))
@@ -178,7 +179,7 @@ module _ (z : ℤ) (w m n : ℕ) (es : List Event) (fits : Fits z m w) (fits' : 
         leaves = rw (e, f, g);
         metNow = (λ (t : enters q ≡ true). (a .accepted, b .accepted), λ (t : enters q ≡ false). absurd (true≢false (sym e ∙ t)));
         booked = rw e;
-        signed = rw e;
+        signed = sign-asks q es ∙ rw e;
         firstMore = rw e (omega arith);
         otherMore = rw e (omega arith);
         firstRoom = rw (← k .footAdds, ← k .footCount, ← k .footSign) (a .fits);

@@ -23,6 +23,7 @@ use Rattle.accumulator_spec.specs.Columns.{AllFinite, columnSum, columnSign}
 use Rattle.accumulator_spec.proofs.Landmarks.{pattern-term}
 use Rattle.conservation_spec.specs.Lists.{Posed, sheetFor, operationFor, directFor, pairEnters, enters, footTerms, setTerms}
 use Rattle.conservation_spec.specs.Lists.{exactOfPatterns, signOfPatterns, oneSum, oneProduct}
+use Rattle.conservation_spec.specs.Theorems.{EntersFinite}
 use Rattle.conservation_spec.proofs.Operands.{both, number-of, operands, result-is, terms-sum, terms-finite}
 use Rattle.conservation_spec.proofs.Signs.{set-sign, foot-sign}
 
@@ -105,6 +106,15 @@ set-count product x y = refl
 foot-is : (a : Answer FilledSheet) (p : Pair) → isDone a ≡ true → ((n : ℕ) (r : Pair) → a ≡ filled n r → r ≡ p) → footTerms a ≡ ofPattern (p .first) ∷ ofPattern (p .second) ∷ []
 foot-is (refused n) p e h = absurd (true≢false (sym e))
 foot-is (done s) p e h = ap (λ (z : Pair). footTerms (filled (s .lineCount) z)) (h (s .lineCount) (s .pair) refl)
+
+pub enters-finite : EntersFinite
+unfolding enters
+enters-finite q width e =
+    let p = both (isDone (sheetFor q)) (pairEnters (directFor q)) e in
+    let f = both (bothFinite (directFor q .first) (directFor q .second)) (not (directFor q .flags .inexact)) (p .1) in
+    let g = both (isFinite (decode binary32 (directFor q .first))) (isFinite (decode binary32 (directFor q .second))) (f .0) in
+    let m = operands (operationFor q) (q .x) (q .y) width (g .0) in
+    ap₂ _&&_ (ap isFinite (m .0 .is)) (ap isFinite (m .1 .is))
 
 pub entering : (q : Posed) → q .y < 2 ^ 32 → enters q ≡ true → Entering q
 unfolding enters

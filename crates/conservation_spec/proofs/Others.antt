@@ -1,14 +1,15 @@
 -- Readings and additions refused by 7, before, between and after any questions.
 use mathlib.Core.Path.{_≡_, refl, sym, ap, ap₂, _∙_, subst}
 use mathlib.Core.Logic.{inl}
-use mathlib.Core.Bool.{false, cond}
+use mathlib.Core.Bool.{false, cond, _&&_}
 use mathlib.Core.List.{List, [], _∷_, _++_, map}
 use Prim.Native.Nat.{ℕ, suc, _+_}
 use native.Mathlib.Nat.{le-trans, le-of-eq}
+use lib.Dec.{eqb}
 use lib.IntN.{ℤ, pos, _+ℤ_}
 use lib.ListN.{length}
 use Rattle.rounding_spec.specs.Value.{decode}
-use Rattle.accumulator_spec.specs.Totals.{Term, ofPattern, ofProduct, finiteOperands, signOfBoth}
+use Rattle.accumulator_spec.specs.Totals.{Term, ofPattern, ofProduct, finiteOperands}
 use Rattle.conservation_spec.specs.Lists.{Posed, operationFor, enters, exactOfPatterns, signOfPatterns, oneSum, oneProduct, Totals, Side, onFirst, onOther}
 use Rattle.conservation_spec.specs.Lists.{Event, asks, reads, adds, afterEvent, afterEvents, book, bookSign, questions, enteringSums, enteringProducts}
 use Rattle.conservation_spec.specs.Claim.{BothHold, Met}
@@ -93,7 +94,7 @@ among-products (q ∷ qs) = ap (λ (n : ℕ). cond (enters q) (oneProduct (opera
 among-sign : (qs : List Posed) → bookSign (withOtherCalls qs) ≡ bookSign (map asks qs)
 unfolding bookSign withOtherCalls
 among-sign [] = refl
-among-sign (q ∷ qs) = ap (signOfBoth (cond (enters q) (signOfPatterns (operationFor q) (q .x) (q .y)) 0)) (among-sign qs)
+among-sign (q ∷ qs) = ap (cond (enters q && eqb (signOfPatterns (operationFor q) (q .x) (q .y)) 1) 1) (among-sign qs)
 
 -- totals that hold the same S with the same sign word and the same counts
 held-alike : (t u : Totals) (es fs : List Event) → BothHold t es → BothHold u fs → book es ≡ book fs → bookSign es ≡ bookSign fs → enteringSums es ≡ enteringSums fs

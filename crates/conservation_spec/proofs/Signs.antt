@@ -110,6 +110,12 @@ exact-minus difference true a true b e = absurd (true≢false (sym e))
 exact-minus difference false a t b e = absurd (true≢false (sym e))
 exact-minus product s a t b e = sym (times-exact s a t b) ∙ ap (λ (r : Bool). int r (a * b)) e
 
+-- the exact result is 0 where all terms are -0
+pub exact-none : (o : Operation) (s : Bool) (a : ℕ) (t : Bool) (b : ℕ) → minusZeros o s a t b ≡ true → exactResult o binary32 (int s a) (int t b) ≡ pos 0
+exact-none o s a t b e =
+    let k = both (zeroSign o s t) (eqb (magnitude o a b) 0) (sym (minus-zeros o s a t b) ∙ e) in
+    exact-minus o s a t b (k .0) ∙ ap (int true) (eqb-true (magnitude o a b) 0 (k .1))
+
 no-magnitude : (r : Bool) (N : ℕ) → int r N ≡ pos 0 → N ≡ 0
 no-magnitude false N e = let z : N ≡ 0 = cc in z
 no-magnitude true zero e = refl
@@ -159,7 +165,7 @@ module _ (o : Operation) (x y : ℕ) (s : Bool) (a : ℕ) (t : Bool) (b : ℕ) (
   zeros-feet : minusZeros o s a t b ≡ true → q && eqb c 0 && (r && eqb d 0) ≡ true
   zeros-feet e =
       let k = both (zeroSign o s t) (eqb (magnitude o a b) 0) (sym (minus-zeros o s a t b) ∙ e) in
-      let z : E ≡ pos 0 = exact-minus o s a t b (k .0) ∙ ap (int true) (eqb-true (magnitude o a b) 0 (k .1)) in
+      let z : E ≡ pos 0 = exact-none o s a t b e in
       let f = first-zero z in
       let minus : q ≡ true = ap isMinus f ∙ k .0 in
       let none : c ≡ 0 = ap size f in

@@ -1,9 +1,11 @@
 -- The theorems of `specs/Theorems.antt`.
 use mathlib.Core.Path.{refl}
-use Rattle.conservation_spec.specs.Theorems.{QuestionLimit, Conserved, BookNext, BookSignNext, QuestionSign, MinusZeroList, MetEach, ReadEach, EntersExactly, AllowedNext, AmongOthers, FullWhen, EightLast}
+use Rattle.conservation_spec.specs.Theorems.{QuestionLimit, Conserved, BookNext, BookSignNext, EntersFinite, QuestionSign, BookOfMinusZeros, MinusZeroList}
+use Rattle.conservation_spec.specs.Theorems.{MetEach, ReadEach, EntersExactly, AllowedNext, AmongOthers, FullWhen, EightLast}
 use Rattle.conservation_spec.specs.Theorems.{OnesEnter, EightReached, ReplayConserves, ReplayRefused, ReplayUnchanged, ReplayQuestions, ReplayWords}
 use Rattle.conservation_spec.specs.Theorems.{ReplaysMeans, PartsJoined, All}
 use Rattle.conservation_spec.proofs.Book as books
+use Rattle.conservation_spec.proofs.Entering as entering
 use Rattle.conservation_spec.proofs.Allowed as allowed
 use Rattle.conservation_spec.proofs.Claim as claim
 use Rattle.conservation_spec.proofs.MinusZeros as minus-zeros
@@ -24,6 +26,12 @@ book-next = books.book-next
 
 pub book-sign-next : BookSignNext
 book-sign-next = books.book-sign-next
+
+pub enters-finite : EntersFinite
+enters-finite = entering.enters-finite
+
+pub book-of-minus-zeros : BookOfMinusZeros
+book-of-minus-zeros = books.book-of-minus-zeros
 
 pub question-sign : QuestionSign
 question-sign = books.question-sign
@@ -88,7 +96,9 @@ all = (
   conserved,
   book-next,
   book-sign-next,
+  enters-finite,
   question-sign,
+  book-of-minus-zeros,
   minus-zero-list,
   met-each,
   read-each,

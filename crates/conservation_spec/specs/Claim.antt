@@ -8,10 +8,12 @@ use lib.ListN.{take}
 use Rattle.pattern_spec.specs.Answer.{Answer, refused, done}
 use Rattle.rounding_spec.specs.Format.{binary32}
 use Rattle.augmented_spec.specs.Pairs.{pairOf}
-use Rattle.accumulator_spec.specs.Totals.{numberSize, number, count, signWord, totalOf, finiteOperands, adding, pairRead, pairAnswer, reading}
+use Rattle.accumulator_spec.specs.Totals.{numberSize, number, count, signWord, totalOf, finiteOperands, adding}
+use Rattle.accumulator_spec.specs.Totals.{pairRead, pairAnswer, reading}
 use Rattle.accumulator_spec.specs.Columns.{Accepted}
 use Rattle.conservation_spec.specs.Lists.{sheetFor, operationFor, enters, footTerms, setTerms, Totals, totalOn}
-use Rattle.conservation_spec.specs.Lists.{Event, asks, reads, adds, afterEvent, book, bookSign, enteringSums, enteringProducts, bookValue}
+use Rattle.conservation_spec.specs.Lists.{Event, asks, reads, adds, afterEvent}
+use Rattle.conservation_spec.specs.Lists.{book, bookSign, enteringSums, enteringProducts, bookValue}
 
 -- what the totals t hold and read, given S with its sign word, s and p
 pub record BothHold (t : Totals) (es : List Event) : Type 0 where
@@ -29,14 +31,16 @@ pub record BothHold (t : Totals) (es : List Event) : Type 0 where
   -- all their words
   pub firstWords : t .first ≡ totalOf (book es) (2 * (enteringSums es + enteringProducts es)) (bookSign es)
   pub otherWords : t .other ≡ totalOf (book es) (2 * enteringSums es + enteringProducts es) (bookSign es)
-  -- both read the same, as R6.5 to R6.8 have it for S
+  -- both read the same, as R6.5 to R6.8 have it for S with its sign word
   pub firstRead : reading (t .first) ≡ pairAnswer (pairOf binary32 (bookValue es))
   pub otherRead : reading (t .other) ≡ pairAnswer (pairOf binary32 (bookValue es))
-  -- where S and its sign word are 0: -0 twice if a question has entered, else +0 twice (R7.16)
+  -- where S and its sign word are 0: -0 twice after any entering question, +0 twice before the first (R7.16)
   pub minusRead : book es ≡ pos 0 → bookSign es ≡ 0 → 0 < enteringSums es + enteringProducts es
       → (reading (t .first) ≡ pairRead 0x8000_0000 0x8000_0000) × (reading (t .other) ≡ pairRead 0x8000_0000 0x8000_0000)
-  pub plusRead : book es ≡ pos 0 → bookSign es ≡ 0 → enteringSums es + enteringProducts es ≡ 0
+  pub emptyRead : book es ≡ pos 0 → bookSign es ≡ 0 → enteringSums es + enteringProducts es ≡ 0
       → (reading (t .first) ≡ pairRead 0 0) × (reading (t .other) ≡ pairRead 0 0)
+  -- and where S is 0 and its sign word is not, +0 twice
+  pub plusRead : book es ≡ pos 0 → bookSign es ≡ 1 → (reading (t .first) ≡ pairRead 0 0) × (reading (t .other) ≡ pairRead 0 0)
 
 -- How a call was met. All terms of an entering question were accepted (R7.13). Other adding calls answer 7 or 8, and nothing is changed by
 -- them, by a question that does not enter, or by a reading (R7.7, R7.11); what a reading answers is stated of the list before it, by

@@ -15,7 +15,7 @@ use Rattle.pattern_spec.specs.Exact.{whole}
 use Rattle.augmented_spec.specs.declared.Pair.{Pair}
 use Rattle.augmented_spec.specs.Direct.{Operation, sum, difference, product, directPair, exactResult, operationOf}
 use Rattle.worksheet_spec.specs.Filling.{FilledSheet, filling}
-use Rattle.accumulator_spec.specs.Totals.{Term, ofPattern, ofProduct, signOfBoth, afterAdding, exactTotal}
+use Rattle.accumulator_spec.specs.Totals.{Term, ofPattern, ofProduct, afterAdding, exactTotal}
 use Rattle.accumulator_spec.specs.Columns.{column}
 
 -- ---- questions
@@ -121,7 +121,7 @@ minusZeros sum s a t b = s && eqb a 0 && (t && eqb b 0)
 minusZeros difference s a t b = s && eqb a 0 && (not t && eqb b 0)
 minusZeros product s a t b = unlike s t && (eqb a 0 || eqb b 0)
 
--- a question's sign word; no question on other operands enters
+-- a question's sign word; no question on other operands enters (`EntersFinite` of Theorems)
 abbrev pub signOfValues : Operation → Value → Value → ℕ
 signOfValues o (finite s a) (finite t b) = cond (minusZeros o s a t b) 0 1
 signOfValues o (finite s a) (infinite t) = 1
@@ -132,10 +132,10 @@ signOfValues o nan w = 1
 abbrev pub signOfPatterns : Operation → ℕ → ℕ → ℕ
 signOfPatterns o x y = signOfValues o (decode binary32 x) (decode binary32 y)
 
--- it starts from 0, and becomes 1 with the first entering question whose own is
+-- it starts from 0, and is 1 from the first entering question on whose own is 1
 unfoldable pub bookSign : List Event → ℕ
 bookSign [] = 0
-bookSign (asks q ∷ es) = signOfBoth (cond (enters q) (signOfPatterns (operationFor q) (q .x) (q .y)) 0) (bookSign es)
+bookSign (asks q ∷ es) = cond (enters q && eqb (signOfPatterns (operationFor q) (q .x) (q .y)) 1) 1 (bookSign es)
 bookSign (reads side ∷ es) = bookSign es
 bookSign (adds side x ∷ es) = bookSign es
 

@@ -12,6 +12,7 @@ use Rattle.pattern_spec.specs.Answer.{Answer, refused, done}
 use Rattle.rounding_spec.specs.Format.{binary32}
 use Rattle.rounding_spec.specs.Value.{finite, decode, isFinite}
 use Rattle.pattern_spec.specs.Exact.{int}
+use Rattle.pattern_spec.specs.Classes.{bothFinite}
 use Rattle.augmented_spec.specs.Pairs.{pairOf}
 use Rattle.augmented_spec.specs.Direct.{exactResult, operationOf}
 use Rattle.worksheet_spec.specs.Lines.{sheetSize}
@@ -21,7 +22,8 @@ use Rattle.accumulator_spec.specs.Totals.{totalSize, mostTerms, zeros, count, a
 use Rattle.accumulator_spec.specs.Totals.{Term, ofPattern, ofProduct, finiteOperands, adding, pairRead, pairAnswer, reading}
 use Rattle.accumulator_spec.specs.Columns.{AllMinusZero}
 use Rattle.accumulator_spec.specs.Joins.{joining, afterJoining}
-use Rattle.conservation_spec.specs.Lists.{mostQuestions, Posed, sheetFor, operationFor, directFor, enters, footTerms, setTerms, Totals, Side, onFirst, onOther, totalOn}
+use Rattle.conservation_spec.specs.Lists.{mostQuestions, Posed, sheetFor, operationFor, directFor, enters, footTerms, setTerms}
+use Rattle.conservation_spec.specs.Lists.{Totals, Side, onFirst, onOther, totalOn}
 use Rattle.conservation_spec.specs.Lists.{Event, asks, reads, adds, afterEvent, afterEvents, questions}
 use Rattle.conservation_spec.specs.Lists.{book, minusZeros, signOfPatterns, bookSign, enteringSums, enteringProducts, bookValue}
 use Rattle.conservation_spec.specs.Claim.{BothHold, MetNow, Met}
@@ -61,8 +63,8 @@ BookNext =
     × ((es : List Event) (side : Side) → book (es ++ (reads side ∷ [])) ≡ book es)
     × ((es : List Event) (side : Side) (x : Term) → book (es ++ (adds side x ∷ [])) ≡ book es)
 
--- S's sign word (R7.16) is 0 at first, and 0 or 1. After an entering question of finite operands it is 0 where it was and all terms of the
--- question are -0; no other call changes it.
+-- S's sign word (R7.16) is 0 at first, and 0 or 1. After an entering question of finite operands it is 0 exactly where it was and all terms
+-- of the question are -0; no other call changes it.
 abbrev pub BookSignNext : Type 0
 BookSignNext =
     (bookSign [] ≡ 0) × ((es : List Event) → bookSign es ≤ 1)
@@ -73,11 +75,20 @@ BookSignNext =
     × ((es : List Event) (side : Side) → bookSign (es ++ (reads side ∷ [])) ≡ bookSign es)
     × ((es : List Event) (side : Side) (x : Term) → bookSign (es ++ (adds side x ∷ [])) ≡ bookSign es)
 
--- the sign word of an entering question is 0 exactly where its terms set are all -0, and exactly where the terms of its foot are
+-- an entering question has finite operands (R7.8)
+abbrev pub EntersFinite : Type 0
+EntersFinite = (q : Posed) → q .y < 2 ^ 32 → enters q ≡ true → bothFinite (q .x) (q .y) ≡ true
+
+-- R7.16: the sign word of an entering question is 0 exactly where all terms that it gives the other total are -0, and exactly where those
+-- of its foot are
 abbrev pub QuestionSign : Type 0
 QuestionSign =
     (q : Posed) → q .y < 2 ^ 32 → enters q ≡ true → let w = signOfPatterns (operationFor q) (q .x) (q .y) in
     (w ≡ 0 ↔ AllMinusZero (setTerms (operationFor q) (q .x) (q .y))) × (w ≡ 0 ↔ AllMinusZero (footTerms (sheetFor q)))
+
+-- R7.16: with the sign word 0, S is 0
+abbrev pub BookOfMinusZeros : Type 0
+BookOfMinusZeros = (es : List Event) → bookSign es ≡ 0 → book es ≡ pos 0
 
 -- -0 + -0, -0 - +0 and -0 * 1
 abbrev pub minusZeroQuestions : List ℕ → List Event
@@ -86,7 +97,7 @@ minusZeroQuestions words =
     ∷ asks (record { operation = 2; x = 0x8000_0000; y = 0; words = words })
     ∷ asks (record { operation = 3; x = 0x8000_0000; y = 0x3f80_0000; words = words }) ∷ []
 
--- all three enter, S and its sign word are 0 after them, and both totals read -0 twice
+-- R7.16: all three enter, S and its sign word are 0 after them, and both totals read -0 twice
 abbrev pub MinusZeroList : Type 0
 MinusZeroList =
     (a b words : List ℕ) → length a ≡ totalSize → length b ≡ totalSize → sheetSize ≤ length words
@@ -98,7 +109,7 @@ MinusZeroList =
 abbrev pub MetEach : Type 0
 MetEach = (t : Totals) (before after : List Event) (e : Event) → Met t (before ++ (e ∷ after)) → MetNow (afterEvents t before) e
 
--- each reading, on either total, answers what R6.5 to R6.8 give for S as the calls before it left it (R7.7)
+-- each reading, on either total, answers what R6.5 to R6.8 give for S with its sign word as the calls before it left it (R7.7, R7.16)
 abbrev pub ReadEach : Type 0
 ReadEach =
     (a b : List ℕ) (before after : List Event) (side : Side) → length a ≡ totalSize → length b ≡ totalSize
@@ -312,6 +323,6 @@ QuestionLimit = mostQuestions ≡ 32768
 -- ---- all of them
 abbrev pub All : Type 0
 All =
-    QuestionLimit × Conserved × BookNext × BookSignNext × QuestionSign × MinusZeroList × MetEach × ReadEach × EntersExactly × AllowedNext × AmongOthers × FullWhen × EightLast
-    × OnesEnter × EightReached × ReplayConserves × ReplayRefused × ReplayUnchanged × ReplayQuestions × ReplayWords × ReplaysMeans
-    × PartsJoined
+    QuestionLimit × Conserved × BookNext × BookSignNext × EntersFinite × QuestionSign × BookOfMinusZeros × MinusZeroList × MetEach
+    × ReadEach × EntersExactly × AllowedNext × AmongOthers × FullWhen × EightLast × OnesEnter × EightReached × ReplayConserves
+    × ReplayRefused × ReplayUnchanged × ReplayQuestions × ReplayWords × ReplaysMeans × PartsJoined

@@ -105,7 +105,8 @@ module _ (lines : List (List ℕ)) (most : length lines ≤ mostInputLines) wher
   all-good : afterLines start lines .good ≡ goodLines lines
   all-good = counted lines start .1 ∙ omega arith
 
-  closes : closingText (afterLines start lines) ≡ readText (pairAnswer (pairOf binary32 (exactTotal (columnSum (termsOf lines)) (length (termsOf lines)) (columnSign (termsOf lines))))) ++ endText (goodLines lines) (badLines lines)
+  closes : closingText (afterLines start lines)
+      ≡ readText (pairAnswer (pairOf binary32 (exactTotal (columnSum (termsOf lines)) (length (termsOf lines)) (columnSign (termsOf lines))))) ++ endText (goodLines lines) (badLines lines)
   unfolding closingText
   closes = ap₂ (λ (a : Answer TwoPatterns) (t : List ℕ). readText a ++ t) total-reads (ap₂ endText all-good bad-left)
 

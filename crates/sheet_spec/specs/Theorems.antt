@@ -168,7 +168,8 @@ badLines [] = 0
 badLines (l ∷ ls) = cond (isDone (readQuestion l)) 0 1 + badLines ls
 
 -- ---- the limit, from both sides (R8.11). An input of up to 32,768 lines: fewer newlines than that stand before its last byte, whatever
--- this is. It prints the texts of its lines, numbered from 1, the exact sum of their terms as a total reads (R6.5 to R6.8), and both counts.
+-- this is. It prints the texts of its lines, numbered from 1, the exact sum of their terms as a total reads (R6.5 to R6.8), and both
+-- counts.
 abbrev pub WithinLimit : Type 0
 WithinLimit =
     (front : List ℕ) (b : ℕ) → newlines front < 32768 → let lines = linesOf (front ++ (b ∷ [])) in

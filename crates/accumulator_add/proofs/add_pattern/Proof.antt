@@ -102,7 +102,8 @@ returns-2 c =
     let g = b .a .given .0 in
     let p = w .before .place .ensures in
     let v = pattern-value _ _ (b .before .before .classify .ensures) ∙ ap (λ (v : Class). finer binary32 (valueOf v)) (b .a .given .1) ∙ finer-digits _ _ _ in
-    let e = entered t (r .0 .0) (w .before .place .result) (w .add-short .last .0) (w .add-short .ensures) (ofPattern (a .x)) (g .0) (g .1 .0) _ v (p .0) (p .1) (p .2) _ (c .before .before .count-term .ensures) in
+    let e = entered t (r .0 .0) (w .before .place .result) (w .add-short .last .0) (w .add-short .ensures) (ofPattern (a .x)) (g .0) (g .1 .0) _ v (p .0) (p .1) (p .2) _
+    (c .before .before .count-term .ensures) in
     stays t (ofPattern (a .x)) r (g .0) (g .1 .0) _ v (h .1) _ e
 
 same-length-3 : tie.Need-same-length-3

@@ -91,7 +91,8 @@ returns-2 c =
     let g = b .p .given .0 in
     let p = w .before .place .ensures in
     let v = (rw (b .p .given .1) at (b .before .before .product .ensures)) .is in
-    let e = entered t (r .0 .0) (w .before .place .result) (w .add .last .0) (w .add .ensures) (ofProduct (a .x) (a .y)) (g .0) (g .1 .0) _ v (p .0) (p .1) (p .2) _ (c .before .before .count-term .ensures) in
+    let e = entered t (r .0 .0) (w .before .place .result) (w .add .last .0) (w .add .ensures) (ofProduct (a .x) (a .y)) (g .0) (g .1 .0) _ v (p .0) (p .1) (p .2) _
+    (c .before .before .count-term .ensures) in
     stays t (ofProduct (a .x) (a .y)) r (g .0) (g .1 .0) _ v (h .1) _ e
 
 same-length-3 : tie.Need-same-length-3

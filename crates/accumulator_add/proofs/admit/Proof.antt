@@ -33,8 +33,8 @@ returns c =
 product-requires : tie.Need-product-requires
 product-requires c κs = search needs
 
-enum-known-p : tie.Need-enum-known-p
-enum-known-p c = search needs
+enum-known-term : tie.Need-enum-known-term
+enum-known-term c = search needs
 
 note-sign-requires : tie.Need-note-sign-requires
 note-sign-requires c κs =
@@ -58,8 +58,8 @@ part-add-end c =
     let a = f .before .before .before .before .args in
     let t = a .total .now in
     let r = takes-term t _ (f .before .refusal-to-add .ensures) (f .if1 .left) in
-    let g = b .p .given .0 in
-    let v = (rw (b .p .given .1) at (b .before .before .product .ensures)) .is in
+    let g = b .term .given .0 in
+    let v = (rw (b .term .given .1) at (b .before .before .product .ensures)) .is in
     let l = noted-takes t (ofProduct (a .x) (a .y)) r (g .0) (g .1 .0) _ v (d .note-sign .last .0) (d .note-sign .ensures) .0 in
     omega (arith, l)
 
@@ -75,11 +75,11 @@ add-requires c κs =
     let a = f .before .before .before .before .args in
     let t = a .total .now in
     let r = takes-term t _ (f .before .refusal-to-add .ensures) (f .if1 .left) in
-    let g = b .p .given .0 in
-    let v = (rw (b .p .given .1) at (b .before .before .product .ensures)) .is in
+    let g = b .term .given .0 in
+    let v = (rw (b .term .given .1) at (b .before .before .product .ensures)) .is in
     let m = noted-takes t (ofProduct (a .x) (a .y)) r (g .0) (g .1 .0) _ v (d .note-sign .last .0) (d .note-sign .ensures) .0 in
     let l = length-take-le numberSize (d .note-sign .last .0) (omega (arith, m)) in
-    let o = rw (b .p .given .1) at (b .before .before .product .ensures) in
+    let o = rw (b .term .given .1) at (b .before .before .product .ensures) in
     let p = c .place .ensures in
     (omega (arith, p .2, o .bounded .exp, l), p .3)
 
@@ -93,8 +93,8 @@ count-term-requires c κs =
     let a = f .before .before .before .before .args in
     let t = a .total .now in
     let r = takes-term t _ (f .before .refusal-to-add .ensures) (f .if1 .left) in
-    let g = b .p .given .0 in
-    let v = (rw (b .p .given .1) at (b .before .before .product .ensures)) .is in
+    let g = b .term .given .0 in
+    let v = (rw (b .term .given .1) at (b .before .before .product .ensures)) .is in
     let m = noted-takes t (ofProduct (a .x) (a .y)) r (g .0) (g .1 .0) _ v (d .note-sign .last .0) (d .note-sign .ensures) in
     countable (d .note-sign .last .0) (m .0) (w .before .place .result) (w .add .last .0) (w .add .ensures) (m .1)
 
@@ -117,11 +117,12 @@ returns-2 c =
     let a = f .before .before .before .before .args in
     let t = a .total .now in
     let r = takes-term t _ (f .before .refusal-to-add .ensures) (f .if1 .left) in
-    let g = b .p .given .0 in
+    let g = b .term .given .0 in
     let p = w .before .place .ensures in
-    let v = (rw (b .p .given .1) at (b .before .before .product .ensures)) .is in
+    let v = (rw (b .term .given .1) at (b .before .before .product .ensures)) .is in
     let m = noted-takes t (ofProduct (a .x) (a .y)) r (g .0) (g .1 .0) _ v (d .note-sign .last .0) (d .note-sign .ensures) in
-    let e = entered (d .note-sign .last .0) (m .0) (w .before .place .result) (w .add .last .0) (w .add .ensures) (ofProduct (a .x) (a .y)) (g .0) (g .1 .0) _ v (p .0) (p .1) (p .2) _ (c .before .before .count-term .ensures) in
+    let e = entered (d .note-sign .last .0) (m .0) (w .before .place .result) (w .add .last .0) (w .add .ensures) (ofProduct (a .x) (a .y)) (g .0) (g .1 .0) _ v (p .0) (p .1) (p .2) _
+    (c .before .before .count-term .ensures) in
     written t (ofProduct (a .x) (a .y)) r (g .0) (g .1 .0) _ v (d .note-sign .last .0) (d .note-sign .ensures) _ e
 
 same-length-3 : tie.Need-same-length-3
@@ -160,7 +161,7 @@ admit-spec =
     same-length
     returns
     product-requires
-    enum-known-p
+    enum-known-term
     note-sign-requires
     sub-add
     part-add-start

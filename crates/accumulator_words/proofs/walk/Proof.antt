@@ -4,7 +4,7 @@ use mathlib.Core.List.{List}
 use Prim.Native.Nat.{ℕ, _+_, _-_, _/_, _^_}
 use native.Mathlib.Omega.{arith}
 use Rattle.accumulator_spec.proofs.Parts.{lent-on, lent-length}
-use Rattle.accumulator_spec.specs.Inner.{carried}
+use Rattle.accumulator_spec.specs.Inner.{afterWalk}
 use Rattle.accumulator_words.proofs.Significand.{two-parts, beyond-lt}
 use Rattle.accumulator_words.proofs.walk.Statement.{statement}
 use Rattle.accumulator_words.proofs.walk.Tie as tie
@@ -53,8 +53,8 @@ returns c =
     let a = b .before .before .before .args in
     let s = a .minus in
     let high = a .sig / 2 / 2 ^ (63 - a .shift) in
-    lent-on (b .add-two-words .last .0) 2 (λ (xs : List ℕ). carried xs s (high + b .add-two-words .result)) (c .before .before .add-word .last .0) (c .before .before .add-word .ensures)
-    ∙ b .add-two-words .ensures .2 high ∙ ap (carried (a .words .now) s) (two-parts (a .sig) (a .shift) (b .before .before .before .pre .1))
+    lent-on (b .add-two-words .last .0) 2 (λ (xs : List ℕ). afterWalk xs s (high + b .add-two-words .result)) (c .before .before .add-word .last .0) (c .before .before .add-word .ensures)
+    ∙ b .add-two-words .ensures .2 high ∙ ap (afterWalk (a .words .now) s) (two-parts (a .sig) (a .shift) (b .before .before .before .pre .1))
 
 pub walk-spec : {M : Type 1} → statement M
 walk-spec =

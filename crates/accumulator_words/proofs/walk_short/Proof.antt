@@ -5,7 +5,7 @@ use Prim.Native.Nat.{ℕ, _+_}
 use native.Mathlib.Omega.{arith}
 use lib.ListN.{take, drop, take-append-drop}
 use Rattle.accumulator_spec.proofs.Parts.{drop-words, lent-on, nothing-added}
-use Rattle.accumulator_spec.specs.Inner.{carried}
+use Rattle.accumulator_spec.specs.Inner.{afterWalk}
 use Rattle.accumulator_words.proofs.Significand.{short-parts}
 use Rattle.accumulator_words.proofs.walk_short.Statement.{statement}
 use Rattle.accumulator_words.proofs.walk_short.Tie as tie
@@ -38,9 +38,9 @@ returns c =
     let s = a .minus in
     let A = b .add-two-words .last .0 in
     let one : 1 ≡ 0 + b .add-two-words .result = omega (arith, b .add-two-words .ensures .1, c .before .before .before .before .if1 .taken) in
-    lent-on A 2 (λ (xs : List ℕ). carried xs s 1) (c .before .before .add-one .last .0) (c .before .before .add-one .ensures)
-    ∙ ap (λ (n : ℕ). take 2 A ++ carried (drop 2 A) s n) one ∙ b .add-two-words .ensures .2 0
-    ∙ ap (carried (a .words .now) s) (short-parts (a .sig) (a .shift) (b .before .before .before .pre .1) (b .before .before .before .pre .2))
+    lent-on A 2 (λ (xs : List ℕ). afterWalk xs s 1) (c .before .before .add-one .last .0) (c .before .before .add-one .ensures)
+    ∙ ap (λ (n : ℕ). take 2 A ++ afterWalk (drop 2 A) s n) one ∙ b .add-two-words .ensures .2 0
+    ∙ ap (afterWalk (a .words .now) s) (short-parts (a .sig) (a .shift) (b .before .before .before .pre .1) (b .before .before .before .pre .2))
 
 same-length-2 : tie.Need-same-length-2
 same-length-2 c = search needs
@@ -53,8 +53,8 @@ returns-2 c =
     let A = b .add-two-words .last .0 in
     let none : 0 ≡ 0 + b .add-two-words .result = omega (arith, c .if1 .left) in
     sym (take-append-drop 2 A) ∙ ap (λ (xs : List ℕ). take 2 A ++ xs) (nothing-added s (drop 2 A) (drop-words 2 A (λ i. c .before .slice-known2 .given i .fits)))
-    ∙ ap (λ (n : ℕ). take 2 A ++ carried (drop 2 A) s n) none ∙ b .add-two-words .ensures .2 0
-    ∙ ap (carried (a .words .now) s) (short-parts (a .sig) (a .shift) (b .before .before .before .pre .1) (b .before .before .before .pre .2))
+    ∙ ap (λ (n : ℕ). take 2 A ++ afterWalk (drop 2 A) s n) none ∙ b .add-two-words .ensures .2 0
+    ∙ ap (afterWalk (a .words .now) s) (short-parts (a .sig) (a .shift) (b .before .before .before .pre .1) (b .before .before .before .pre .2))
 
 pub walk-short-spec : {M : Type 1} → statement M
 walk-short-spec =

@@ -1,41 +1,33 @@
 use borrow.Author.Needs.{needs}
 use mathlib.Core.Path.{sym, _∙_}
-use borrow.Author.Tests.{eq-eqb, ne-eqb, not-true, not-false}
-use lib.ListN.{length}
-use Rattle.accumulator_spec.specs.Totals.{totalSize}
+use native.Mathlib.Omega.{arith}
+use Rattle.accumulator_words.proofs.Lent.{sound, fault-first, fault-none}
 use Rattle.accumulator_words.proofs.fit.refusal_to_add.Statement.{statement}
 use Rattle.accumulator_words.proofs.fit.refusal_to_add.Tie as tie
 
+refusal-requires : tie.Need-refusal-requires
+refusal-requires c κs = search needs
+
 returns : tie.Need-returns
-returns c = rw (ne-eqb (length (c .before .before .args .total .now)) totalSize (c .if1 .taken))
-
-is-fit-requires : tie.Need-is-fit-requires
-is-fit-requires c κs = search needs
-
-returns-2 : tie.Need-returns-2
-returns-2 c =
-    rw (eq-eqb (length (c .before .before .before .before .args .total .now)) totalSize (c .before .before .if1 .left), sym (c .before .is-fit .ensures) ∙ not-true _ (c .if2 .taken))
+returns c =
+    let t = c .before .before .before .args .total .now in
+    let e = c .before .refusal .ensures in
+    e ∙ fault-first t (λ z. c .if1 .taken (e ∙ z))
 
 shared-slice-read-choose-pattern : tie.Need-shared-slice-read-choose-pattern
-shared-slice-read-choose-pattern c = search needs
+shared-slice-read-choose-pattern c =
+    let b = c .before in
+    let t = b .before .before .before .args .total .now in
+    omega (arith, sound t (sym (b .before .refusal .ensures) ∙ b .if1 .left) .0)
 
 choose-pattern-requires : tie.Need-choose-pattern-requires
 choose-pattern-requires c κs = search needs
 
-returns-3 : tie.Need-returns-3
-returns-3 c =
-    let d = c .before .before in
-    let t = d .before .before .before .before .args .total .now in
-    c .choose-pattern .ensures
-    ∙ sym (rw (eq-eqb (length t) totalSize (d .before .before .if1 .left), sym (d .before .is-fit .ensures) ∙ not-false _ (d .if2 .left)))
+returns-2 : tie.Need-returns-2
+returns-2 c =
+    let b = c .before .before in
+    let t = b .before .before .before .args .total .now in
+    c .choose-pattern .ensures ∙ fault-none t (sym (b .before .refusal .ensures) ∙ b .if1 .left)
 
 pub refusal-to-add-spec : {M : Type 1} → statement M
-refusal-to-add-spec =
-    tie.close
-    (tie.spec
-    returns
-    is-fit-requires
-    returns-2
-    shared-slice-read-choose-pattern
-    choose-pattern-requires
-    returns-3)
+refusal-to-add-spec = tie.close (tie.spec refusal-requires returns shared-slice-read-choose-pattern choose-pattern-requires returns-2)

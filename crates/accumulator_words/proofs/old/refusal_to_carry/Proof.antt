@@ -3,8 +3,8 @@ use mathlib.Core.Path.{sym, ap, _∙_}
 use borrow.Author.Tests.{not-true, not-false}
 use Rattle.pattern_spec.specs.Answer.{refusalOf}
 use Rattle.accumulator_spec.proofs.Carried.{old-length, new-length, old-unfit, carries}
-use Rattle.accumulator_words.proofs.fit.refusal_to_carry.Statement.{statement}
-use Rattle.accumulator_words.proofs.fit.refusal_to_carry.Tie as tie
+use Rattle.accumulator_words.proofs.old.refusal_to_carry.Statement.{statement}
+use Rattle.accumulator_words.proofs.old.refusal_to_carry.Tie as tie
 
 returns : tie.Need-returns
 returns c = let a = c .before .before .before .args in sym (ap refusalOf (old-length (a .old .now) (a .new .now) (c .if1 .taken)))

@@ -2,7 +2,7 @@
 use accumulator_spec::NUMBER_SIZE;
 use accumulator_spec::OLD_SIZE;
 use accumulator_spec::SIGN_WORD;
-use accumulator_words::fit::refusal_to_carry;
+use accumulator_words::old::refusal_to_carry;
 use choose::choose_pattern;
 ghost use mathlib.Core.Path.{_≡_};
 ghost use lib.ListN.{length, take};

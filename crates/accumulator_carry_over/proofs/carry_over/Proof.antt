@@ -1,9 +1,9 @@
 use borrow.Author.Needs.{needs}
 use mathlib.Core.Path.{refl, sym, _∙_}
 use native.Mathlib.Omega.{arith}
-use Rattle.accumulator_carry.proofs.Numbers.{refuses, sound, carried-out}
-use Rattle.accumulator_carry.proofs.carry_over.Statement.{statement}
-use Rattle.accumulator_carry.proofs.carry_over.Tie as tie
+use Rattle.accumulator_carry_over.proofs.Numbers.{refuses, sound, carried-out}
+use Rattle.accumulator_carry_over.proofs.carry_over.Statement.{statement}
+use Rattle.accumulator_carry_over.proofs.carry_over.Tie as tie
 
 refusal-to-carry-requires : tie.Need-refusal-to-carry-requires
 refusal-to-carry-requires c κs = search needs

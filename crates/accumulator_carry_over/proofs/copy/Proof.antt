@@ -8,8 +8,8 @@ use lib.ListN.{length, take, getD, length-set}
 use lib.Seq.{take-all, take-suc, take-suc-set}
 use Rattle.accumulator_spec.specs.Totals.{totalSize}
 use Rattle.accumulator_spec.specs.Carrying.{oldSize}
-use Rattle.accumulator_carry.proofs.copy.Statement.{statement}
-use Rattle.accumulator_carry.proofs.copy.Tie as tie
+use Rattle.accumulator_carry_over.proofs.copy.Statement.{statement}
+use Rattle.accumulator_carry_over.proofs.copy.Tie as tie
 
 abbrev Inv-loop : tie.InvT-loop
 Inv-loop old new₀ i₀ new i = (i ≤ oldSize) × (length new ≡ totalSize) × (take i new ≡ take i old)

@@ -24,7 +24,7 @@ use Rattle.accumulator_spec.specs.Totals.{Term, ofPattern, finiteOperand
 use Rattle.accumulator_spec.specs.Columns.{column, AllFinite, AllMinusZero, columnSum, columnSign}
 use Rattle.accumulator_spec.specs.Carrying.{oldSize, oldTotalOf, oldColumn, FitOld, oldReading, carrying, carriedTotal, afterCarrying}
 use Rattle.accumulator_spec.specs.Carrying.{plusZeroFirst, carriedTerms}
-use Rattle.accumulator_spec.specs.SignTheorems.{CarryingRefused, CarriedAs, CarriesMeans, CarriesNumberedMeans, OldReads, CarriedFit}
+use Rattle.accumulator_spec.specs.SignTheorems.{CarryingRefused, CarriedAs, CarriesMeans, CarriesNumberedMeans, FitOldIs, OldReads, CarriedFit}
 use Rattle.accumulator_spec.specs.SignTheorems.{OldColumnIs, CarriedTermsAre, CarriedColumn}
 use Rattle.accumulator_spec.proofs.Adding.{Fits, limits, limits-within, fit-bounds, bounds-fit, never}
 use Rattle.accumulator_spec.proofs.Columns.{exact-column}
@@ -188,6 +188,12 @@ pub carries-numbered-means : CarriesNumberedMeans
 carries-numbered-means old new after n h = carried-as refusalOf old new n after (h .0) (h .1)
 
 -- ---- it reads as the old one
+pub fit-old-is : FitOldIs
+fit-old-is t = (
+  λ f. let l = limits t (f .within) in (f .full, f .words, l .0, l .1),
+  λ b. record { full = b .0; words = b .1; within = limits-within t (b .2) (b .3) },
+)
+
 pub old-reads : OldReads
 unfolding oldReading
 old-reads t = (

@@ -10,7 +10,7 @@ use Rattle.accumulator_spec.proofs.Answers.{adding-refused, refused-ter
 use Rattle.accumulator_spec.proofs.Adding.{fit-is, lowest-unfit, within-is, unfit-signs, accepted-term, exact-adding}
 use Rattle.accumulator_spec.proofs.Signs.{sign-of-both-is}
 use Rattle.accumulator_spec.proofs.MinusZeros.{pattern-minus-zero, product-minus-zero, column-sign-is, column-minus-zero, sign-landmarks}
-use Rattle.accumulator_spec.proofs.Carried.{carrying-refused, carries-means, carries-numbered-means, old-reads, carried-fit}
+use Rattle.accumulator_spec.proofs.Carried.{carrying-refused, carries-means, carries-numbered-means, fit-old-is, old-reads, carried-fit}
 use Rattle.accumulator_spec.proofs.Carried.{old-column-is, carried-terms-are, carried-column}
 use Rattle.accumulator_spec.proofs.Relations.{clears-means, adds-means, adds-numbered-means, adds-alike}
 use Rattle.accumulator_spec.proofs.Columns.{column-next, accepted-each, all-finite-is, exact-column, any-order}
@@ -88,6 +88,7 @@ all = (
   carrying-refused,
   carries-means,
   carries-numbered-means,
+  fit-old-is,
   old-reads,
   carried-fit,
   old-column-is,

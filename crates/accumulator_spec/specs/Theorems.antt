@@ -25,9 +25,10 @@ use Rattle.accumulator_spec.specs.Carrying.{oldSize}
 use Rattle.accumulator_spec.specs.JoinTheorems.{JoiningRefused, AcceptedJoin, ExactJoin, RefusedJoin, JoinsMeans, JoinsNumberedMeans}
 use Rattle.accumulator_spec.specs.JoinTheorems.{BuiltBy, BuiltIsColumn, JoinedIsColumn, ColumnsJoin, ColumnBuilt, EmptyJoins}
 use Rattle.accumulator_spec.specs.JoinTheorems.{JoinLandmarks}
-use Rattle.accumulator_spec.specs.SignTheorems.{SignOfBothIs, PatternMinusZero, ProductMinusZero, WithinIs, UnfitSigns, ColumnSignIs}
-use Rattle.accumulator_spec.specs.SignTheorems.{ColumnMinusZero, CarryingRefused, CarriesMeans, CarriesNumberedMeans, OldReads}
-use Rattle.accumulator_spec.specs.SignTheorems.{CarriedFit, OldColumnIs, OldBuiltIs, CarriedTermsAre, CarriedColumn, SignLandmarks}
+use Rattle.accumulator_spec.specs.SignTheorems.{SignOfBothIs, PatternMinusZero, ProductMinusZero, WithinIs, UnfitSigns}
+use Rattle.accumulator_spec.specs.SignTheorems.{ColumnSignIs, ColumnMinusZero, CarryingRefused, CarriesMeans, CarriesNumberedMeans}
+use Rattle.accumulator_spec.specs.SignTheorems.{FitOldIs, OldReads, CarriedFit, OldColumnIs, OldBuiltIs, CarriedTermsAre}
+use Rattle.accumulator_spec.specs.SignTheorems.{CarriedColumn, SignLandmarks}
 
 -- ---- words, however many (R6.1)
 -- word i counts 2 ^ (32 i); the words of -(n + 1) are the complements of n's
@@ -313,5 +314,5 @@ All =
     × ReadZero × ReadRoundedToZero × ReadSum × ReadProduct × JoiningRefused × AcceptedJoin × ExactJoin × RefusedJoin × JoinsMeans
     × JoinsNumberedMeans × BuiltBy × BuiltIsColumn × JoinedIsColumn × ColumnsJoin × ColumnBuilt × EmptyJoins × JoinLandmarks
     × SignOfBothIs × PatternMinusZero × ProductMinusZero × WithinIs × UnfitSigns × ColumnSignIs × ColumnMinusZero × CarryingRefused
-    × CarriesMeans × CarriesNumberedMeans × OldReads × CarriedFit × OldColumnIs × OldBuiltIs × CarriedTermsAre × CarriedColumn
-    × SignLandmarks
+    × CarriesMeans × CarriesNumberedMeans × FitOldIs × OldReads × CarriedFit × OldColumnIs × OldBuiltIs × CarriedTermsAre
+    × CarriedColumn × SignLandmarks

@@ -1,6 +1,7 @@
 -- The theorems of `specs/Theorems.antt`.
 use mathlib.Core.Path.{refl}
-use Rattle.conservation_spec.specs.Theorems.{QuestionLimit, Conserved, BookNext, BookSignNext, EntersFinite, QuestionSign, BookOfMinusZeros, MinusZeroList}
+use Rattle.conservation_spec.specs.Theorems.{QuestionLimit, Conserved, BookNext, BookSignNext, MinusZerosAre, QuestionTerms, EntersFinite, QuestionSign}
+use Rattle.conservation_spec.specs.Theorems.{BookOfMinusZeros, MinusZeroList}
 use Rattle.conservation_spec.specs.Theorems.{MetEach, ReadEach, EntersExactly, AllowedNext, AmongOthers, FullWhen, EightLast}
 use Rattle.conservation_spec.specs.Theorems.{OnesEnter, EightReached, ReplayConserves, ReplayRefused, ReplayUnchanged, ReplayQuestions, ReplayWords}
 use Rattle.conservation_spec.specs.Theorems.{ReplaysMeans, PartsJoined, All}
@@ -26,6 +27,12 @@ book-next = books.book-next
 
 pub book-sign-next : BookSignNext
 book-sign-next = books.book-sign-next
+
+pub minus-zeros-are : MinusZerosAre
+minus-zeros-are = minus-zeros.minus-zeros-are
+
+pub question-terms : QuestionTerms
+question-terms = minus-zeros.question-terms
 
 pub enters-finite : EntersFinite
 enters-finite = entering.enters-finite
@@ -96,6 +103,8 @@ all = (
   conserved,
   book-next,
   book-sign-next,
+  minus-zeros-are,
+  question-terms,
   enters-finite,
   question-sign,
   book-of-minus-zeros,

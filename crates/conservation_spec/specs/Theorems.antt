@@ -12,11 +12,11 @@ use Rattle.pattern_spec.specs.Answer.{Answer, refused, done}
 use Rattle.rounding_spec.specs.Format.{binary32}
 use Rattle.rounding_spec.specs.Value.{finite, decode, isFinite}
 use Rattle.pattern_spec.specs.Exact.{int}
-use Rattle.pattern_spec.specs.Classes.{bothFinite}
+use Rattle.pattern_spec.specs.Classes.{bothFinite, flip}
 use Rattle.augmented_spec.specs.Pairs.{pairOf}
-use Rattle.augmented_spec.specs.Direct.{exactResult, operationOf}
+use Rattle.augmented_spec.specs.Direct.{sum, difference, product, exactResult, operationOf}
 use Rattle.worksheet_spec.specs.Lines.{sheetSize}
-use Rattle.worksheet_spec.specs.Filling.{afterFilling}
+use Rattle.worksheet_spec.specs.Filling.{FilledSheet, afterFilling}
 use Rattle.accumulator_spec.specs.Words.{Words}
 use Rattle.accumulator_spec.specs.Totals.{totalSize, mostTerms, zeros, count, afterClearing}
 use Rattle.accumulator_spec.specs.Totals.{Term, ofPattern, ofProduct, finiteOperands, adding, pairRead, pairAnswer, reading}
@@ -74,6 +74,23 @@ BookSignNext =
     × ((es : List Event) (q : Posed) → enters q ≡ false → bookSign (es ++ (asks q ∷ [])) ≡ bookSign es)
     × ((es : List Event) (side : Side) → bookSign (es ++ (reads side ∷ [])) ≡ bookSign es)
     × ((es : List Event) (side : Side) (x : Term) → bookSign (es ++ (adds side x ∷ [])) ≡ bookSign es)
+
+-- R7.16: when all terms of a question are -0, by sign and magnitude of either operand
+abbrev pub MinusZerosAre : Type 0
+MinusZerosAre =
+    (s t : Bool) (a b : ℕ)
+    → (minusZeros sum s a t b ≡ true ↔ ((s ≡ true) × (a ≡ 0) × (t ≡ true) × (b ≡ 0)))
+    × (minusZeros difference s a t b ≡ true ↔ ((s ≡ true) × (a ≡ 0) × (t ≡ false) × (b ≡ 0)))
+    × (minusZeros product s a t b ≡ true ↔ ((s ≢ t) × ((a ≡ 0) ⊎ (b ≡ 0))))
+
+-- R7.9, R7.10: the terms of a question, for the other total and for the first
+abbrev pub QuestionTerms : Type 0
+QuestionTerms =
+    (x y : ℕ) (s : FilledSheet)
+    → (setTerms sum x y ≡ ofPattern x ∷ ofPattern y ∷ [])
+    × (setTerms difference x y ≡ ofPattern x ∷ ofPattern (flip binary32 y) ∷ [])
+    × (setTerms product x y ≡ ofProduct x y ∷ [])
+    × (footTerms (done s) ≡ ofPattern (s .pair .first) ∷ ofPattern (s .pair .second) ∷ [])
 
 -- an entering question has finite operands (R7.8)
 abbrev pub EntersFinite : Type 0
@@ -323,6 +340,6 @@ QuestionLimit = mostQuestions ≡ 32768
 -- ---- all of them
 abbrev pub All : Type 0
 All =
-    QuestionLimit × Conserved × BookNext × BookSignNext × EntersFinite × QuestionSign × BookOfMinusZeros × MinusZeroList × MetEach
-    × ReadEach × EntersExactly × AllowedNext × AmongOthers × FullWhen × EightLast × OnesEnter × EightReached × ReplayConserves
-    × ReplayRefused × ReplayUnchanged × ReplayQuestions × ReplayWords × ReplaysMeans × PartsJoined
+    QuestionLimit × Conserved × BookNext × BookSignNext × MinusZerosAre × QuestionTerms × EntersFinite × QuestionSign × BookOfMinusZeros
+    × MinusZeroList × MetEach × ReadEach × EntersExactly × AllowedNext × AmongOthers × FullWhen × EightLast × OnesEnter × EightReached
+    × ReplayConserves × ReplayRefused × ReplayUnchanged × ReplayQuestions × ReplayWords × ReplaysMeans × PartsJoined

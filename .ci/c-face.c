@@ -8,7 +8,8 @@
 #define TOTAL 22
 #define COUNT 20
 #define SIGN_WORD 21
-#define SHEET 65
+#define LINE 6
+#define SHEET 78
 #define ONE 0x3F800000u
 #define LARGEST 0x7F7FFFFFu
 #define INFINITE 0x7F800000u
@@ -34,11 +35,16 @@ static void print_words(const char *name, const uint32_t *words, size_t count, s
     }
 }
 
-static void print_sheet(const uint32_t *words, size_t count) { print_words("words", words, count, 5); }
+static void print_sheet(const uint32_t *words, size_t count) { print_words("words", words, count, LINE); }
 
 static void print_total(const char *name, const uint32_t *words, size_t count) { print_words(name, words, count, 11); }
 
-static void print_step(const char *name, uint32_t result) { print_words(name, &result, 1, 1); }
+static void print_step(const char *name, struct jirmeklo_step step) {
+    printf("%s", name);
+    print_word(step.result);
+    print_number(step.mark);
+    printf("\n");
+}
 
 static void print_refusal(const char *name, uint32_t refusal) {
     printf("%s", name);
@@ -77,12 +83,19 @@ static void fill_with(uint32_t *words, size_t count, uint32_t word) {
     }
 }
 
+/* Rounded, of infinities, of a NaN, rounded to zero, exact; overflow that 24 bits would hold, an exact zero, an infinity handed on, a
+ * tie, and an infinity that is the third operand. */
 static void steps(void) {
     print_step("add", jirmeklo_add(ONE, 0x33800001u));
     print_step("sub", jirmeklo_sub(INFINITE, INFINITE));
     print_step("sub", jirmeklo_sub(ONE, SIGNALLING));
     print_step("mul", jirmeklo_mul(0x80000001u, 0x3F000000u));
     print_step("fma", jirmeklo_fma(0x3F800001u, 0x3F800001u, 0xBF800002u));
+    print_step("add", jirmeklo_add(0x7F000000u, 0x7F000000u));
+    print_step("sub", jirmeklo_sub(ONE, ONE));
+    print_step("mul", jirmeklo_mul(INFINITE, ONE));
+    print_step("fma", jirmeklo_fma(ONE, 0x33800000u, ONE));
+    print_step("fma", jirmeklo_fma(ONE, ONE, INFINITE));
 }
 
 static void pairs(void) {
@@ -226,7 +239,7 @@ static void lists(void) {
     print_refusal("replay", jirmeklo_replay(operations, 5, xs, 5, ys, 5, long_counts, 5, words, SHEET, first, TOTAL, second, TOTAL));
     print_sheet(words, 1);
     print_refusal("replay", jirmeklo_replay(operations, 5, xs, 5, ys, 5, counts, 5, words, SHEET, first, TOTAL, second, TOTAL));
-    print_sheet(words, 5);
+    print_sheet(words, LINE);
     print_total("first", first, TOTAL);
     print_total("second", second, TOTAL);
     print_reading("read", jirmeklo_read(first, TOTAL));

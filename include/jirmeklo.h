@@ -23,6 +23,12 @@ struct jirmeklo_flags {
     bool invalid, overflow, underflow, inexact;
 };
 
+/* A step's result and its mark: 0, the result is the exact value; 1, finite operands were rounded or overflowed; 2, an operand was
+ * infinite or NaN. (CHANGED with marks: the four steps gave the result alone before, as uint32_t. Programs that call them take .result.) */
+struct jirmeklo_step {
+    uint32_t result, mark;
+};
+
 /* The result rounded to nearest, ties to zero, and what that left over. */
 struct jirmeklo_pair {
     uint32_t first, second;
@@ -41,15 +47,16 @@ struct jirmeklo_filled {
 };
 
 /* Steps: one rounding to nearest, ties to even. fma is x * y + z. The first NaN operand is handed on, as it is but for bit 22, which is set
- * (sub does not flip it); where no operand is NaN, a NaN result is 7FC00000. No refusal. */
-uint32_t jirmeklo_add(uint32_t x, uint32_t y);
-uint32_t jirmeklo_sub(uint32_t x, uint32_t y);
-uint32_t jirmeklo_mul(uint32_t x, uint32_t y);
-uint32_t jirmeklo_fma(uint32_t x, uint32_t y, uint32_t z);
+ * (sub does not flip it); where no operand is NaN, a NaN result is 7FC00000. +0 and -0 are one value, so that an exact zero has the mark 0;
+ * a value that is rounded to zero has 1. No refusal. */
+struct jirmeklo_step jirmeklo_add(uint32_t x, uint32_t y);
+struct jirmeklo_step jirmeklo_sub(uint32_t x, uint32_t y);
+struct jirmeklo_step jirmeklo_mul(uint32_t x, uint32_t y);
+struct jirmeklo_step jirmeklo_fma(uint32_t x, uint32_t y, uint32_t z);
 
-/* Pairs of x + y, x - y and x * y, as IEEE 754-2019, clause 9.5, with flags. Where first is NaN, both halves are what jirmeklo_mul gives,
- * or jirmeklo_add; for a difference, jirmeklo_add of x and y with y's sign bit flipped: a NaN y comes back with the other sign, unlike
- * from jirmeklo_sub. No refusal. */
+/* Pairs of x + y, x - y and x * y, as IEEE 754-2019, clause 9.5, with flags. Where first is NaN, both halves are the result that
+ * jirmeklo_mul gives, or jirmeklo_add; for a difference, jirmeklo_add of x and y with y's sign bit flipped: a NaN y comes back with the
+ * other sign, unlike from jirmeklo_sub. No refusal. */
 struct jirmeklo_pair jirmeklo_sum(uint32_t x, uint32_t y);
 struct jirmeklo_pair jirmeklo_difference(uint32_t x, uint32_t y);
 struct jirmeklo_pair jirmeklo_product(uint32_t x, uint32_t y);
@@ -82,9 +89,10 @@ uint32_t jirmeklo_carry_over(const uint32_t *old, size_t old_words, uint32_t *to
  * the sign word 0, and +0 twice otherwise. Refusals: 5 and 6, as in adding. */
 struct jirmeklo_reading jirmeklo_read(const uint32_t *total, size_t words);
 
-/* Writes the step sheet of an operation (1 sum, 2 difference, 3 product) into the first 65 words: up to 13 lines (one where the
- * first gives NaN) of five words, which are the step (1 add, 2 sub, 3 mul, 4 fma), three operands and the result; then zeros.
- * Refusals: 10, another operation; 9, fewer than 65 words. */
+/* Writes the step sheet of an operation (1 sum, 2 difference, 3 product) into the first 78 words: up to 13 lines (one where the
+ * first gives NaN) of six words, which are the step (1 add, 2 sub, 3 mul, 4 fma), three operands (an unused third is 0), the result and
+ * its mark; then zeros. (CHANGED with marks: lines had five words before, and sheets 65.)
+ * Refusals: 10, another operation; 9, fewer than 78 words. */
 struct jirmeklo_filled jirmeklo_fill(uint32_t operation, uint32_t x, uint32_t y, uint32_t *words, size_t count);
 
 /* Fills the sheets of a list of questions, one after the other, the ith into the first counts[i] of the words. Where its

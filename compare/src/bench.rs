@@ -1,8 +1,9 @@
 //! Times each step of the library beside the processor's own and the toolchain's software floats.
+use crate::marks;
 use crate::pattern::is_nan;
 use crate::processor::{self, Processor};
 use crate::random::Random;
-use crate::step::{Question, Step, STEPS};
+use crate::step::{Answer, Question, Step, STEPS};
 use crate::sums::number;
 use crate::{software, subject};
 use std::hint::black_box;
@@ -87,30 +88,30 @@ fn exists(who: Who, step: Step) -> bool {
     who != Who::Software || step != Step::Fma
 }
 
-/// Answers every question by calls of one function, none of them inlined.
-fn sweep(processor: Processor, who: Who, step: Step, questions: &[Question]) -> u32 {
+/// Answers every question by calls of one function, none of them inlined. The library's marks are kept as well as the results.
+fn sweep(processor: Processor, who: Who, step: Step, questions: &[Question]) -> u64 {
     match (who, step) {
-        (Who::Library, Step::Add) => each(questions, |q| subject::add(q.x, q.y)),
-        (Who::Library, Step::Sub) => each(questions, |q| subject::sub(q.x, q.y)),
-        (Who::Library, Step::Mul) => each(questions, |q| subject::mul(q.x, q.y)),
-        (Who::Library, Step::Fma) => each(questions, |q| subject::fma(q.x, q.y, q.z)),
+        (Who::Library, Step::Add) => each(questions, |q| both(subject::add(q.x, q.y))),
+        (Who::Library, Step::Sub) => each(questions, |q| both(subject::sub(q.x, q.y))),
+        (Who::Library, Step::Mul) => each(questions, |q| both(subject::mul(q.x, q.y))),
+        (Who::Library, Step::Fma) => each(questions, |q| both(subject::fma(q.x, q.y, q.z))),
         (Who::Processor, step) => sweep_processor(processor, step, questions),
-        (Who::Software, Step::Add) => each(questions, |q| software::add(q.x, q.y)),
-        (Who::Software, Step::Sub) => each(questions, |q| software::sub(q.x, q.y)),
-        (Who::Software, Step::Mul) => each(questions, |q| software::mul(q.x, q.y)),
+        (Who::Software, Step::Add) => each(questions, |q| software::add(q.x, q.y).into()),
+        (Who::Software, Step::Sub) => each(questions, |q| software::sub(q.x, q.y).into()),
+        (Who::Software, Step::Mul) => each(questions, |q| software::mul(q.x, q.y).into()),
         (Who::Software, Step::Fma) => unreachable!("no such function"),
     }
 }
 
 /// Through a pointer that the compiler does not see through: the other two are called through a table of
 /// addresses, being in other objects.
-fn sweep_processor(processor: Processor, step: Step, questions: &[Question]) -> u32 {
+fn sweep_processor(processor: Processor, step: Step, questions: &[Question]) -> u64 {
     if step == Step::Fma {
         type Three = unsafe extern "C" fn(u32, u32, u32) -> u32;
         let chosen: Three = if processor.fused_instruction { processor::fma } else { processor::fma_called };
         let fma = black_box(chosen);
         // SAFETY: the instruction is chosen only where the processor has it.
-        return each(questions, |q| unsafe { fma(q.x, q.y, q.z) });
+        return each(questions, |q| unsafe { fma(q.x, q.y, q.z) }.into());
     }
     type Two = extern "C" fn(u32, u32) -> u32;
     let chosen: Two = match step {
@@ -119,13 +120,19 @@ fn sweep_processor(processor: Processor, step: Step, questions: &[Question]) -> 
         _ => processor::mul,
     };
     let two = black_box(chosen);
-    each(questions, |q| two(q.x, q.y))
+    each(questions, |q| two(q.x, q.y).into())
 }
 
 /// The answers xored, so that none is dropped.
 #[inline(always)]
-fn each(questions: &[Question], answer: impl Fn(&Question) -> u32) -> u32 {
+fn each(questions: &[Question], answer: impl Fn(&Question) -> u64) -> u64 {
     questions.iter().fold(0, |all, q| all ^ answer(q))
+}
+
+/// The mark above the result, as they come back in one register.
+#[inline(always)]
+fn both(answer: Answer) -> u64 {
+    u64::from(answer.mark) << 32 | u64::from(answer.result)
 }
 
 /// Nanoseconds a step.
@@ -137,16 +144,17 @@ fn measured(processor: Processor, who: Who, step: Step, questions: &[Question]) 
     start.elapsed().as_nanos() as f64 / (SWEEPS * questions.len()) as f64
 }
 
-/// A question that someone answers otherwise than the processor: its time would say nothing. The software floats choose
-/// their NaN themselves.
+/// A question that someone answers otherwise than the processor, or marks otherwise than the model: its time would say
+/// nothing. The software floats choose their NaN themselves.
 fn disagreement(processor: Processor, questions: &[Question]) -> Option<String> {
     for step in STEPS {
         for who in [Who::Library, Who::Software].into_iter().filter(|&who| exists(who, step)) {
             for q in questions {
                 let given = sweep(processor, who, step, std::slice::from_ref(q));
-                let right = processor.answer(step, *q);
-                let own_nan = who == Who::Software && is_nan(given) && is_nan(right);
-                if given != right && !own_nan {
+                let result = processor.answer(step, *q);
+                let mark = if who == Who::Library { marks::mark(step, *q) } else { 0 };
+                let own_nan = who == Who::Software && is_nan(given as u32) && is_nan(result);
+                if given != both(Answer { result, mark }) && !own_nan {
                     return Some(format!("{} {}", step.name(), q.shown(step)));
                 }
             }
@@ -183,6 +191,7 @@ fn print_table(cells: &[Cell]) {
     println!("{QUESTIONS} questions. A ratio is the median of the repetitions' ratios.");
     println!("Inputs are precomputed and caches warm; no call is inlined; questions do not depend on each other, so calls overlap.");
     println!("uniform: any patterns; near: normal numbers whose exponents lie within 3 of 1's.");
+    println!("The library gives result and mark, the processor's instruction and the software floats the result alone.");
 }
 
 fn row(cells: &[Cell], inputs: &str, step: Step) -> String {

@@ -40,6 +40,11 @@ pub fn run(processor: Processor, options: &Options) -> ExitCode {
     let start = Instant::now();
     let how = if processor.fused_instruction { "its instruction" } else { "the C library's fmaf" };
     println!("reference: the processor, fma by {how}; seed {}", options.seed);
+    if !processor.fused_instruction {
+        println!(
+            "marks of fma are compared with the model alone: fmaf is not asked for the processor's flag"
+        );
+    }
     if let Some(what) = distrusted(processor, options.seed) {
         println!("{what}");
         return ExitCode::FAILURE;
@@ -112,23 +117,26 @@ fn timed(what: &str, compared: impl FnOnce() -> (u64, usize)) -> usize {
     differences
 }
 
-/// The edges, then each shape, for each step; how many questions there were, and differences.
+/// The edges, then each shape, for each step, and how many of the marks the processor's flag was asked for; how many questions there
+/// were, and differences.
 fn compared_steps(processor: Processor, edges: &[u32], options: &Options) -> (u64, usize) {
     let count = options.count.div_ceil(SHAPES.len() as u64);
     let shaped = SHAPES.map(|shape| Source::Random { seed: options.seed, shape, count });
-    let (mut asked, mut differences) = (0, 0);
+    let (mut asked, mut flagged, mut differences) = (0, 0, 0);
     for source in [Source::Edges(edges)].iter().chain(&shaped) {
         for step in STEPS {
-            let outcome = steps::compare(&Library, processor, step, source);
-            steps::report(step, source, &outcome, options.seed, SHOWN - differences);
-            asked += outcome.asked;
-            differences += outcome.differences.len();
+            let compared = steps::compare(&Library, processor, step, source);
+            steps::report(step, source, &compared, options.seed, SHOWN - differences);
+            asked += compared.outcome.asked;
+            flagged += compared.flagged;
+            differences += compared.outcome.differences.len();
             if differences >= SHOWN {
                 println!("stopped at the tenth difference");
                 return (asked, SHOWN);
             }
         }
     }
+    println!("{flagged} of {asked} marks compared with the processor's flag too, all of them with the model");
     (asked, differences)
 }
 

@@ -118,7 +118,7 @@ fn type_in_rust(c: &str) -> String {
 }
 
 /// What is changed in the header, to what, and what is then wrong.
-const FAULTS: [(&str, &str, &str); 11] = [
+const FAULTS: [(&str, &str, &str); 14] = [
     ("jirmeklo_sub(", "jirmeklo_subtract(", "another name"),
     (
         "jirmeklo_fma(uint32_t x, uint32_t y, uint32_t z)",
@@ -134,6 +134,9 @@ const FAULTS: [(&str, &str, &str); 11] = [
     ("overflow, underflow,", "underflow, overflow,", "fields in each other's place"),
     ("uint32_t refusal, lines, first", "uint32_t refusal, first", "a field less"),
     ("bool invalid", "uint32_t invalid", "fields of another type"),
+    ("struct jirmeklo_step jirmeklo_mul", "uint32_t jirmeklo_mul", "a step without its mark"),
+    ("uint32_t result, mark;", "uint32_t mark, result;", "a mark before the result"),
+    ("uint32_t result, mark;", "uint32_t result; bool mark;", "a mark of another type"),
 ];
 
 /// The faults that are found, all of them, or one that is not.

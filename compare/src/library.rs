@@ -10,6 +10,14 @@ pub struct Flags {
     pub inexact: bool,
 }
 
+/// A step's result and mark.
+#[repr(C)]
+#[derive(Clone, Copy, PartialEq, Eq, Debug)]
+pub struct Step {
+    pub result: u32,
+    pub mark: u32,
+}
+
 #[repr(C)]
 #[derive(Clone, Copy, PartialEq, Eq, Debug)]
 pub struct Pair {
@@ -39,10 +47,10 @@ pub struct Filled {
 }
 
 extern "C" {
-    pub fn jirmeklo_add(x: u32, y: u32) -> u32;
-    pub fn jirmeklo_sub(x: u32, y: u32) -> u32;
-    pub fn jirmeklo_mul(x: u32, y: u32) -> u32;
-    pub fn jirmeklo_fma(x: u32, y: u32, z: u32) -> u32;
+    pub fn jirmeklo_add(x: u32, y: u32) -> Step;
+    pub fn jirmeklo_sub(x: u32, y: u32) -> Step;
+    pub fn jirmeklo_mul(x: u32, y: u32) -> Step;
+    pub fn jirmeklo_fma(x: u32, y: u32, z: u32) -> Step;
     pub fn jirmeklo_sum(x: u32, y: u32) -> Pair;
     pub fn jirmeklo_difference(x: u32, y: u32) -> Pair;
     pub fn jirmeklo_product(x: u32, y: u32) -> Pair;

@@ -3,10 +3,12 @@
 mod bench;
 mod check;
 mod edges;
+mod flag;
 mod fused;
 mod header;
 mod library;
 mod lists;
+mod marks;
 mod pairs;
 mod pattern;
 mod planted;
@@ -112,7 +114,7 @@ fn patterns(words: &[String]) -> Option<Vec<u32>> {
     words.iter().map(|word| pattern::read(word)).collect()
 }
 
-/// Asks the library for one step: the answer's pattern.
+/// Asks the library for one step: result and mark, with a tab between.
 fn one_step(words: &[String]) -> Option<String> {
     let (name, words) = words.split_first()?;
     let step = STEPS.into_iter().find(|step| step.name() == name)?;
@@ -121,7 +123,7 @@ fn one_step(words: &[String]) -> Option<String> {
         (Step::Add | Step::Sub | Step::Mul, &[x, y]) => Question::two(x, y),
         _ => return None,
     };
-    Some(format!("{:08X}", Library.answer(step, question)))
+    Some(Library.answer(step, question).shown("\t"))
 }
 
 /// Asks the library for one pair: first, second and flags, with tabs between.

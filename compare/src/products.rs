@@ -125,5 +125,7 @@ pub fn overflow(r: &mut Random) -> Question {
         }
     }
     let target = r.within(253, 256);
-    Question::two(x, number(r, target + 127 - exponent))
+    // Factors of 12 bits have a product of 24, which lacks nothing but room.
+    let short = if r.once_in(4) { !0xFFF } else { !0 };
+    Question::two(x & short, number(r, target + 127 - exponent) & short)
 }

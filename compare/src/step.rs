@@ -1,4 +1,8 @@
-//! The four steps and what is asked of them.
+//! The four steps, what is asked of them, and what they answer.
+use crate::pattern::{is_finite, is_nan};
+
+/// A result and its mark.
+pub use crate::library::Step as Answer;
 
 #[derive(Clone, Copy, PartialEq, Eq, Debug)]
 pub enum Step {
@@ -38,11 +42,32 @@ impl Question {
         Question { x, y, z }
     }
 
+    /// The operands of `step`: what stands in the place of an unused one is none, and 0 stands for it here.
+    pub fn operands(self, step: Step) -> [u32; 3] {
+        [self.x, self.y, if step == Step::Fma { self.z } else { 0 }]
+    }
+
+    /// Whether every operand of `step` is.
+    pub fn is_finite(self, step: Step) -> bool {
+        self.operands(step).into_iter().all(is_finite)
+    }
+
+    /// Whether an operand of `step` is NaN.
+    pub fn has_nan(self, step: Step) -> bool {
+        self.operands(step).into_iter().any(is_nan)
+    }
+
     /// The operands of `step`, as hexadecimal patterns.
     pub fn shown(self, step: Step) -> String {
         match step {
             Step::Fma => format!("{:08X} {:08X} {:08X}", self.x, self.y, self.z),
             _ => format!("{:08X} {:08X}", self.x, self.y),
         }
+    }
+}
+
+impl Answer {
+    pub fn shown(self, between: &str) -> String {
+        format!("{:08X}{between}{}", self.result, self.mark)
     }
 }

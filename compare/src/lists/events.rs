@@ -1,4 +1,5 @@
 //! Lists of events: questions, and between them readings and adding calls that are refused.
+use super::model::{UNMARKED, WORDS};
 use super::subject::Question;
 use super::zeros;
 use crate::pairs::pair::Operation;
@@ -93,16 +94,35 @@ pub fn question(operation: u32, lent: u32, r: &mut Random) -> Question {
     Question { operation, x, y, lent }
 }
 
+/// As many words as a question of a list lends at most.
+pub const LENT: u32 = 90;
+
+/// Words of which a sheet can be made, as few as that or more.
+pub fn enough(r: &mut Random) -> u32 {
+    r.within(WORDS as i32, LENT as i32) as u32
+}
+
+/// Words that are too few, often as many as were enough before.
+pub fn too_few(r: &mut Random) -> u32 {
+    let least = if r.once_in(2) { UNMARKED } else { 0 };
+    r.within(least as i32, WORDS as i32 - 1) as u32
+}
+
+/// Either of the two.
+fn any_count(r: &mut Random) -> u32 {
+    r.within(0, LENT as i32) as u32
+}
+
 fn valid(r: &mut Random) -> Question {
-    let (operation, lent) = (r.within(1, 3) as u32, r.within(65, 70) as u32);
+    let (operation, lent) = (r.within(1, 3) as u32, enough(r));
     question(operation, lent, r)
 }
 
-/// Numbers from 0 to 5 and 0 to 70 words, either of them good more often than not.
+/// Numbers from 0 to 5 and 0 to 90 words, either of them good more often than not.
 fn any(r: &mut Random) -> Question {
     let operation = if r.once_in(3) { r.within(0, 5) } else { r.within(1, 3) };
-    let lent = if r.once_in(3) { r.within(0, 70) } else { r.within(65, 70) };
-    question(operation as u32, lent as u32, r)
+    let lent = if r.once_in(3) { any_count(r) } else { enough(r) };
+    question(operation as u32, lent, r)
 }
 
 fn event(r: &mut Random) -> Event {
@@ -131,13 +151,13 @@ fn refused(r: &mut Random) -> Call {
 
 fn often_refused(r: &mut Random) -> Event {
     let (operation, lent) = match r.within(0, 5) {
-        0 => (r.within(1, 3), r.within(65, 70)),
-        1 => (r.within(4, 5), r.within(0, 70)),
-        2 => (0, r.within(0, 70)),
-        3 => (-1, r.within(63, 66)),
-        _ => (r.within(1, 3), r.within(0, 64)),
+        0 => (r.within(1, 3), enough(r)),
+        1 => (r.within(4, 5), any_count(r)),
+        2 => (0, any_count(r)),
+        3 => (-1, r.within(WORDS as i32 - 2, WORDS as i32 + 1) as u32),
+        _ => (r.within(1, 3), too_few(r)),
     };
-    Event::Ask(question(operation as u32, lent as u32, r))
+    Event::Ask(question(operation as u32, lent, r))
 }
 
 fn cancelling(r: &mut Random) -> Vec<Event> {
@@ -156,7 +176,7 @@ fn cancelling(r: &mut Random) -> Vec<Event> {
 fn tiny(r: &mut Random) -> Event {
     let (x, y) = (r.within(1, 9) as u32, power(r.within(-3, 1)) | (r.bits(2) as u32) << 21);
     let operation = if r.once_in(6) { r.within(1, 2) } else { 3 };
-    Event::Ask(Question { operation: operation as u32, x: x | r.sign() << 31, y, lent: 65 })
+    Event::Ask(Question { operation: operation as u32, x: x | r.sign() << 31, y, lent: WORDS as u32 })
 }
 
 /// Sums alone, which fill both totals; products alone; the largest of either; any, with calls between; -0 alone.
@@ -164,16 +184,12 @@ const LONG: u64 = 6;
 
 fn long(number: u64, r: &mut Random) -> Vec<Event> {
     let large = |r: &mut Random| LARGEST ^ r.bits(22) as u32 ^ r.sign() << 31;
+    let asked = |operation: u32, x: u32, y: u32| Question { operation, x, y, lent: WORDS as u32 };
     let one = |r: &mut Random| match number {
-        0 => Question { operation: 1, x: r.pattern() & 0xBFFF_FFFF, y: r.pattern() & 0xBFFF_FFFF, lent: 65 },
-        1 => Question { operation: 2, x: power(126), y: SIGN | power(126) | r.bits(23) as u32, lent: 65 },
-        2 => Question { operation: 3, x: large(r), y: power(0) ^ r.sign() << 31, lent: 65 },
-        3 => Question {
-            operation: 3,
-            x: r.pattern() & 0xBFFF_FFFF | 0x2000_0000,
-            y: power(0) | r.bits(23) as u32,
-            lent: 65,
-        },
+        0 => asked(1, r.pattern() & 0xBFFF_FFFF, r.pattern() & 0xBFFF_FFFF),
+        1 => asked(2, power(126), SIGN | power(126) | r.bits(23) as u32),
+        2 => asked(3, large(r), power(0) ^ r.sign() << 31),
+        3 => asked(3, r.pattern() & 0xBFFF_FFFF | 0x2000_0000, power(0) | r.bits(23) as u32),
         4 => any(r),
         _ => zeros::minus(r),
     };

@@ -1,7 +1,6 @@
 //! Compares filling with the model: the answer, every lent word, and those around them.
-use super::events::{asked, question};
-use super::model;
-use super::model::Filled;
+use super::events::{asked, enough, question, too_few, LENT};
+use super::model::{self, Filled, WORDS};
 use super::subject::{Question, Subject};
 use crate::pairs::pair::OPERATIONS;
 use crate::random::Random;
@@ -10,7 +9,7 @@ use crate::workers::{self, Outcome};
 
 #[derive(Clone, Copy, PartialEq, Eq, Debug)]
 pub enum Shape {
-    /// Questions of one operation, of all the pairs' shapes, with 65 words or a few more.
+    /// Questions of one operation, of all the pairs' shapes, with 78 words or a few more.
     Good(u32),
     /// Operation numbers and lengths of every sort.
     Refused,
@@ -30,14 +29,18 @@ impl Shape {
         match self {
             Shape::Good(operation) => {
                 let (x, y) = asked(OPERATIONS[operation as usize - 1], r);
-                let lent = if r.once_in(4) { r.within(66, 80) } else { 65 };
-                Question { operation, x, y, lent: lent as u32 }
+                let lent = if r.once_in(4) { enough(r) } else { WORDS as u32 };
+                Question { operation, x, y, lent }
             }
             Shape::Refused => {
                 let operations = [0, 1, 2, 3, 4, 5, 0x8000_0001, 0x0100_0001, u32::MAX];
                 let operation = operations[r.within(0, operations.len() as i32 - 1) as usize];
-                let lent = if r.once_in(8) { r.within(80, 700) } else { r.within(0, 80) };
-                question(operation, lent as u32, r)
+                let lent = match r.within(0, 7) {
+                    0 => r.within(LENT as i32, 700) as u32,
+                    1 => too_few(r),
+                    _ => r.within(0, LENT as i32) as u32,
+                };
+                question(operation, lent, r)
             }
         }
     }

@@ -4,8 +4,14 @@ use crate::pairs::pair::{Flags, Operation, OPERATIONS};
 use crate::sheets::sheet::{sheet, LINES};
 use crate::step::Step;
 
-/// The words that a sheet takes: 13 lines of five.
-pub const WORDS: usize = 5 * LINES;
+/// The words of a line.
+pub const LINE: usize = 6;
+
+/// The words that a sheet takes: 13 lines of six.
+pub const WORDS: usize = LINE * LINES;
+
+/// What it took before its lines had marks.
+pub const UNMARKED: usize = WORDS - LINES;
 
 impl Filled {
     pub const fn refused(refusal: u32) -> Filled {
@@ -31,9 +37,9 @@ pub fn fill(number: u32, x: u32, y: u32, words: &mut [u32]) -> Filled {
     }
     let sheet = sheet(operation, x, y);
     words[..WORDS].fill(0);
-    for (line, room) in sheet.lines.iter().zip(words.chunks_mut(5)) {
+    for (line, room) in sheet.lines.iter().zip(words.chunks_mut(LINE)) {
         let q = line.operands;
-        room.copy_from_slice(&[step_number(line.step), q.x, q.y, q.z, line.result]);
+        room.copy_from_slice(&[step_number(line.step), q.x, q.y, q.z, line.result, line.mark]);
     }
     let lines = sheet.lines.len() as u32;
     Filled { refusal: 0, lines, first: sheet.first, second: sheet.second, flags: sheet.flags }

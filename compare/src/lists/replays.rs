@@ -1,6 +1,6 @@
 //! Replays of whole lists by one call, and those that are refused; the model of both.
 use super::book::Book;
-use super::events::{question, MOST};
+use super::events::{question, LENT, MOST};
 use super::fills::{before, wrong_words};
 use super::model;
 use super::subject::{Arrays, Lents, Question, Subject};
@@ -17,8 +17,6 @@ pub struct Replay {
 }
 
 const CLEARED: [u32; LENGTH] = [0; LENGTH];
-/// As many as a question of a list lends at most.
-const LENT: u32 = 70;
 
 impl Replay {
     pub fn of(questions: &[Question]) -> Replay {

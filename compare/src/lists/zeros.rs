@@ -1,8 +1,12 @@
 //! Lists of questions whose terms are all -0, and such with another zero or a number among them.
-use super::events::{question, with_calls, Event};
+use super::events::{enough, question, too_few, with_calls, Event};
+use super::model::WORDS;
 use super::subject::Question;
 use crate::pattern::{power, INFINITY, LARGEST, SIGN};
 use crate::random::Random;
+
+/// The fewest words of which a sheet is made.
+const LEAST: u32 = WORDS as u32;
 
 /// Of -0 alone; with one question of another zero, at the beginning, at the end and anywhere; of zeros of any sign; of -0 and numbers
 /// that cancel; and such as lead to nothing. All in turn.
@@ -18,7 +22,7 @@ pub fn list(number: u64, r: &mut Random) -> Vec<Event> {
             .extend((0..count).map(|_| with_calls(|r| if r.once_in(2) { plus(r) } else { minus(r) }, r))),
         5 => {
             let at = r.within(0, count) as usize;
-            let one = Question { operation: 1, x: power(0), y: 0, lent: 65 };
+            let one = Question { operation: 1, x: power(0), y: 0, lent: LEAST };
             events.insert(at, Event::Ask(one));
             events.push(Event::Ask(Question { x: SIGN | one.x, y: SIGN, ..one }));
         }
@@ -38,7 +42,7 @@ fn often_minus(r: &mut Random) -> Question {
 
 /// The sum of -0 and -0, the difference of -0 and +0, or a product of a zero whose signs differ.
 pub fn minus(r: &mut Random) -> Question {
-    let lent = r.within(65, 70) as u32;
+    let lent = enough(r);
     match r.within(1, 3) as u32 {
         3 => Question { lent, ..product(SIGN, r) },
         operation => Question { operation, x: SIGN, y: if operation == 1 { SIGN } else { 0 }, lent },
@@ -47,7 +51,7 @@ pub fn minus(r: &mut Random) -> Question {
 
 /// Zeros that are not all -0: +0 among two addends, or a product whose signs are alike.
 fn plus(r: &mut Random) -> Question {
-    let lent = r.within(65, 70) as u32;
+    let lent = enough(r);
     match r.within(1, 3) as u32 {
         3 => Question { lent, ..product(0, r) },
         operation => {
@@ -64,15 +68,15 @@ fn product(sign: u32, r: &mut Random) -> Question {
     let x = r.sign() << 31;
     let y = numbers[r.within(0, numbers.len() as i32 - 1) as usize] | (x ^ sign) & SIGN;
     let (x, y) = if r.once_in(2) { (x, y) } else { (y, x) };
-    Question { operation: 3, x, y, lent: 65 }
+    Question { operation: 3, x, y, lent: LEAST }
 }
 
 /// Zeros that are refused, products that are not exact, though some round to -0, and what is not finite.
 fn nothing(r: &mut Random) -> Question {
     match r.within(0, 3) {
-        0 => Question { lent: r.within(0, 64) as u32, ..plus(r) },
-        1 => question(r.within(4, 5) as u32, 65, r),
-        2 => Question { operation: 3, x: r.sign() << 31 | 1, y: power(r.within(-3, -1)), lent: 65 },
-        _ => Question { operation: r.within(1, 3) as u32, x: INFINITY, y: r.sign() << 31, lent: 65 },
+        0 => Question { lent: too_few(r), ..plus(r) },
+        1 => question(r.within(4, 5) as u32, LEAST, r),
+        2 => Question { operation: 3, x: r.sign() << 31 | 1, y: power(r.within(-3, -1)), lent: LEAST },
+        _ => Question { operation: r.within(1, 3) as u32, x: INFINITY, y: r.sign() << 31, lent: LEAST },
     }
 }

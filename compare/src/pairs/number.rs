@@ -24,6 +24,14 @@ impl Magnitude {
         Magnitude(limbs)
     }
 
+    /// The places of the lowest and of the highest bit that is set. A zero has none.
+    pub fn places(&self) -> Option<(u32, u32)> {
+        let lowest = self.0.iter().position(|&limb| limb != 0)?;
+        let highest = self.0.iter().rposition(|&limb| limb != 0)?;
+        let low = 64 * lowest as u32 + self.0[lowest].trailing_zeros();
+        Some((low, 64 * highest as u32 + 63 - self.0[highest].leading_zeros()))
+    }
+
     pub fn plus(&self, other: &Magnitude) -> Magnitude {
         let (mut sum, mut carry) = ([0; LIMBS], false);
         for (i, limb) in sum.iter_mut().enumerate() {

@@ -57,14 +57,14 @@ fn saturated(_: Step, q: Question, right: u32) -> u32 {
 }
 
 /// Half a unit in the last place of binary32, in units of binary64.
-const HALF: u64 = 1 << 28;
+pub const HALF: u64 = 1 << 28;
 
 fn just_above(bits: u64) -> bool {
     (HALF + 1..HALF + (1 << 21)).contains(&bits)
 }
 
 /// The bits that rounding drops from a result that is normal, as far as binary64 has them.
-fn dropped(step: Step, q: Question) -> Option<u64> {
+pub fn dropped(step: Step, q: Question) -> Option<u64> {
     let [x, y, z] = [q.x, q.y, q.z].map(|p| f64::from(f32::from_bits(p)));
     let result = match step {
         Step::Add => x + y,

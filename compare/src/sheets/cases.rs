@@ -2,20 +2,21 @@
 //! the steps of the processor; and the table of branches has to have every way that questions take.
 use super::files::branches;
 use super::{model, steps};
+use crate::marks;
 use crate::processor::Processor;
 use crate::questions::{question, SHAPES};
 use crate::random::Random;
-use crate::step::{Question, Step, STEPS};
+use crate::step::{Answer, Question, Step, STEPS};
 
 const QUESTION: &str = "sum\t3F800001\t33800000\n";
 
 const ANSWER: &str = "ask\t1\tsum\t3F800001\t33800000
-step\t1\tadd\t3F800001\t33800000\t-\t3F800002
-step\t2\tsub\t3F800002\t3F800001\t-\t34000000
-step\t3\tsub\t33800000\t34000000\t-\tB3800000
-step\t4\tmul\t3F7FFFFF\t3F800002\t-\t3F800001
-step\t5\tsub\t3F800001\t3F800002\t-\tB4000000
-step\t6\tmul\t40000000\tB3800000\t-\tB4000000
+step\t1\tadd\t3F800001\t33800000\t-\t3F800002\t1
+step\t2\tsub\t3F800002\t3F800001\t-\t34000000\t0
+step\t3\tsub\t33800000\t34000000\t-\tB3800000\t0
+step\t4\tmul\t3F7FFFFF\t3F800002\t-\t3F800001\t1
+step\t5\tsub\t3F800001\t3F800002\t-\tB4000000\t0
+step\t6\tmul\t40000000\tB3800000\t-\tB4000000\t0
 pair\t3F800001\t33800000\t-
 total\t3F800001\t33800000
 end\t1\t0
@@ -29,19 +30,19 @@ mul\t00000001\t7F800000
 ";
 
 const NAN_ANSWERS: &str = "ask\t1\tsum\t7FC00001\t00000000
-step\t1\tadd\t7FC00001\t00000000\t-\t7FC00001
+step\t1\tadd\t7FC00001\t00000000\t-\t7FC00001\t2
 pair\t7FC00001\t7FC00001\t-
 ask\t2\tdif\t3F800000\t7F812345
-step\t1\tadd\t3F800000\tFF812345\t-\tFFC12345
+step\t1\tadd\t3F800000\tFF812345\t-\tFFC12345\t2
 pair\tFFC12345\tFFC12345\tI
 ask\t3\tmul\tFFC12345\t7F800001
-step\t1\tmul\tFFC12345\t7F800001\t-\tFFC12345
+step\t1\tmul\tFFC12345\t7F800001\t-\tFFC12345\t2
 pair\tFFC12345\tFFC12345\tI
 ask\t4\tmul\t00000001\t7F800000
-step\t1\tmul\t00000001\t7F800000\t-\t7F800000
-step\t2\tmul\t3F000000\t00000001\t-\t00000000
-step\t3\tmul\t00000000\t7F800000\t-\t7FC00000
-step\t4\tfma\t00000000\t7F800000\tFFC00000\tFFC00000
+step\t1\tmul\t00000001\t7F800000\t-\t7F800000\t2
+step\t2\tmul\t3F000000\t00000001\t-\t00000000\t1
+step\t3\tmul\t00000000\t7F800000\t-\t7FC00000\t2
+step\t4\tfma\t00000000\t7F800000\tFFC00000\tFFC00000\t2
 pair\t7F800000\t7F800000\t-
 total\t00000000\t00000000
 end\t4\t0
@@ -116,8 +117,11 @@ const WAYS: u64 = 300_000;
 
 fn wrong_step(processor: Processor, seed: u64) -> Option<String> {
     let wrong = |step: Step, q: Question| {
-        let (model, right) = (steps::answer(step, q), processor.answer(step, q));
-        (model != right).then(|| format!("{} {}: {model:08X}, not {right:08X}", step.name(), q.shown(step)))
+        let (model, processor) = (steps::answer(step, q), processor.witness(step, q));
+        let right = Answer { result: processor.result, mark: processor.mark.unwrap_or(marks::mark(step, q)) };
+        (model != right).then(|| {
+            format!("{} {}: {}, not {}", step.name(), q.shown(step), model.shown(" "), right.shown(" "))
+        })
     };
     STEPS.into_iter().find_map(|step| {
         SHAPES.into_iter().find_map(|shape| {

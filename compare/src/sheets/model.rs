@@ -75,7 +75,8 @@ impl Page {
 
 /// A step's line: `-` stands for the third operand by the operation, whatever the word is.
 fn shown(number: usize, line: &Line) -> String {
-    let q = line.operands;
-    let third = if line.step == Step::Fma { format!("{:08X}", q.z) } else { "-".to_string() };
-    format!("step\t{number}\t{}\t{:08X}\t{:08X}\t{third}\t{:08X}\n", line.step.name(), q.x, q.y, line.result)
+    let Line { step, operands: q, result, mark } = line;
+    let third = if *step == Step::Fma { format!("{:08X}", q.z) } else { "-".to_string() };
+    let operands = format!("{:08X}\t{:08X}\t{third}", q.x, q.y);
+    format!("step\t{number}\t{}\t{operands}\t{result:08X}\t{mark}\n", step.name())
 }

@@ -4,7 +4,7 @@ use super::steps;
 use crate::pairs::model;
 use crate::pairs::pair::{Flags, Operation};
 use crate::pattern::{is_nan, magnitude, power, INFINITY, SIGN};
-use crate::step::{Question, Step};
+use crate::step::{Answer, Question, Step};
 
 const PSI: u32 = 0x3F7F_FFFF;
 const TWO: u32 = 0x4000_0000;
@@ -25,6 +25,7 @@ pub struct Line {
     pub step: Step,
     pub operands: Question,
     pub result: u32,
+    pub mark: u32,
 }
 
 /// The lines, and the foot with its flags.
@@ -89,8 +90,8 @@ impl Writer {
     }
 
     fn line(&mut self, step: Step, operands: Question) -> u32 {
-        let result = steps::answer(step, operands);
-        self.lines.push(Line { step, operands, result });
+        let Answer { result, mark } = steps::answer(step, operands);
+        self.lines.push(Line { step, operands, result, mark });
         result
     }
 

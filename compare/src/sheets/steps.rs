@@ -4,13 +4,13 @@
 use crate::pairs::model::largest_not_above;
 use crate::pairs::number::{Magnitude, Number, ONE};
 use crate::pattern::{is_finite, is_nan, magnitude, INFINITY, LARGEST, NAN, QUIET, SIGN};
-use crate::step::{Question, Step};
+use crate::step::{Answer, Question, Step};
 use std::cmp::Ordering;
 
 /// Where an operand is NaN, the first such is the result, quieted, and neither step nor other operands are looked at.
-pub fn answer(step: Step, q: Question) -> u32 {
+pub fn answer(step: Step, q: Question) -> Answer {
     if let Some(nan) = [q.x, q.y, q.z].into_iter().find(|&operand| is_nan(operand)) {
-        return nan | QUIET;
+        return special(nan | QUIET);
     }
     match step {
         Step::Add => add(q.x, q.y),
@@ -20,30 +20,35 @@ pub fn answer(step: Step, q: Question) -> u32 {
     }
 }
 
-fn add(x: u32, y: u32) -> u32 {
+/// Of operands that are not all finite.
+fn special(result: u32) -> Answer {
+    Answer { result, mark: 2 }
+}
+
+fn add(x: u32, y: u32) -> Answer {
     match (is_finite(x), is_finite(y)) {
         (true, true) => rounded(&Number::of(x).sum(&Number::of(y)), x & y & SIGN),
-        (true, false) => y,
-        (false, true) => x,
-        (false, false) => same_infinity(x, y),
+        (true, false) => special(y),
+        (false, true) => special(x),
+        (false, false) => special(same_infinity(x, y)),
     }
 }
 
-fn mul(x: u32, y: u32) -> u32 {
-    if let Some(special) = special_product(x, y) {
-        return special;
+fn mul(x: u32, y: u32) -> Answer {
+    match special_product(x, y) {
+        Some(result) => special(result),
+        None => rounded(&Number::product(x, y), (x ^ y) & SIGN),
     }
-    rounded(&Number::product(x, y), (x ^ y) & SIGN)
 }
 
 /// One rounding of the product plus the third operand.
-fn fma(x: u32, y: u32, z: u32) -> u32 {
+fn fma(x: u32, y: u32, z: u32) -> Answer {
     match (special_product(x, y), is_finite(z)) {
-        (Some(NAN), _) => NAN,
+        (Some(NAN), _) => special(NAN),
         (None, true) => rounded(&Number::product(x, y).sum(&Number::of(z)), (x ^ y) & z & SIGN),
-        (None, false) => z,
-        (Some(infinity), true) => infinity,
-        (Some(infinity), false) => same_infinity(infinity, z),
+        (None, false) => special(z),
+        (Some(infinity), true) => special(infinity),
+        (Some(infinity), false) => special(same_infinity(infinity, z)),
     }
 }
 
@@ -64,13 +69,16 @@ fn same_infinity(x: u32, y: u32) -> u32 {
     }
 }
 
-/// An exact zero has the sign that the caller says; what is rounded to zero keeps its own.
-fn rounded(exact: &Number, sign_of_zero: u32) -> u32 {
+/// An exact zero has the sign that the caller says; what is rounded to zero keeps its own. The mark is 0 where what the result stands
+/// for is the exact number.
+fn rounded(exact: &Number, sign_of_zero: u32) -> Answer {
     if exact.magnitude == Magnitude::ZERO {
-        return sign_of_zero;
+        return Answer { result: sign_of_zero, mark: 0 };
     }
     let sign = if exact.negative { SIGN } else { 0 };
-    sign | nearest(&exact.magnitude)
+    let nearest = nearest(&exact.magnitude);
+    let same = is_finite(nearest) && Number::of(nearest).magnitude == exact.magnitude;
+    Answer { result: sign | nearest, mark: if same { 0 } else { 1 } }
 }
 
 /// RNe: 2^128 - 2^103 itself is infinite.

@@ -19,10 +19,11 @@ use Rattle.accumulator_spec.proofs.Answers.{adding-done, after-done}
 use Rattle.accumulator_spec.proofs.Held.{total-same}
 use Rattle.accumulator_spec.proofs.Signs.{sign-comm, sign-one}
 use Rattle.accumulator_spec.proofs.TermAdded.{counted-term}
-use Rattle.accumulator_spec.proofs.Terms.{term-finite, digits-zero, special}
+use Rattle.rounding_spec.proofs.Multiple.{digits-zero}
+use Rattle.accumulator_spec.proofs.Terms.{term-finite, special}
 use Rattle.accumulator_words.specs.Inner.{afterPlaced}
 use Rattle.accumulator_words.specs.declared.Placed.{Placed}
-use Rattle.accumulator_words.proofs.Lent.{Takes}
+use Rattle.accumulator_fit.proofs.Lent.{Takes}
 use Rattle.accumulator_words.proofs.Placing.{same-integer}
 use Rattle.accumulator_add.specs.Inner.{noted}
 use Rattle.accumulator_add.proofs.Numbers.{by-refusal}

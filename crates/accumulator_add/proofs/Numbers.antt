@@ -7,8 +7,8 @@ use lib.Dec.{eqb}
 use Rattle.pattern_spec.specs.Answer.{Answer, refused, refusalOf}
 use Rattle.accumulator_spec.specs.Totals.{Term, finiteOperands, AddsNumbered}
 use Rattle.accumulator_spec.proofs.Answers.{adding-length, adding-unfit, adding-special, adding-full, refuses}
-use Rattle.accumulator_words.specs.Inner.{faultToAdd}
-use Rattle.accumulator_words.proofs.Lent.{Full, to-add}
+use Rattle.accumulator_fit.specs.Inner.{faultToAdd}
+use Rattle.accumulator_fit.proofs.Lent.{Full, to-add}
 
 -- an answer by its number
 pub by-refusal : {P : Type 0} {n : ℕ} {b : Answer (Unit {0})} (a : Answer (Unit {0})) → n ≡ refusalOf a → (a ≡ b) × P → (n ≡ refusalOf b) × P

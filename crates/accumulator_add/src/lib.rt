@@ -1,8 +1,8 @@
 // Terms of a total: patterns, and products of two (R6.2). A call answers by the refusal's number (R8.7), or by 0.
+use accumulator_fit::has_room;
+use accumulator_fit::refusal_to_add;
 use accumulator_spec::NUMBER_SIZE;
 use accumulator_spec::SIGN_WORD;
-use accumulator_words::fit::has_room;
-use accumulator_words::fit::refusal_to_add;
 use accumulator_words::place;
 use exact;
 use pattern::both_finite;

@@ -1,8 +1,8 @@
 // An old total, of 21 words, carried over into one of 22 (R6.14). The answer is the refusal's number (R8.17), or 0.
+use accumulator_fit::old::refusal_to_carry;
 use accumulator_spec::NUMBER_SIZE;
 use accumulator_spec::OLD_SIZE;
 use accumulator_spec::SIGN_WORD;
-use accumulator_words::old::refusal_to_carry;
 use choose::choose_pattern;
 ghost use mathlib.Core.Path.{_≡_};
 ghost use lib.ListN.{length, take};

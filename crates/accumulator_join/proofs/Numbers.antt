@@ -10,8 +10,8 @@ use Rattle.pattern_spec.specs.Answer.{refused, refusalOf}
 use Rattle.accumulator_spec.specs.Totals.{mostTerms, count}
 use Rattle.accumulator_spec.specs.Joins.{roomForBoth, joining, JoinsNumbered}
 use Rattle.accumulator_spec.proofs.Joining.{first-length, first-unfit, second-length, second-unfit, too-many, joins, refused-join, after-joined}
-use Rattle.accumulator_words.specs.Inner.{fault}
-use Rattle.accumulator_words.proofs.Lent.{Sound, by-number, sound}
+use Rattle.accumulator_fit.specs.Inner.{fault}
+use Rattle.accumulator_fit.proofs.Lent.{Sound, by-number, sound}
 use Rattle.accumulator_join.specs.Inner.{faultOfTwo, JoinsFit}
 
 module _ (f s : List ℕ) where

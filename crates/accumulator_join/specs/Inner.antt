@@ -7,7 +7,7 @@ use lib.Dec.{eqb}
 use lib.ListN.{length}
 use Rattle.accumulator_spec.specs.Words.{natural, wordsOfNatural}
 use Rattle.accumulator_spec.specs.Joins.{roomForBoth, joinedTotal}
-use Rattle.accumulator_words.specs.Inner.{fault}
+use Rattle.accumulator_fit.specs.Inner.{fault}
 
 -- the number of what is wrong with the first, or else with the second: 0 for two fit totals (R8.16)
 abbrev pub faultOfTwo : List ℕ → List ℕ → ℕ

@@ -1,8 +1,8 @@
 // Joining two totals (R6.9). The answer is the refusal's number (R8.16), or 0.
+use accumulator_fit::refusal;
 use accumulator_spec::MOST_TERMS;
 use accumulator_spec::NUMBER_SIZE;
 use accumulator_spec::SIGN_WORD;
-use accumulator_words::fit::refusal;
 use accumulator_words::wide;
 use choose::choose_pattern;
 ghost use mathlib.Core.Path.{_≡_};

@@ -4,8 +4,8 @@ use mathlib.Core.List.{List}
 use Prim.Native.Nat.{ℕ}
 use Rattle.accumulator_spec.specs.Totals.{reading}
 use Rattle.accumulator_spec.proofs.Answers.{reading-length, reading-unfit}
-use Rattle.accumulator_words.specs.Inner.{fault}
-use Rattle.accumulator_words.proofs.Lent.{by-number}
+use Rattle.accumulator_fit.specs.Inner.{fault}
+use Rattle.accumulator_fit.proofs.Lent.{by-number}
 use Rattle.accumulator_read.specs.Inner.{replied}
 
 pub fault-replied : (t : List ℕ) → (fault t ≡ 0 → ⊥) → replied (fault t) 0 0 ≡ reading t

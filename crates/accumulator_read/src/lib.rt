@@ -1,9 +1,9 @@
 // What a total reads: RN0 of its number, and RN0 of the number less that; -0 where all its terms have been (R6.5 to R6.8).
 mod leading;
 
+use accumulator_fit::refusal;
 use accumulator_spec::NUMBER_SIZE;
 use accumulator_spec::SIGN_WORD;
-use accumulator_words::fit::refusal;
 use accumulator_words::place;
 use leading::TOP;
 use leading::first_digits;

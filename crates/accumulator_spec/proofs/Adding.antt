@@ -10,6 +10,7 @@ use borrow.Author.Tests.{le-leb, leb-true, eqb-true, eqb-false, eq-eqb, ne-eqb}
 use lib.Dec.{eqb, leb, lit<}
 use lib.IntN.{ℤ, pos, negsuc, natAbs, subℕ, _+ℤ_}
 use lib.ListN.{length}
+use Rattle.pattern_spec.proofs.Truth.{both-of}
 use Rattle.pattern_spec.specs.Answer.{Answer, refused, done}
 use Rattle.accumulator_spec.specs.Words.{Words}
 use Rattle.pattern_spec.specs.Exact.{whole}
@@ -20,7 +21,7 @@ use Rattle.accumulator_spec.specs.SignTheorems.{WithinIs, UnfitSigns}
 use Rattle.accumulator_spec.proofs.Answers.{adding-done, after-done}
 use Rattle.accumulator_spec.proofs.Held.{total-number, total-count, total-sign, total-full, total-words}
 use Rattle.accumulator_spec.proofs.Rest.{abs-sub}
-use Rattle.accumulator_spec.proofs.Signs.{both, sign-le, sign-zero, zero-sign, term-sign-zero, minus-zero-sign, minus-zero-whole}
+use Rattle.accumulator_spec.proofs.Signs.{sign-le, sign-zero, zero-sign, term-sign-zero, minus-zero-sign, minus-zero-whole}
 use Rattle.accumulator_spec.proofs.TermBound.{term-bound}
 
 -- ---- magnitudes
@@ -52,7 +53,7 @@ pub record Fits (z : ℤ) (n w : ℕ) : Type 0 where
 
 pub limits : (t : List ℕ) → withinLimits t ≡ true → (count t ≤ mostTerms) × (natAbs (number t) ≤ count t * 2 ^ 554)
 limits t e =
-    let p = both (leb (count t) mostTerms) (leb (natAbs (number t)) (count t * 2 ^ 554)) e in
+    let p = both-of (leb (count t) mostTerms) (leb (natAbs (number t)) (count t * 2 ^ 554)) e in
     (leb-true (count t) mostTerms (p .0), leb-true (natAbs (number t)) (count t * 2 ^ 554) (p .1))
 
 pub limits-within : (t : List ℕ) → count t ≤ mostTerms → natAbs (number t) ≤ count t * 2 ^ 554 → withinLimits t ≡ true
@@ -65,9 +66,9 @@ no-magnitude (negsuc n) e = absurd (omega (arith, e))
 pub fit-bounds : (t : List ℕ) → fit t ≡ true → Fits (number t) (count t) (signWord t)
 unfolding fit
 fit-bounds t e =
-    let p = both (withinLimits t) (signFits t) e in
+    let p = both-of (withinLimits t) (signFits t) e in
     let l = limits t (p .0) in
-    let q = both (leb (signWord t) 1) (cond (eqb (signWord t) 0) (eqb (natAbs (number t)) 0) (not (eqb (count t) 0))) (p .1) in
+    let q = both-of (leb (signWord t) 1) (cond (eqb (signWord t) 0) (eqb (natAbs (number t)) 0) (not (eqb (count t) 0))) (p .1) in
     record {
       few = l .0;
       small = l .1;

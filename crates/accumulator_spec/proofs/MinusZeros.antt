@@ -1,6 +1,6 @@
 -- Terms of -0 and columns of them: which they are, and what such a column holds and reads; sign words by computation.
 use mathlib.Core.Path.{_≡_, refl, sym, ap, ap₂, _∙_}
-use mathlib.Core.Bool.{true≢false, Bool, true, false, _&&_, _||_}
+use mathlib.Core.Bool.{true≢false, Bool, true, false, _&&_, _||_, or-false}
 use mathlib.Core.List.{List, [], _∷_}
 use Prim.Native.Nat.{ℕ, zero, suc, _*_, _^_, _≤_, _<_}
 use native.Mathlib.Nat.{le-trans, le-of-eq, zero-mul, mul-zero, mul-pos}
@@ -40,10 +40,6 @@ unfolding finer
 finer-zero nan = refl
 finer-zero (infinite s) = refl
 finer-zero (finite s a) = ap (λ (c : Bool). s && c) (no-product a (2 ^ 149) ∙ or-false (eqb a 0))
-  where
-    or-false : (c : Bool) → (c || false) ≡ c
-    or-false true = refl
-    or-false false = refl
 
 pub pattern-minus-zero : PatternMinusZero
 unfolding encode bits size decode unsigned magnitude fields

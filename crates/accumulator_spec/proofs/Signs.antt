@@ -8,6 +8,7 @@ use borrow.Author.Tests.{eqb-true, eq-eqb, ne-eqb}
 use lib.Dec.{eqb}
 use lib.IntN.{ℤ, pos, _+ℤ_}
 use lib.ListN.{length}
+use Rattle.pattern_spec.proofs.Truth.{both-of}
 use Rattle.rounding_spec.specs.Value.{Value, nan, infinite, finite}
 use Rattle.pattern_spec.specs.Exact.{whole, int}
 use Rattle.accumulator_spec.specs.Totals.{Term, exactTerm, isMinusZero, termSign, signOfBoth}
@@ -15,10 +16,6 @@ use Rattle.accumulator_spec.specs.Columns.{AllMinusZero, columnSum, colu
 use Rattle.accumulator_spec.specs.SignTheorems.{SignOfBothIs}
 
 -- ---- of two
-pub both : (a b : Bool) → a && b ≡ true → (a ≡ true) × (b ≡ true)
-both true b e = (refl, e)
-both false b e = absurd (true≢false (sym e))
-
 -- by whether the words are 0
 abbrev signed : Bool → ℕ
 signed p = cond p 0 1
@@ -36,7 +33,7 @@ sign-le v w = signed-le (eqb v 0 && eqb w 0)
 
 pub sign-zero : (v w : ℕ) → signOfBoth v w ≡ 0 → (v ≡ 0) × (w ≡ 0)
 sign-zero v w e =
-    let p = both (eqb v 0) (eqb w 0) (sym (shown (eqb v 0 && eqb w 0)) ∙ eq-eqb (signOfBoth v w) 0 e) in
+    let p = both-of (eqb v 0) (eqb w 0) (sym (shown (eqb v 0 && eqb w 0)) ∙ eq-eqb (signOfBoth v w) 0 e) in
     (eqb-true v 0 (p .0), eqb-true w 0 (p .1))
 
 pub zero-sign : (v w : ℕ) → v ≡ 0 → w ≡ 0 → signOfBoth v w ≡ 0
@@ -86,7 +83,7 @@ sign-one v w n = ap (λ (b : Bool). signed (eqb v 0 && b)) (ne-eqb w 0 n) ∙ go
 pub minus-zero-value : (v : Value) → isMinusZero v ≡ true → v ≡ finite true 0
 minus-zero-value nan e = absurd (true≢false (sym e))
 minus-zero-value (infinite s) e = absurd (true≢false (sym e))
-minus-zero-value (finite s a) e = let p = both s (eqb a 0) e in ap₂ finite (p .0) (eqb-true a 0 (p .1))
+minus-zero-value (finite s a) e = let p = both-of s (eqb a 0) e in ap₂ finite (p .0) (eqb-true a 0 (p .1))
 
 pub term-sign-zero : (x : Term) → termSign x ≡ 0 → isMinusZero (exactTerm x) ≡ true
 term-sign-zero x e = go (isMinusZero (exactTerm x)) e

@@ -14,45 +14,16 @@ use Rattle.pattern_spec.specs.Answer.{Answer, refused, done}
 use Rattle.rounding_spec.specs.Format.{binary32}
 use Rattle.rounding_spec.specs.Value.{Value, nan, infinite, finite, decode, isFinite}
 use Rattle.pattern_spec.specs.Exact.{whole, int, times, finer}
+use Rattle.pattern_spec.proofs.Finiteness.{finer-finite, times-finite}
+use Rattle.rounding_spec.proofs.Multiple.{digits-zero}
 use Rattle.accumulator_spec.specs.Totals.{totalSize, mostTerms, number, count, signWord, totalOf, fit}
 use Rattle.accumulator_spec.specs.Totals.{Term, ofPattern, ofProduct, finiteOperands, exactTerm, isMinusZero, signOfBoth, adding, afterAdding}
 use Rattle.accumulator_spec.proofs.Answers.{adding-special, adding-done, after-refused, after-done}
 
--- ---- a product is finite where both operands are
-special-choice : (c s : Bool) → isFinite (cond c nan (infinite s)) ≡ false
-special-choice true s = refl
-special-choice false s = refl
-
-times-finite : (v w : Value) → isFinite (times v w) ≡ (isFinite v && isFinite w)
-unfolding times
-times-finite nan w = refl
-times-finite (infinite s) nan = refl
-times-finite (infinite s) (infinite t) = refl
-times-finite (infinite s) (finite t b) = special-choice (eqb b 0) _
-times-finite (finite s a) nan = refl
-times-finite (finite s a) (infinite t) = special-choice (eqb a 0) _
-times-finite (finite s a) (finite t b) = refl
-
--- ---- so that a term is refused by its exact value
-finer-finite : (v : Value) → isFinite (finer binary32 v) ≡ isFinite v
-unfolding finer
-finer-finite nan = refl
-finer-finite (infinite s) = refl
-finer-finite (finite s a) = refl
-
+-- ---- a term is refused by its exact value
 pub term-finite : (x : Term) → finiteOperands x ≡ isFinite (exactTerm x)
-term-finite (ofPattern x) = sym (finer-finite (decode binary32 x))
+term-finite (ofPattern x) = sym (finer-finite binary32 (decode binary32 x))
 term-finite (ofProduct x y) = sym (times-finite (decode binary32 x) (decode binary32 y))
-
--- ---- digits count nothing where the significand is 0
-pub digits-zero : (sig exp : ℕ) → eqb (sig * 2 ^ exp) 0 ≡ eqb sig 0
-digits-zero zero exp = ap (λ (n : ℕ). eqb n 0) (zero-mul (2 ^ exp))
-digits-zero (suc sig) exp =
-    let h : 0 < suc sig * 2 ^ exp = mul-pos (omega arith) (pow-pos exp) in
-    ne-eqb (suc sig * 2 ^ exp) 0 (λ (e : suc sig * 2 ^ exp ≡ 0). some (suc sig * 2 ^ exp) h e) ∙ sym (ne-eqb (suc sig) 0 (λ (e : suc sig ≡ 0). omega arith))
-  where
-    some : (n : ℕ) → 0 < n → n ≡ 0 → ⊥
-    some n h e = omega arith
 
 -- ---- of a fit total
 module _ (t : List ℕ) (x : Term) (full : length t ≡ totalSize) (fits : fit t ≡ true) where

@@ -12,6 +12,7 @@ use lib.IntN.{ℤ, natAbs}
 use lib.Pow.{pow-pos}
 use lib.ListN.{length, take, drop, set, getD, replicate, replicate-append-replicate, drop-of-length-le}
 use lib.Seq.{drop-cons, take-suc-set}
+use Rattle.pattern_spec.proofs.Truth.{both-of}
 use Rattle.accumulator_spec.specs.Words.{Words, allZero, natural, integer, complement}
 use Rattle.accumulator_spec.specs.Totals.{zeros, totalSize, isCleared}
 use Rattle.accumulator_spec.specs.Theorems.{ClearedZeros}
@@ -59,20 +60,16 @@ zero-integer ws words =
     below r n h = elim (decLe r n) [ yes l ↦ absurd (h l) | no l ↦ omega arith ]
 
 -- ---- cleared totals
-both : (a b : Bool) → a && b ≡ true → (a ≡ true) × (b ≡ true)
-both true b e = (refl, e)
-both false b e = absurd (true≢false (sym e))
-
 all-zeros : (ws : List ℕ) → allZero ws ≡ true → ws ≡ replicate (length ws) 0
 unfolding allZero
 all-zeros [] e = refl
 all-zeros (w ∷ ws) e =
-    let p = both (eqb w 0) (allZero ws) e in
+    let p = both-of (eqb w 0) (allZero ws) e in
     ap₂ {C = List ℕ} (λ (v : ℕ) (vs : List ℕ). v ∷ vs) (eqb-true w 0 (p .0)) (all-zeros ws (p .1))
 
 pub is-zeros : (t : List ℕ) → isCleared t ≡ true → t ≡ zeros
 is-zeros t e =
-    let p = both (eqb (length t) totalSize) (allZero t) e in
+    let p = both-of (eqb (length t) totalSize) (allZero t) e in
     all-zeros t (p .1) ∙ ap (λ (k : ℕ). replicate k 0) (eqb-true (length t) totalSize (p .0))
 
 pub cleared-zeros : ClearedZeros

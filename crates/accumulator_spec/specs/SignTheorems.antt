@@ -95,12 +95,13 @@ CarriesMeans =
 abbrev pub CarriesNumberedMeans : Type 0
 CarriesNumberedMeans = (old new after : List ℕ) (n : ℕ) → CarriesNumbered old new n after → CarriedAs (λ k. k) 0 old new n after
 
--- R6.13: which old totals are fit, and what they read
+-- R6.13: which old totals are fit
 abbrev pub FitOldIs : Type 0
 FitOldIs =
     (t : List ℕ)
     → FitOld t ↔ ((length t ≡ 21) × Words t × (count t ≤ mostTerms) × (natAbs (number t) ≤ count t * 2 ^ 554))
 
+-- and what they read
 abbrev pub OldReads : Type 0
 OldReads =
     (t : List ℕ)

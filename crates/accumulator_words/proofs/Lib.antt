@@ -1,4 +1,2 @@
-pub mod Limit
-pub mod Lent
 pub mod Significand
 pub mod Placing

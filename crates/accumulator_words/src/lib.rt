@@ -1,7 +1,4 @@
-// Words of 32 bits, lowest first: a term goes into the number that they hold; whether they are all zero; whether they are a fit total.
-pub mod fit;
-pub mod old;
-
+// Words of 32 bits, lowest first: a term goes into the number that they hold; whether they are all zero.
 use choose::choose;
 use choose::choose_pattern;
 ghost use mathlib.Core.Path.{_≡_};

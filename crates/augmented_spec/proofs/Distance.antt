@@ -12,16 +12,11 @@ use Rattle.rounding_spec.specs.Nearest.{dist}
 use Rattle.rounding_spec.specs.Value.{finite}
 use Rattle.rounding_spec.proofs.Compare.{tri}
 use Rattle.pattern_spec.specs.Exact.{int}
-use Rattle.pattern_spec.proofs.Integers.{plus-exact, int-not}
+use Rattle.pattern_spec.proofs.Integers.{plus-exact, int-not, int-size}
 use Rattle.pattern_spec.proofs.Sums.{like?, sum-same, sum-left, sum-right, sum-none}
 use Rattle.augmented_spec.proofs.Second.{less-is}
 
 -- ---- one number
-pub int-size : (s : Bool) (a : ℕ) → natAbs (int s a) ≡ a
-int-size false a = refl
-int-size true zero = refl
-int-size true (suc a) = refl
-
 pub int-one : (s : Bool) (a b : ℕ) → int s a ≡ int s b → a ≡ b
 int-one s a b e = sym (int-size s a) ∙ ap natAbs e ∙ int-size s b
 

@@ -12,6 +12,7 @@ use Rattle.pattern_spec.specs.Exact.{negate}
 use Rattle.pattern_spec.proofs.Classified.{decode-flip}
 use Rattle.augmented_spec.specs.declared.Pair.{Pair}
 use Rattle.augmented_spec.specs.Pairs.{pairOf, invalid, overflowed, flagsOf, answer}
+use Rattle.pattern_spec.proofs.Finiteness.{negate-finite}
 use Rattle.augmented_spec.specs.Direct.{Operation, sum, difference, product, none, OX, UX}
 use Rattle.augmented_spec.specs.Theorems.{FiniteOperands, secondOperand}
 use Rattle.augmented_spec.proofs.Second.{head, first-finite, first-infinite}
@@ -19,15 +20,9 @@ use Rattle.augmented_spec.proofs.FlagSets.{finite-flags}
 use Rattle.augmented_spec.proofs.Read.{first, underflow, direct-answer, underflow-finite}
 use Rattle.augmented_spec.proofs.FiniteOperands.{number}
 
-finite-negated : (v : Value) → isFinite (negate v) ≡ isFinite v
-unfolding negate
-finite-negated nan = refl
-finite-negated (infinite s) = refl
-finite-negated (finite s a) = refl
-
 pub taken-finite : (o : Operation) (F : Format) (y : ℕ) → y < 2 * signBit F → isFinite (decode F (secondOperand o F y)) ≡ isFinite (decode F y)
 taken-finite sum F y w = refl
-taken-finite difference F y w = ap isFinite (decode-flip F y w) ∙ finite-negated (decode F y)
+taken-finite difference F y w = ap isFinite (decode-flip F y w) ∙ negate-finite (decode F y)
 taken-finite product F y w = refl
 
 sum-underflow : (o : Operation) (F : Format) (x y : ℕ) → o ≢ product → underflow o F x y ≡ false

@@ -20,7 +20,7 @@ use Rattle.augmented_spec.specs.declared.Pair.{Pair}
 use Rattle.augmented_spec.specs.Pairs.{pairOf, exactProduct}
 use Rattle.augmented_spec.specs.Direct.{Operation, sum, difference, product, exactResult}
 use Rattle.augmented_spec.specs.Theorems.{zeroSign, FiniteOperands}
-use Rattle.augmented_spec.proofs.Distance.{int-size}
+use Rattle.pattern_spec.proofs.Integers.{int-size}
 use Rattle.augmented_spec.proofs.Read.{exactFor, first-read, second-read}
 use Rattle.augmented_spec.proofs.Second.{head, left, up, tail, first-finite, pair-second, first-infinite}
 

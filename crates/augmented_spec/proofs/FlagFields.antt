@@ -12,6 +12,7 @@ use Rattle.rounding_spec.specs.Value.{Value, nan, infinite, finite, decode, isN
 use Rattle.rounding_spec.proofs.NaN.{differs, number}
 use Rattle.pattern_spec.specs.Exact.{int}
 use Rattle.pattern_spec.proofs.Classified.{decode-flip, nan-negated}
+use Rattle.pattern_spec.proofs.Finiteness.{number-of}
 use Rattle.augmented_spec.specs.declared.Pair.{Pair}
 use Rattle.augmented_spec.specs.Pairs.{pairOf, invalid, overflowed, underflowed, answer, exactProduct}
 use Rattle.augmented_spec.specs.Direct.{Operation, sum, difference, product, directPair}
@@ -28,12 +29,6 @@ pub flag-set-fields : FlagSetFields
 flag-set-fields = ((refl, refl, refl, refl), (refl, refl, refl, refl), (refl, refl, refl, refl), (refl, refl, refl, refl))
 
 -- ---- kinds of values
--- a finite value has a sign and a magnitude
-pub number-of : (v : Value) → isFinite v ≡ true → (s : Bool) × (a : ℕ) × (v ≡ finite s a)
-number-of nan e = absurd (false≢true e)
-number-of (infinite s) e = absurd (false≢true e)
-number-of (finite s a) e = (s, a, refl)
-
 taken-number : (o : Operation) (F : Format) (y : ℕ) → y < 2 * signBit F → isNaN (decode F (secondOperand o F y)) ≡ isNaN (decode F y)
 taken-number sum F y w = refl
 taken-number difference F y w = ap isNaN (decode-flip F y w) ∙ nan-negated (decode F y)

@@ -82,8 +82,8 @@ fn special(x: u32, y: u32) -> u64
     requires { ⌜ isFinite (exactSum binary32 x y) ≡ false ⌝ }
     ensures { λ r. ⌜ r ≡ inOneWord (x ∷ y ∷ []) (pairOf binary32 (exactSum binary32 x y)) ⌝ }
 {
-    let r = binary32::add(x, y);
-    in_one_word(r, r)
+    let sum = binary32::add(x, y);
+    in_one_word(sum.result, sum.result)
 }
 
 // Two operands so far apart that they are their own pair, but for the sign of a zero.

@@ -1,4 +1,12 @@
 // Sums of two patterns, rounded once. An addend is a sign, a significand and an exponent: s, m, e and t, n, d.
+pub mod marks;
+
+use crate::marks::rounded;
+use crate::marks::special;
+use binary32_spec::EXACT;
+use binary32_spec::Outcome;
+use binary32_spec::ROUNDED;
+use choose::choose_pattern;
 use exact::signed_sum;
 use pattern::classify;
 use pattern::infinity;
@@ -7,26 +15,27 @@ use pattern::nan_of_two;
 use pattern::smaller;
 use pattern_spec::Class;
 use pattern_spec::NAN;
-use rounding_spec::Ties;
 ghost use mathlib.Core.Path.{_≡_};
 ghost use Prim.Native.Nat.{_+_, _*_, _^_, _≤_, _<_};
-ghost use Rattle.rounding_spec.specs.declared.Ties.the-variants.{ToEven};
 ghost use Rattle.rounding_spec.specs.Format.{binary32};
-ghost use Rattle.rounding_spec.specs.Value.{infinite, finite, encode, round};
-ghost use Rattle.pattern_spec.specs.Exact.{plusFinite, plus};
-ghost use Rattle.binary32_spec.specs.Steps.{addValue, addStep};
+ghost use Rattle.rounding_spec.specs.Value.{infinite, finite, encode};
+ghost use Rattle.pattern_spec.specs.Exact.{plusFinite, plus, finer};
+ghost use Rattle.binary32_spec.specs.Steps.{addStep};
+ghost use Rattle.binary32_spec.specs.Marks.{addMark};
+ghost use Rattle.binary32_spec.specs.Inner.{outcome};
 ghost use Rattle.pattern_spec.specs.Classes.{valueOf};
 ghost use Rattle.pattern_spec.specs.Inner.{Operand, Below, Bounded};
 
 // A NaN is larger than every number, so that behind the first arm no operand is NaN.
-pub fn of_patterns(x: u32, y: u32) -> u32
-    ensures { λ r. ⌜ r ≡ addStep x y ⌝ }
+pub fn of_patterns(x: u32, y: u32) -> Outcome
+    ensures { λ r. ⌜ r .result ≡ addStep x y ⌝ }
+    ensures { λ r. ⌜ r .mark ≡ addMark x y ⌝ }
 {
     let q = smaller(x, y);
     let a = classify(larger(x, y));
     match a {
-        Class::NotANumber => nan_of_two(x, y),
-        Class::Infinite(s) => infinite_plus(s, classify(q)),
+        Class::NotANumber => special(nan_of_two(x, y)),
+        Class::Infinite(s) => special(infinite_plus(s, classify(q))),
         Class::Finite {
             sign: s,
             sig: m,
@@ -50,15 +59,15 @@ pub fn infinite_plus(s: bool, b: Class) -> u32
     }
 }
 
-fn finite_plus(s: bool, m: u64, e: u16, b: Class) -> u32
+fn finite_plus(s: bool, m: u64, e: u16, b: Class) -> Outcome
     requires { ⌜ Operand m e ⌝ }
     requires { ⌜ Bounded Operand b ⌝ }
     requires { ⌜ Below e b ⌝ }
-    ensures { λ r. ⌜ r ≡ encode binary32 (addValue binary32 (finite s (m * 2 ^ e)) (valueOf b)) ⌝ }
+    ensures { λ r. ⌜ r ≡ outcome (finer binary32 (plus (finite s (m * 2 ^ e)) (valueOf b))) ⌝ }
 {
     match b {
-        Class::NotANumber => NAN,
-        Class::Infinite(t) => infinity(t),
+        Class::NotANumber => special(NAN),
+        Class::Infinite(t) => special(infinity(t)),
         Class::Finite {
             sign: t,
             sig: n,
@@ -67,25 +76,28 @@ fn finite_plus(s: bool, m: u64, e: u16, b: Class) -> u32
     }
 }
 
-// From 26 places on the second operand does not reach a quarter of the first one's last place; up to 39 the first one's shifted
-// significand fits 63 bits. 31 is between.
-fn finite_sum(s: bool, m: u64, e: u16, t: bool, n: u64, d: u16) -> u32
+// From 26 places on the second operand does not reach a quarter of the first one's last place, and is lost unless it is zero; up to 39 the
+// first one's shifted significand fits 63 bits. 31 is between.
+fn finite_sum(s: bool, m: u64, e: u16, t: bool, n: u64, d: u16) -> Outcome
     requires { ⌜ d ≤ e ⌝ }
     requires { ⌜ Operand m e ⌝ }
     requires { ⌜ Operand n d ⌝ }
-    ensures { λ r. ⌜ r ≡ encode binary32 (addValue binary32 (finite s (m * 2 ^ e)) (finite t (n * 2 ^ d))) ⌝ }
+    ensures { λ r. ⌜ r ≡ outcome (finer binary32 (plus (finite s (m * 2 ^ e)) (finite t (n * 2 ^ d)))) ⌝ }
 {
     let gap = e - d;
     if gap > 31 {
-        return rounding::packed(s, e as u64, m);
+        return Outcome {
+            result: rounding::packed(s, e as u64, m),
+            mark: choose_pattern(n == 0, EXACT, ROUNDED),
+        };
     }
     round_sum(s, m << gap, t, n, d + 149)
 }
 
-pub fn round_sum(s: bool, a: u64, t: bool, b: u64, exp: u16) -> u32
+pub fn round_sum(s: bool, a: u64, t: bool, b: u64, exp: u16) -> Outcome
     requires { ⌜ (a < 2 ^ 63) × (b < 2 ^ 63) ⌝ }
-    ensures { λ r. ⌜ r ≡ encode binary32 (round ToEven binary32 (plusFinite s (a * 2 ^ exp) t (b * 2 ^ exp))) ⌝ }
+    ensures { λ r. ⌜ r ≡ outcome (plusFinite s (a * 2 ^ exp) t (b * 2 ^ exp)) ⌝ }
 {
     let sum = signed_sum(s, a, t, b);
-    rounding::round(Ties::ToEven, sum.sign, sum.sig, exp)
+    rounded(sum.sign, sum.sig, exp)
 }

@@ -1,6 +1,8 @@
 // The sum of a product and a third operand, both in units of 2^-298, rounded once.
 use binary32_add::infinite_plus;
+use binary32_add::marks::special;
 use binary32_add::round_sum;
+use binary32_spec::Outcome;
 use choose::choose;
 use choose::choose_exponent;
 use choose::choose_sign;
@@ -13,23 +15,24 @@ use pattern_spec::Class;
 ghost use mathlib.Core.Path.{_≡_};
 ghost use mathlib.Core.List.{[], _∷_};
 ghost use Prim.Native.Nat.{_+_, _-_, _*_, _^_, _≤_, _<_};
-ghost use Rattle.rounding_spec.specs.declared.Ties.the-variants.{ToEven};
 ghost use Rattle.rounding_spec.specs.Format.{binary32};
-ghost use Rattle.rounding_spec.specs.Value.{infinite, finite, decode, encode, round};
+ghost use Rattle.rounding_spec.specs.Value.{infinite, finite, decode};
 ghost use Rattle.pattern_spec.specs.Exact.{plusFinite, plus, finer};
 ghost use Rattle.binary32_spec.specs.Steps.{result, fmaStep};
+ghost use Rattle.binary32_spec.specs.Marks.{fmaMark};
 ghost use Rattle.pattern_spec.specs.Inner.{Product, Jammed};
-ghost use Rattle.binary32_spec.specs.Inner.{Normal, Reaches};
+ghost use Rattle.binary32_spec.specs.Inner.{outcome, outcomeOf, Normal, Reaches};
 ghost use Rattle.binary32_fma.specs.Inner.{Ordered};
 
 // A product, which counts 2^-298, and a third operand, which counts 2^-149.
-pub fn of_patterns(x: u32, y: u32, z: u32) -> u32
-    ensures { λ r. ⌜ r ≡ fmaStep x y z ⌝ }
+pub fn of_patterns(x: u32, y: u32, z: u32) -> Outcome
+    ensures { λ r. ⌜ r .result ≡ fmaStep x y z ⌝ }
+    ensures { λ r. ⌜ r .mark ≡ fmaMark x y z ⌝ }
 {
     let p = exact::product(x, y);
     match p {
-        Class::NotANumber => nan_of_three(x, y, z),
-        Class::Infinite(s) => infinite_product_plus(s, z),
+        Class::NotANumber => special(nan_of_three(x, y, z)),
+        Class::Infinite(s) => special(infinite_product_plus(s, z)),
         Class::Finite {
             sign: s,
             sig: m,
@@ -47,15 +50,14 @@ fn infinite_product_plus(s: bool, z: u32) -> u32
     infinite_plus(s, classify(z))
 }
 
-fn finite_product_plus(s: bool, m: u64, e: u16, z: u32) -> u32
+fn finite_product_plus(s: bool, m: u64, e: u16, z: u32) -> Outcome
     requires { ⌜ Product m e ⌝ }
-    ensures { λ r. ⌜ r ≡ result binary32 (z ∷ [])
-        (round ToEven binary32 (plus (finite s (m * 2 ^ e)) (finer binary32 (decode binary32 z)))) ⌝ }
+    ensures { λ r. ⌜ r ≡ outcomeOf (z ∷ []) (plus (finite s (m * 2 ^ e)) (finer binary32 (decode binary32 z))) ⌝ }
 {
     let c = classify(z);
     match c {
-        Class::NotANumber => quieted(z),
-        Class::Infinite(t) => infinity(t),
+        Class::NotANumber => special(quieted(z)),
+        Class::Infinite(t) => special(infinity(t)),
         Class::Finite {
             sign: t,
             sig: n,
@@ -65,10 +67,10 @@ fn finite_product_plus(s: bool, m: u64, e: u16, z: u32) -> u32
 }
 
 // A product of up to 48 digits and an operand of up to 24, which is normalised so that subnormal ones stand as far up as others.
-fn fused_sum(s: bool, p: u64, i: u16, t: bool, c: u64, j: u16) -> u32
+fn fused_sum(s: bool, p: u64, i: u16, t: bool, c: u64, j: u16) -> Outcome
     requires { ⌜ Product p i ⌝ }
     requires { ⌜ (c < 2 ^ 24) × (149 ≤ j) ⌝ }
-    ensures { λ r. ⌜ r ≡ encode binary32 (round ToEven binary32 (plusFinite s (p * 2 ^ i) t (c * 2 ^ j))) ⌝ }
+    ensures { λ r. ⌜ r ≡ outcome (plusFinite s (p * 2 ^ i) t (c * 2 ^ j)) ⌝ }
 {
     if c == 0 {
         return round_sum(s, p, t, 0, i);
@@ -125,9 +127,9 @@ fn ordered(s: bool, p: u64, i: u16, t: bool, z: u64, k: u16) -> Addends
 }
 
 // The first goes up by the whole way or all its room, and the second down by the rest of the way.
-fn aligned(x: Addends) -> u32
+fn aligned(x: Addends) -> Outcome
     requires { ⌜ Reaches (x .a) (x .i) (x .b) (x .j) (x .room) ⌝ }
-    ensures { λ r. ⌜ r ≡ encode binary32 (round ToEven binary32 (plusFinite (x .s) (x .a * 2 ^ x .i) (x .t) (x .b * 2 ^ x .j))) ⌝ }
+    ensures { λ r. ⌜ r ≡ outcome (plusFinite (x .s) (x .a * 2 ^ x .i) (x .t) (x .b * 2 ^ x .j)) ⌝ }
 {
     let gap = x.i - x.j;
     let up = choose_exponent(gap <= x.room, gap, x.room);

@@ -17,7 +17,7 @@ use Rattle.binary32_spec.specs.Theorems.{InfiniteFactors, StepNaN, StepI
 use Rattle.binary32_spec.proofs.Result.{add-step, sub-step, mul-once, fma-step}
 
 -- ---- sums and products of values
-plus-nan : (v : Value) → plus v nan ≡ nan
+pub plus-nan : (v : Value) → plus v nan ≡ nan
 unfolding plus
 plus-nan nan = refl
 plus-nan (infinite s) = refl

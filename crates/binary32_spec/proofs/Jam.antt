@@ -1,4 +1,5 @@
--- A fused sum: the smaller addend brought to the larger one's exponent, made odd where something is cut off, rounds alike.
+-- A fused sum: the smaller addend brought to the larger one's exponent, made odd where something is cut off, rounds alike, with the same
+-- mark.
 use mathlib.Core.Path.{_≡_, refl, ap, ap₂, _∙_, sym, subst}
 use mathlib.Core.Logic.{_⊎_, inl, inr}
 use mathlib.Core.Bool.{Bool, cond}
@@ -15,9 +16,11 @@ use Rattle.rounding_spec.specs.Format.{binary32}
 use Rattle.rounding_spec.specs.Round.{rounded}
 use Rattle.rounding_spec.specs.Value.{Value, finite, encode, roundFinite, round}
 use Rattle.rounding_spec.proofs.Remainder.{shifted-back}
-use Rattle.rounding_spec.proofs.Sticky.{odd}
+use Rattle.rounding_spec.proofs.Sticky.{between-lost, odd}
 use Rattle.pattern_spec.specs.Exact.{plusFinite}
-use Rattle.binary32_spec.specs.Inner.{Reaches}
+use Rattle.binary32_spec.specs.declared.Outcome.{Outcome}
+use Rattle.binary32_spec.specs.Inner.{outcome, Reaches}
+use Rattle.binary32_spec.proofs.Marks.{same-outcome, lost-mark}
 use Rattle.pattern_spec.specs.Inner.{Jammed}
 use Rattle.pattern_spec.proofs.Sums.{like?, sum-same, sum-left}
 use Rattle.rounding_spec.proofs.Multiple.{joined}
@@ -92,38 +95,44 @@ halves : (a r : ℕ) → a % 2 ≡ 0 → r % 2 ≡ 1 → r ≤ a → (2 * ((a + 
 halves a r ea er l = omega arith
 
 module _ (s : Bool) (k a r Y A : ℕ) (big : 2 ^ 24 ≤ A) (lo : Y < r * 2 ^ k + 2 ^ k) (hi : r * 2 ^ k < Y + 2 ^ k) where
-  round-same : (N M : ℕ) → rounded ToEven 23 149 N ≡ rounded ToEven 23 149 M → roundFinite ToEven binary32 s N ≡ roundFinite ToEven binary32 s M
-  unfolding roundFinite
-  round-same N M e = rw e
+  result-same : (N M : ℕ) → rounded ToEven 23 149 N ≡ rounded ToEven 23 149 M → outcome (finite s N) .result ≡ outcome (finite s M) .result
+  unfolding outcome round roundFinite
+  result-same N M e = rw e
 
-  plus-odd : 2 * A + 1 ≡ a + r → roundFinite ToEven binary32 s (a * 2 ^ k + r * 2 ^ k) ≡ roundFinite ToEven binary32 s (a * 2 ^ k + Y)
+  -- numbers between the same neighbouring multiples of 2 ^ suc k round alike, and both lose something
+  alike : (N M : ℕ) → A * 2 ^ suc k < N → N < A * 2 ^ suc k + 2 ^ suc k → A * 2 ^ suc k < M → M < A * 2 ^ suc k + 2 ^ suc k
+      → outcome (finite s N) ≡ outcome (finite s M)
+  alike N M nl nu ml mu =
+      let e = odd ToEven 23 149 k A N big nl nu ∙ sym (odd ToEven 23 149 k A M big ml mu) in
+      same-outcome (outcome (finite s N)) (outcome (finite s M)) (result-same N M e)
+      (lost-mark s N (between-lost ToEven 23 149 (suc k) A N big nl nu) ∙ sym (lost-mark s M (between-lost ToEven 23 149 (suc k) A M big ml mu)))
+
+  plus-odd : 2 * A + 1 ≡ a + r → outcome (finite s (a * 2 ^ k + r * 2 ^ k)) ≡ outcome (finite s (a * 2 ^ k + Y))
   plus-odd e =
       let p : 2 ^ suc k ≡ 2 * 2 ^ k = pow-succ' 2 k in
       let v : (2 * A + 1) * 2 ^ k ≡ a * 2 ^ k + r * 2 ^ k = ap (λ (x : ℕ). x * 2 ^ k) e ∙ add-mul a r (2 ^ k) in
-      round-same (a * 2 ^ k + r * 2 ^ k) (a * 2 ^ k + Y) (sym (odd ToEven 23 149 k A (a * 2 ^ k + Y) big (rw p (omega arith)) (rw p (omega arith)) ∙ ap (rounded ToEven 23 149) v))
+      alike (a * 2 ^ k + r * 2 ^ k) (a * 2 ^ k + Y) (rw p (omega arith)) (rw p (omega arith)) (rw p (omega arith)) (rw p (omega arith))
 
-  less-odd : 2 * A + 1 + r ≡ a → roundFinite ToEven binary32 s (a * 2 ^ k - r * 2 ^ k) ≡ roundFinite ToEven binary32 s (a * 2 ^ k - Y)
+  less-odd : 2 * A + 1 + r ≡ a → outcome (finite s (a * 2 ^ k - r * 2 ^ k)) ≡ outcome (finite s (a * 2 ^ k - Y))
   less-odd e =
       let p : 2 ^ suc k ≡ 2 * 2 ^ k = pow-succ' 2 k in
       let v : (2 * A + 1) * 2 ^ k + r * 2 ^ k ≡ a * 2 ^ k = sym (add-mul (2 * A + 1) r (2 ^ k)) ∙ ap (λ (x : ℕ). x * 2 ^ k) e in
-      let w : (2 * A + 1) * 2 ^ k ≡ a * 2 ^ k - r * 2 ^ k = omega arith in
-      round-same (a * 2 ^ k - r * 2 ^ k) (a * 2 ^ k - Y) (sym (odd ToEven 23 149 k A (a * 2 ^ k - Y) big (rw p (omega arith)) (rw p (omega arith)) ∙ ap (rounded ToEven 23 149) w))
+      alike (a * 2 ^ k - r * 2 ^ k) (a * 2 ^ k - Y) (rw p (omega arith)) (rw p (omega arith)) (rw p (omega arith)) (rw p (omega arith))
 
 -- ---- both addends at the exponent k; the first is even there, and far above the second
-abbrev rounds : Bool → ℕ → Bool → ℕ → ℕ
-rounds s a t b = encode binary32 (round ToEven binary32 (plusFinite s a t b))
+abbrev rounds : Bool → ℕ → Bool → ℕ → Outcome
+rounds s a t b = outcome (plusFinite s a t b)
 
 module _ (s : Bool) (a k : ℕ) (t : Bool) (r Y : ℕ) (even : a % 2 ≡ 0) (far : r + 2 ^ 26 ≤ a) where
   odd-sum : r % 2 ≡ 1 → Y < r * 2 ^ k + 2 ^ k → r * 2 ^ k < Y + 2 ^ k → rounds s (a * 2 ^ k) t (r * 2 ^ k) ≡ rounds s (a * 2 ^ k) t Y
-  unfolding round
   odd-sum er lo hi =
       let h = halves a r even er (omega arith) in
       let first : (r + 1) * 2 ^ k ≤ a * 2 ^ k = mul-le-mul-right (2 ^ k) (let z : r + 1 ≤ a = omega arith in z) in
       let one : (r + 1) * 2 ^ k ≡ r * 2 ^ k + 1 * 2 ^ k = add-mul r 1 (2 ^ k) in
       let pos = pow-pos k in
-      let step : (v w : Value) → plusFinite s (a * 2 ^ k) t (r * 2 ^ k) ≡ v → plusFinite s (a * 2 ^ k) t Y ≡ w → round ToEven binary32 v ≡ round ToEven binary32 w
+      let step : (v w : Value) → plusFinite s (a * 2 ^ k) t (r * 2 ^ k) ≡ v → plusFinite s (a * 2 ^ k) t Y ≡ w → outcome v ≡ outcome w
       → rounds s (a * 2 ^ k) t (r * 2 ^ k) ≡ rounds s (a * 2 ^ k) t Y =
-      λ v w e f g. ap (λ (x : Value). encode binary32 (round ToEven binary32 x)) e ∙ ap (encode binary32) g ∙ sym (ap (λ (x : Value). encode binary32 (round ToEven binary32 x)) f)
+      λ v w e f g. ap outcome e ∙ g ∙ sym (ap outcome f)
       in
       elim (like? s t) [
         | inl e ↦ step (finite s (a * 2 ^ k + r * 2 ^ k)) (finite s (a * 2 ^ k + Y)) (sum-same s (a * 2 ^ k) t (r * 2 ^ k) e) (sum-same s (a * 2 ^ k) t Y e)

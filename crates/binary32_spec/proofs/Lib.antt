@@ -1,10 +1,14 @@
 pub mod Result
+pub mod Marks
 pub mod Special
 pub mod Near
 pub mod Sums
+pub mod Products
 pub mod Fused
 pub mod Jam
 pub mod Infinities
+pub mod Decoded
+pub mod MarkTheorems
 pub mod Theorems
 pub mod IeeeFraction
 pub mod IeeeSame

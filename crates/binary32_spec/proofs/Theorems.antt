@@ -20,24 +20,11 @@ use Rattle.binary32_spec.specs.Theorems.{SubDecodes, MulDecodes, FmaDeco
 use Rattle.binary32_spec.specs.Theorems.{All}
 use Rattle.binary32_spec.specs.Agreement.{AddAgrees, SubAgrees, MulAgrees}
 use Rattle.binary32_spec.proofs.Agreement as agreement
+pub use Rattle.binary32_spec.proofs.Decoded.{add-decodes, sub-decodes, mul-decodes, fma-decodes}
+pub use Rattle.binary32_spec.proofs.MarkTheorems.{add-mark-means, sub-mark-means, mul-mark-means, fma-mark-means, zero-and-overflow, mark-landmarks}
 use Rattle.binary32_spec.proofs.Infinities as infinities
 use Rattle.pattern_spec.proofs.Integers as integers
 use Rattle.binary32_spec.proofs.Result.{result-nan, result-quiet, decode-result, add-fits, sub-fits, mul-fits, fma-fits, add-step, sub-step, mul-step, fma-step}
-
--- ---- a step's value is read back from its pattern
-pub add-decodes : AddDecodes
-add-decodes x y = ap (decode binary32) (add-step x y) ∙ decode-result binary32 (x ∷ y ∷ []) (omega arith) _ (add-fits binary32 (decode binary32 x) (decode binary32 y))
-
-pub sub-decodes : SubDecodes
-sub-decodes x y = ap (decode binary32) (sub-step x y) ∙ decode-result binary32 (x ∷ y ∷ []) (omega arith) _ (sub-fits binary32 (decode binary32 x) (decode binary32 y))
-
-pub mul-decodes : MulDecodes
-mul-decodes x y = ap (decode binary32) (mul-step x y) ∙ decode-result binary32 (x ∷ y ∷ []) (omega arith) _ (mul-fits binary32 (decode binary32 x) (decode binary32 y))
-
-pub fma-decodes : FmaDecodes
-fma-decodes x y z =
-    ap (decode binary32) (fma-step x y z)
-    ∙ decode-result binary32 (x ∷ y ∷ z ∷ []) (omega arith) _ (fma-fits binary32 (decode binary32 x) (decode binary32 y) (decode binary32 z))
 
 -- ---- finite operands
 -- a sum in units of u, counted in 2 ^ -298 and rounded
@@ -146,4 +133,10 @@ all = (
   add-agrees,
   sub-agrees,
   mul-agrees,
+  add-mark-means,
+  sub-mark-means,
+  mul-mark-means,
+  fma-mark-means,
+  zero-and-overflow,
+  mark-landmarks,
 )

@@ -10,6 +10,7 @@ use Rattle.rounding_spec.specs.Format.{binary32, infinity}
 use Rattle.rounding_spec.specs.Value.{nan, infinite, finite, decode, signalling, signed, quieted, roundFinite}
 use Rattle.pattern_spec.specs.Exact.{int}
 use Rattle.binary32_spec.specs.Agreement.{AddAgrees, SubAgrees, MulAgrees}
+use Rattle.binary32_spec.specs.MarkTheorems.{AddMarkMeans, SubMarkMeans, MulMarkMeans, FmaMarkMeans, ZeroAndOverflow, MarkLandmarks}
 use Rattle.binary32_spec.specs.Steps.{addValue, subValue, mulValue, fmaValue, addStep, subStep, mulStep, fmaStep}
 
 -- ---- a step on finite operands is the exact result, rounded once with ties to even
@@ -128,8 +129,9 @@ MulDecodes = (x y : ℕ) → decode binary32 (mulStep x y) ≡ mulValue binary32
 abbrev pub FmaDecodes : Type 0
 FmaDecodes = (x y z : ℕ) → decode binary32 (fmaStep x y z) ≡ fmaValue binary32 (decode binary32 x) (decode binary32 y) (decode binary32 z)
 
--- ---- all of them, and those of Agreement: `proofs/Theorems.antt` proves this
+-- ---- all of them, and those of Agreement and MarkTheorems: `proofs/Theorems.antt` proves this
 abbrev pub All : Type 0
 All =
     AddFinite × SubFinite × MulFinite × FmaFinite × StepNaN × NaNResults × StepQuiet × StepNaNLandmarks × StepInvalid × StepInfinite
     × AddDecodes × SubDecodes × MulDecodes × FmaDecodes × AddAgrees × SubAgrees × MulAgrees
+    × AddMarkMeans × SubMarkMeans × MulMarkMeans × FmaMarkMeans × ZeroAndOverflow × MarkLandmarks

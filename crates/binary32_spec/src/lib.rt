@@ -1,1 +1,16 @@
-// The four rounding steps as definitions and theorems, and their agreement with the toolchain's own account of IEEE 754.
+// The four rounding steps as definitions and theorems, and their agreement with the toolchain's own account of IEEE 754; what a step hands
+// back.
+
+// Marks (R2.8): the result is the exact value; finite operands were rounded or overflowed; an operand was infinite or NaN.
+pub const EXACT: u32 = 0;
+
+pub const ROUNDED: u32 = 1;
+
+pub const SPECIAL: u32 = 2;
+
+// A step's result and its mark.
+#[repr(C)]
+pub struct Outcome {
+    pub result: u32,
+    pub mark: u32,
+}

@@ -12,6 +12,7 @@ use lib.Dec.{eqb, leb, ltb}
 use lib.IntN.{ℤ, pos, _+ℤ_, +ℤ-idl}
 use lib.ListN.{length, take}
 use lib.Seq.{take-at}
+use Rattle.pattern_spec.proofs.Truth.{both-of}
 use Rattle.pattern_spec.specs.Answer.{refused, isDone}
 use Rattle.rounding_spec.specs.Format.{binary32}
 use Rattle.rounding_spec.specs.Value.{Value, decode, isFinite}
@@ -32,7 +33,6 @@ use Rattle.conservation_spec.specs.Lists.{mostQuestions, Posed, sheetFor
 use Rattle.conservation_spec.specs.Lists.{Totals, Event, asks, reads, adds, afterEvents, book, bookSign, questions, enteringSums, enteringProducts}
 use Rattle.conservation_spec.specs.Claim.{BothHold, Met}
 use Rattle.conservation_spec.specs.Theorems.{Allowed, cleared, Conserved, EntersExactly}
-use Rattle.conservation_spec.proofs.Operands.{both}
 use Rattle.conservation_spec.proofs.Entering.{not-true}
 use Rattle.conservation_spec.proofs.Book.{book-sign-le}
 use Rattle.conservation_spec.proofs.Conservation.{holding, holding-same, firstTerms, otherTerms, kept}
@@ -139,7 +139,7 @@ filled-when q e = go (isOperation (q .operation)) refl (ltb (length (q .words)) 
     go false k short s f = absurd (true≢false (sym f))
     go true k true s f = absurd (true≢false (sym f))
     go true k false s f =
-        let p = both (leb 1 (q .operation)) (leb (q .operation) 3) k in
+        let p = both-of (leb 1 (q .operation)) (leb (q .operation) 3) k in
         (leb-true 1 (q .operation) (p .0), leb-true (q .operation) 3 (p .1), ltb-false (length (q .words)) sheetSize s)
 
 when-filled : (q : Posed) → 1 ≤ q .operation → q .operation ≤ 3 → sheetSize ≤ length (q .words) → isDone (sheetFor q) ≡ true
@@ -150,9 +150,9 @@ pub enters-exactly : EntersExactly
 unfolding enters
 enters-exactly q = (
   λ e.
-      let p = both (isDone (sheetFor q)) (pairEnters (directFor q)) e in
-      let f = both (bothFinite (directFor q .first) (directFor q .second)) (not (directFor q .flags .inexact)) (p .1) in
-      let g = both (isFinite (decode binary32 (directFor q .first))) (isFinite (decode binary32 (directFor q .second))) (f .0) in
+      let p = both-of (isDone (sheetFor q)) (pairEnters (directFor q)) e in
+      let f = both-of (bothFinite (directFor q .first) (directFor q .second)) (not (directFor q .flags .inexact)) (p .1) in
+      let g = both-of (isFinite (decode binary32 (directFor q .first))) (isFinite (decode binary32 (directFor q .second))) (f .0) in
       let w = filled-when q (p .0) in
       (w .0, w .1, w .2, g .0, g .1, not-true (directFor q .flags .inexact) (f .1)),
   λ h. rw (when-filled q (h .0) (h .1) (h .2), h .3, h .4, h .5),

@@ -7,6 +7,7 @@ use Prim.Native.Nat.{ℕ, _+_, _*_, _^_, _<_}
 use native.Mathlib.Omega.{arith}
 use lib.IntN.{ℤ, _+ℤ_, +ℤ-idr}
 use lib.ListN.{length}
+use Rattle.pattern_spec.proofs.Truth.{both-of}
 use Rattle.pattern_spec.specs.Answer.{Answer, refused, done, isDone}
 use Rattle.rounding_spec.specs.Format.{binary32}
 use Rattle.rounding_spec.specs.Value.{finite, decode, isFinite}
@@ -24,7 +25,7 @@ use Rattle.accumulator_spec.proofs.Landmarks.{pattern-term}
 use Rattle.conservation_spec.specs.Lists.{Posed, sheetFor, operationFor, directFor, pairEnters, enters, footTerms, setTerms}
 use Rattle.conservation_spec.specs.Lists.{exactOfPatterns, signOfPatterns, oneSum, oneProduct}
 use Rattle.conservation_spec.specs.Theorems.{EntersFinite}
-use Rattle.conservation_spec.proofs.Operands.{both, number-of, operands, result-is, terms-sum, terms-finite}
+use Rattle.conservation_spec.proofs.Operands.{number-of, operands, result-is, terms-sum, terms-finite}
 use Rattle.conservation_spec.proofs.Signs.{set-sign, foot-sign}
 
 pub not-true : (b : Bool) → not b ≡ true → b ≡ false
@@ -110,18 +111,18 @@ foot-is (done s) p e h = ap (λ (z : Pair). footTerms (filled (s .lineCount) z))
 pub enters-finite : EntersFinite
 unfolding enters
 enters-finite q width e =
-    let p = both (isDone (sheetFor q)) (pairEnters (directFor q)) e in
-    let f = both (bothFinite (directFor q .first) (directFor q .second)) (not (directFor q .flags .inexact)) (p .1) in
-    let g = both (isFinite (decode binary32 (directFor q .first))) (isFinite (decode binary32 (directFor q .second))) (f .0) in
+    let p = both-of (isDone (sheetFor q)) (pairEnters (directFor q)) e in
+    let f = both-of (bothFinite (directFor q .first) (directFor q .second)) (not (directFor q .flags .inexact)) (p .1) in
+    let g = both-of (isFinite (decode binary32 (directFor q .first))) (isFinite (decode binary32 (directFor q .second))) (f .0) in
     let m = operands (operationFor q) (q .x) (q .y) width (g .0) in
     ap₂ _&&_ (ap isFinite (m .0 .is)) (ap isFinite (m .1 .is))
 
 pub entering : (q : Posed) → q .y < 2 ^ 32 → enters q ≡ true → Entering q
 unfolding enters
 entering q width e =
-    let p = both (isDone (sheetFor q)) (pairEnters (directFor q)) e in
-    let f = both (bothFinite (directFor q .first) (directFor q .second)) (not (directFor q .flags .inexact)) (p .1) in
-    let g = both (isFinite (decode binary32 (directFor q .first))) (isFinite (decode binary32 (directFor q .second))) (f .0) in
+    let p = both-of (isDone (sheetFor q)) (pairEnters (directFor q)) e in
+    let f = both-of (bothFinite (directFor q .first) (directFor q .second)) (not (directFor q .flags .inexact)) (p .1) in
+    let g = both-of (isFinite (decode binary32 (directFor q .first))) (isFinite (decode binary32 (directFor q .second))) (f .0) in
     let i = not-true (directFor q .flags .inexact) (f .1) in
     let m = operands (operationFor q) (q .x) (q .y) width (g .0) in
     let h = halves (q .x) (q .y) width (operationFor q) (g .0) i in

@@ -10,6 +10,7 @@ use lib.Dec.{eqb, lit<, lit≤}
 use lib.Ieee.{size, unlike}
 use lib.IntN.{pos}
 use lib.ListN.{length}
+use Rattle.pattern_spec.proofs.Truth.{both-of}
 use Rattle.rounding_spec.specs.Round.{keep, lastPlace}
 use Rattle.rounding_spec.specs.Value.{decode}
 use Rattle.pattern_spec.specs.Exact.{times}
@@ -17,7 +18,6 @@ use Rattle.augmented_spec.specs.Direct.{directPair}
 use Rattle.worksheet_spec.specs.Lines.{sheetSize}
 use Rattle.conservation_spec.specs.Lists.{Posed, enters, Totals, book, bookSign, questions, enteringSums, enteringProducts}
 use Rattle.conservation_spec.specs.Theorems.{Allowed, cleared, minusZeroQuestions, MinusZeroList, MinusZerosAre, QuestionTerms}
-use Rattle.conservation_spec.proofs.Operands.{both}
 use Rattle.conservation_spec.proofs.Claim.{conserved, enters-exactly}
 
 module _ (words : List ℕ) (long : sheetSize ≤ length words) where
@@ -65,9 +65,9 @@ minus-zero-list a b words la lb long =
 two-zeros : (p q : Bool) (a b : ℕ) → (p && eqb a 0 && (q && eqb b 0) ≡ true) ↔ ((p ≡ true) × (a ≡ 0) × (q ≡ true) × (b ≡ 0))
 two-zeros p q a b = (
   λ e.
-      let k = both (p && eqb a 0) (q && eqb b 0) e in
-      let f = both p (eqb a 0) (k .0) in
-      let g = both q (eqb b 0) (k .1) in
+      let k = both-of (p && eqb a 0) (q && eqb b 0) e in
+      let f = both-of p (eqb a 0) (k .0) in
+      let g = both-of q (eqb b 0) (k .1) in
       (f .0, eqb-true a 0 (f .1), g .0, eqb-true b 0 (g .1)),
   λ h. rw (h .0, h .1, h .2, h .3),
 )
@@ -104,7 +104,7 @@ minus-zeros-are s t a b =
     let z = either-zero a b in (
       two-zeros s t a b,
       (λ e. let k = d .0 e in (k .0, k .1, n .0 (k .2), k .3), λ h. d .1 (h .0, h .1, n .1 (h .2), h .3)),
-      (λ e. let k = both (unlike s t) (eqb a 0 || eqb b 0) e in (u .0 (k .0), z .0 (k .1)), λ h. rw (u .1 (h .0), z .1 (h .1))),
+      (λ e. let k = both-of (unlike s t) (eqb a 0 || eqb b 0) e in (u .0 (k .0), z .0 (k .1)), λ h. rw (u .1 (h .0), z .1 (h .1))),
     )
 
 pub question-terms : QuestionTerms

@@ -9,6 +9,7 @@ use borrow.Author.Tests.{eqb-true, leb-true, ltb-false, le-leb, lt-leb, lt-ltb, 
 use lib.Dec.{eqb, leb, ltb}
 use lib.ListN.{length, drop, getD, drop-of-length-le}
 use lib.Seq.{drop-cons}
+use Rattle.pattern_spec.proofs.Truth.{both-of}
 use Rattle.pattern_spec.specs.Answer.{Answer, refused, done, isDone}
 use Rattle.accumulator_spec.specs.Words.{allZero}
 use Rattle.accumulator_spec.specs.Totals.{totalSize, isCleared, afterClearing}
@@ -16,12 +17,11 @@ use Rattle.accumulator_spec.proofs.Answers.{clearing-done}
 use Rattle.accumulator_spec.proofs.Zeros.{is-zeros}
 use Rattle.conservation_spec.specs.Lists.{mostQuestions}
 use Rattle.conservation_spec.specs.Replay.{Asking, Lent, allEqual, allWithin, replaying}
-use Rattle.conservation_spec.proofs.Operands.{both}
 
 -- ---- a cleared total is as clearing leaves it
 pub cleared-already : (t : List ℕ) → isCleared t ≡ true → (length t ≡ totalSize) × (afterClearing t ≡ t)
 cleared-already t e =
-    let n = eqb-true (length t) totalSize (both (eqb (length t) totalSize) (allZero t) e .0) in
+    let n = eqb-true (length t) totalSize (both-of (eqb (length t) totalSize) (allZero t) e .0) in
     (n, sym (clearing-done t n .1) ∙ sym (is-zeros t e))
 
 -- ---- counts, one by one
@@ -41,8 +41,8 @@ within-done ns most i h = rw (drop-of-length-le ns h)
 pub within-at : (ns : List ℕ) (most i : ℕ) → allWithin ns most ≡ true → i < length ns → getD ns i 0 ≤ most
 unfolding allWithin
 within-at [] most i e h = absurd (omega arith)
-within-at (n ∷ ns) most zero e h = leb-true n most (both (leb n most) (allWithin ns most) e .0)
-within-at (n ∷ ns) most (suc i) e h = within-at ns most i (both (leb n most) (allWithin ns most) e .1) (omega arith)
+within-at (n ∷ ns) most zero e h = leb-true n most (both-of (leb n most) (allWithin ns most) e .0)
+within-at (n ∷ ns) most (suc i) e h = within-at ns most i (both-of (leb n most) (allWithin ns most) e .1) (omega arith)
 
 -- ---- a list that is carried out
 pub record Fits (q : Asking) (l : Lent) : Type 0 where
@@ -77,9 +77,9 @@ module _ (q : Asking) (l : Lent) where
       go true s false m false c inside i d = absurd (true≢false (sym d))
       go true s false m true c false i d = absurd (true≢false (sym d))
       go true s false m true c true i d =
-          let p = both (eqb (length (q .xs)) n) (eqb (length (q .ys)) n && eqb (length (q .counts)) n) s in
-          let k = both (eqb (length (q .ys)) n) (eqb (length (q .counts)) n) (p .1) in
-          let r = both (isCleared (l .totals .first)) (isCleared (l .totals .other)) c in
+          let p = both-of (eqb (length (q .xs)) n) (eqb (length (q .ys)) n && eqb (length (q .counts)) n) s in
+          let k = both-of (eqb (length (q .ys)) n) (eqb (length (q .counts)) n) (p .1) in
+          let r = both-of (isCleared (l .totals .first)) (isCleared (l .totals .other)) c in
           record {
             sameXs = eqb-true (length (q .xs)) n (p .0);
             sameYs = eqb-true (length (q .ys)) n (k .0);

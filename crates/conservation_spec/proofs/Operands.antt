@@ -7,6 +7,7 @@ use native.Mathlib.Omega.{arith}
 use lib.Dec.{eqb, lit<}
 use lib.Ieee.{unlike}
 use lib.IntN.{ℤ, pos, _+ℤ_, _*ℤ_, +ℤ-idr}
+use Rattle.pattern_spec.proofs.Truth.{both-of}
 use Rattle.rounding_spec.specs.Format.{binary32}
 use Rattle.rounding_spec.specs.Value.{Value, nan, infinite, finite, decode, isFinite, round, RN0}
 use Rattle.pattern_spec.specs.Exact.{int, whole, negate, times}
@@ -73,10 +74,6 @@ number-of nan e = absurd (true≢false (sym e))
 number-of (infinite s) e = absurd (true≢false (sym e))
 number-of (finite s a) e = record { sign = s; magnitude = a; is = refl }
 
-pub both : (a b : Bool) → a && b ≡ true → (a ≡ true) × (b ≡ true)
-both true b e = (refl, e)
-both false b e = absurd (true≢false (sym e))
-
 negated : (v : Value) → isFinite (negate v) ≡ true → isFinite v ≡ true
 unfolding negate
 negated nan e = e
@@ -91,7 +88,7 @@ taken-back product y w e = e
 -- the operands of a pair whose first is finite
 pub operands : (o : Operation) (x y : ℕ) → y < 2 ^ 32 → isFinite (decode binary32 (directPair o binary32 x y .first)) ≡ true → Number (decode binary32 x) × Number (decode binary32 y)
 operands o x y w e =
-    let p = both (isFinite (decode binary32 x)) (isFinite (decode binary32 (secondOperand o binary32 y))) (operands-finite o x y e) in
+    let p = both-of (isFinite (decode binary32 x)) (isFinite (decode binary32 (secondOperand o binary32 y))) (operands-finite o x y e) in
     (number-of (decode binary32 x) (p .0), number-of (decode binary32 y) (taken-back o y w (p .1)))
 
 -- ---- the terms that are set

@@ -10,6 +10,7 @@ use native.Mathlib.Omega.{arith}
 use lib.Dec.{T, leb, ltb, ltb→lt, nltb→le}
 use lib.ListN.{length, take, drop, getD, length-take}
 use lib.Seq.{take-all, take-at, drop-at, length-front, length-take-le}
+use Rattle.pattern_spec.proofs.Truth.{both-of}
 use Rattle.pattern_spec.specs.Answer.{done}
 use Rattle.augmented_spec.specs.Direct.{Operation, sum, difference, product, operationNumber}
 use Rattle.worksheet_spec.specs.Lines.{sheetSize}
@@ -18,7 +19,6 @@ use Rattle.worksheet_spec.proofs.Theorems.{filling-refused, sheet-filled}
 use Rattle.conservation_spec.specs.Lists.{mostQuestions, asks, reads, onFirst}
 use Rattle.conservation_spec.specs.Replay.{Asking, Lent, Entry, entries, entriesOf, posedOn, wordsAfter, eventsOf, wordsAfterAll, allWithin, replaying, afterReplaying}
 use Rattle.conservation_spec.specs.Theorems.{firstQuestions, wordsLeft, questionAt, ReplayQuestions, ReplayWords}
-use Rattle.conservation_spec.proofs.Operands.{both}
 use Rattle.conservation_spec.proofs.Misfits.{fits, within-at, nothing-wrong}
 use Rattle.conservation_spec.proofs.Refusals.{equal-lengths}
 
@@ -107,7 +107,7 @@ within-first : (ns : List ℕ) (most i : ℕ) → allWithin ns most ≡ true →
 unfolding allWithin
 within-first ns most zero h = refl
 within-first [] most (suc i) h = refl
-within-first (n ∷ ns) most (suc i) h = let b = both (leb n most) (allWithin ns most) h in rw (b .0) (within-first ns most i (b .1))
+within-first (n ∷ ns) most (suc i) h = let b = both-of (leb n most) (allWithin ns most) h in rw (b .0) (within-first ns most i (b .1))
 
 first-length : (i : ℕ) (a b : List ℕ) → length a ≡ length b → length (take i a) ≡ length (take i b)
 first-length i a b e = omega (arith, length-take i a, length-take i b, e)

@@ -1,6 +1,6 @@
 -- The sign word of a question, from its operands: that of the terms set, and that of the terms of its foot, where this adds up.
 use mathlib.Core.Path.{_≡_, refl, sym, ap, ap₂, _∙_}
-use mathlib.Core.Bool.{true≢false, Bool, true, false, not, cond, _&&_, _||_}
+use mathlib.Core.Bool.{true≢false, Bool, true, false, not, cond, _&&_, _||_, or-false}
 use mathlib.Core.List.{[], _∷_}
 use Prim.Native.Nat.{ℕ, zero, suc, _+_, _*_, _^_, _<_}
 use native.Mathlib.Nat.{zero-add}
@@ -9,6 +9,7 @@ use borrow.Author.Tests.{ne-eqb, eqb-true}
 use lib.Dec.{eqb}
 use lib.Ieee.{unlike}
 use lib.IntN.{ℤ, pos, _+ℤ_, _*ℤ_, negℤ-+ℤ}
+use Rattle.pattern_spec.proofs.Truth.{both-of}
 use Rattle.rounding_spec.specs.declared.Ties.the-variants.{ToZero}
 use Rattle.rounding_spec.specs.Format.{binary32, limit}
 use Rattle.rounding_spec.specs.Value.{Value, nan, infinite, finite, decode, roundFinite}
@@ -25,7 +26,6 @@ use Rattle.accumulator_spec.specs.Totals.{ofPattern, termSign, signOfBoth}
 use Rattle.accumulator_spec.specs.Columns.{columnSign}
 use Rattle.accumulator_spec.proofs.MinusZeros.{no-product, finer-zero, product-minus-zero}
 use Rattle.conservation_spec.specs.Lists.{setTerms, minusZeros, signOfPatterns}
-use Rattle.conservation_spec.proofs.Operands.{both}
 
 -- ---- words of truth values
 abbrev word : Bool → ℕ
@@ -78,10 +78,6 @@ magnitude product a b = a * b
 no-sum : (a b : ℕ) → eqb ((a + b) * 2 ^ 149) 0 ≡ (eqb a 0 && eqb b 0)
 no-sum a b = no-product (a + b) (2 ^ 149) ∙ or-false (eqb (a + b) 0) ∙ go a b
   where
-    or-false : (c : Bool) → (c || false) ≡ c
-    or-false true = refl
-    or-false false = refl
-
     go : (a b : ℕ) → eqb (a + b) 0 ≡ (eqb a 0 && eqb b 0)
     go zero b = ap (λ (n : ℕ). eqb n 0) (zero-add b)
     go (suc a) b = ne-eqb (suc a + b) 0 (λ (e : suc a + b ≡ 0). omega arith) ∙ sym (rw (ne-eqb (suc a) 0 (λ (e : suc a ≡ 0). omega arith)))
@@ -113,7 +109,7 @@ exact-minus product s a t b e = sym (times-exact s a t b) ∙ ap (λ (r : Bool).
 -- the exact result is 0 where all terms are -0
 pub exact-none : (o : Operation) (s : Bool) (a : ℕ) (t : Bool) (b : ℕ) → minusZeros o s a t b ≡ true → exactResult o binary32 (int s a) (int t b) ≡ pos 0
 exact-none o s a t b e =
-    let k = both (zeroSign o s t) (eqb (magnitude o a b) 0) (sym (minus-zeros o s a t b) ∙ e) in
+    let k = both-of (zeroSign o s t) (eqb (magnitude o a b) 0) (sym (minus-zeros o s a t b) ∙ e) in
     exact-minus o s a t b (k .0) ∙ ap (int true) (eqb-true (magnitude o a b) 0 (k .1))
 
 no-magnitude : (r : Bool) (N : ℕ) → int r N ≡ pos 0 → N ≡ 0
@@ -154,9 +150,9 @@ module _ (o : Operation) (x y : ℕ) (s : Bool) (a : ℕ) (t : Bool) (b : ℕ) (
 
   feet-zeros : q && eqb c 0 && (r && eqb d 0) ≡ true → minusZeros o s a t b ≡ true
   feet-zeros e =
-      let k = both (q && eqb c 0) (r && eqb d 0) e in
-      let f = both q (eqb c 0) (k .0) in
-      let g = both r (eqb d 0) (k .1) in
+      let k = both-of (q && eqb c 0) (r && eqb d 0) e in
+      let f = both-of q (eqb c 0) (k .0) in
+      let g = both-of r (eqb d 0) (k .1) in
       let z : E ≡ pos 0 = sym adds ∙ rw (f .0, eqb-true c 0 (f .1), g .0, eqb-true d 0 (g .1)) in
       let w : zeroSign o s t ≡ true = sym (ap isMinus (first-zero z)) ∙ f .0 in
       let m = no-magnitude true (magnitude o a b) (sym (exact-minus o s a t b w) ∙ z) in
@@ -164,7 +160,7 @@ module _ (o : Operation) (x y : ℕ) (s : Bool) (a : ℕ) (t : Bool) (b : ℕ) (
 
   zeros-feet : minusZeros o s a t b ≡ true → q && eqb c 0 && (r && eqb d 0) ≡ true
   zeros-feet e =
-      let k = both (zeroSign o s t) (eqb (magnitude o a b) 0) (sym (minus-zeros o s a t b) ∙ e) in
+      let k = both-of (zeroSign o s t) (eqb (magnitude o a b) 0) (sym (minus-zeros o s a t b) ∙ e) in
       let z : E ≡ pos 0 = exact-none o s a t b e in
       let f = first-zero z in
       let minus : q ≡ true = ap isMinus f ∙ k .0 in

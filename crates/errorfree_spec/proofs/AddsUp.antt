@@ -20,19 +20,19 @@ rel-scale false true m p n U h = sym (add-mul m p U) ∙ ap (λ (z : ℕ). z * U
 rel-scale true false m p n U h = sym (add-mul m p U) ∙ ap (λ (z : ℕ). z * U) h
 rel-scale true true m p n U h = sym (add-mul m n U) ∙ ap (λ (z : ℕ). z * U) h
 
-is-finer : (F : Format) (r : Bool) (v : Value) (p n : ℕ) → Is r v p n → Is r (finer F v) (p * 2 ^ low F) (n * 2 ^ low F)
+pub is-finer : (F : Format) (r : Bool) (v : Value) (p n : ℕ) → Is r v p n → Is r (finer F v) (p * 2 ^ low F) (n * 2 ^ low F)
 unfolding finer
 is-finer F r nan p n h = absurd h
 is-finer F r (infinite s) p n h = absurd h
 is-finer F r (finite s m) p n h = rel-scale r s m p n (2 ^ low F) h
 
 -- a value that is zero, and one that is none
-is-zero : (r : Bool) (v : Value) (p n : ℕ) → Is r v p n → p ≡ n → isZero v ≡ true
+pub is-zero : (r : Bool) (v : Value) (p n : ℕ) → Is r v p n → p ≡ n → isZero v ≡ true
 is-zero r nan p n h e = absurd h
 is-zero r (infinite s) p n h e = absurd h
 is-zero r (finite s m) p n h e = eq-eqb m 0 (omega (arith, rel-dist r s m p n h))
 
-zero-is : (r : Bool) (v : Value) (p n : ℕ) → Is r v p n → isZero v ≡ true → p ≡ n
+pub zero-is : (r : Bool) (v : Value) (p n : ℕ) → Is r v p n → isZero v ≡ true → p ≡ n
 zero-is r nan p n h e = absurd h
 zero-is r (infinite s) p n h e = absurd h
 zero-is r (finite s m) p n h e = omega (arith, rel-dist r s m p n h, eqb-true m 0 e)

@@ -23,7 +23,7 @@ use Rattle.rounding_spec.proofs.Halfway.{even-up}
 use Rattle.binary32_spec.specs.Steps.{mulValue}
 use Rattle.augmented_spec.specs.Pairs.{pairOf}
 use Rattle.augmented_spec.proofs.Second.{first-infinite, second-infinite}
-use Rattle.errorfree_spec.specs.Comparisons.{same}
+use Rattle.pattern_spec.specs.Comparisons.{same}
 use Rattle.errorfree_spec.specs.Constants.{Roomy}
 use Rattle.errorfree_spec.proofs.Factors.{kappa, minusTwo}
 use Rattle.errorfree_spec.proofs.Signed.{Rel, Is, rel-own, rel-dist, same-eq, eq-same, and-both, and-make, rel-other, other-side}
@@ -180,7 +180,7 @@ module _ (F : Format) (room : Roomy F) where
       ∙ ap (roundFinite ToEven F s) (mul-assoc (D - 1) (2 ^ (low F - F .fraction)) (2 ^ (F .emax + low F)) ∙ ap (λ (z : ℕ). (D - 1) * z) x ∙ sym (mul-assoc (D - 1) (2 ^ k) (2 ^ low F)))
       ∙ round-whole ToEven F s last last-rep (omega (arith, last-add, q-pos))
 
-  minus-is : (s : Bool) → mulValue F (minusTwo F) (finite (not s) (edgeRest F)) ≡ finite s (2 * edgeRest F)
+  pub minus-is : (s : Bool) → mulValue F (minusTwo F) (finite (not s) (edgeRest F)) ≡ finite s (2 * edgeRest F)
   minus-is s =
       mul-finite F true (2 ^ suc (low F)) (not s) (edgeRest F)
       ∙ ap₂ (λ (r : Bool) (z : ℕ). roundFinite ToEven F r z) (sign s) (ap (λ (z : ℕ). z * edgeRest F) (pow-succ' 2 (low F)) ∙ mul-right-comm 2 (2 ^ low F) (edgeRest F))

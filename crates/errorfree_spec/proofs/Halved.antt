@@ -21,13 +21,13 @@ use Rattle.binary32_spec.specs.Steps.{addValue, subValue, mulValue, fmaValue}
 use Rattle.pattern_spec.proofs.Sums.{like-own, sum-same}
 use Rattle.augmented_spec.specs.Pairs.{pairOf}
 use Rattle.augmented_spec.proofs.Second.{first-infinite, second-infinite}
-use Rattle.errorfree_spec.specs.Comparisons.{same}
+use Rattle.pattern_spec.specs.Comparisons.{same}
 use Rattle.errorfree_spec.specs.Constants.{Roomy}
 use Rattle.errorfree_spec.proofs.Factors.{half, kappa, minusTwo}
 use Rattle.errorfree_spec.proofs.Signed.{Is}
 use Rattle.errorfree_spec.proofs.Steps.{toEven, toZero, even-at, zero-at, round-whole, mul-positive, mul-finite}
 use Rattle.errorfree_spec.proofs.ProductSplit.{whole, product-split}
-use Rattle.errorfree_spec.proofs.FastTwoSum.{add-finite, split-same}
+use Rattle.errorfree_spec.proofs.FastTwoSum.{add-finite, fast-same}
 use Rattle.errorfree_spec.proofs.Powers.{pow-le-of}
 use Rattle.errorfree_spec.proofs.Edge.{halfLimit, edgeRest, limit-twice, over-ge, last-add, last-best, edge-pair}
 
@@ -38,7 +38,7 @@ EdgePair F s N a b =
     (cond c (mulValue F (kappa F) a) (infinite s) ≡ pairOf F (finite s N) .first) × (cond c (mulValue F (minusTwo F) b) (infinite s) ≡ pairOf F (finite s N) .second)
 
 -- ---- halves
-half-step : (F : Format) → Roomy F → (s : Bool) (H : ℕ) → Rep (suc (F .fraction)) 0 H → H < limit F → mulValue F (half F) (finite s (2 * H)) ≡ finite s H
+pub half-step : (F : Format) → Roomy F → (s : Bool) (H : ℕ) → Rep (suc (F .fraction)) 0 H → H < limit F → mulValue F (half F) (finite s (2 * H)) ≡ finite s H
 half-step F room s H r b =
     let e : 2 * 2 ^ (low F - 1) ≡ 2 ^ low F = sym (pow-succ' 2 (low F - 1)) ∙ ap (λ (z : ℕ). 2 ^ z) (let z : suc (low F - 1) ≡ low F = omega arith in z) in
     mul-positive F (2 ^ (low F - 1)) s (2 * H)
@@ -48,7 +48,7 @@ half-step F room s H r b =
 -- ---- sums of like signs
 module _ (F : Format) (ok : Proper F) (room : Roomy F) (s : Bool) (X Y : ℕ) (xr : Rep (suc (F .fraction)) 0 X) (yr : Rep (suc (F .fraction)) 0 Y) (xb : X < limit F) (le : Y ≤ X)
     (over : limit F ≤ toEven F ((X + Y) * 2 ^ low F)) where
-  y-big : 2 ^ suc (F .fraction) ≤ Y
+  pub y-big : 2 ^ suc (F .fraction) ≤ Y
   unfolding edgeRest
   y-big =
       let k = F .emax + low F - suc (suc (F .fraction)) in
@@ -73,7 +73,7 @@ module _ (F : Format) (ok : Proper F) (room : Roomy F) (s : Bool) (X Y : ℕ) (x
       let y-is : y' ≡ finite s G = yi ∙ ap (λ (z : ℕ). mulValue F (half F) (finite s z)) (hy .1) ∙ half-step F room s G (hy .2) (omega arith) in
       let a-is : a' ≡ finite s A = ai ∙ ap₂ (addValue F) x-is y-is ∙ add-finite F (finite s H) (finite s G) s n (sum-same s H s G (like-own s)) ∙ round-below ToEven F s (n * 2 ^ low F) fine in
       let b-is : b' ≡ subValue F (finite s G) (subValue F (finite s A) (finite s H)) = bi ∙ ap₂ (subValue F) y-is (vi ∙ ap₂ (subValue F) a-is x-is) in
-      let split = split-same F H G (hx .2) (hy .2) hb le' s fine in
+      let split = fast-same F H G (hx .2) (hy .2) hb le' s fine .split in
       (A, a-is, rw (a-is, b-is, two-n) (edge-pair F room ok s n (subValue F (finite s G) (subValue F (finite s A) (finite s H))) (rw two-n at over) (split .rest)))
 
 -- ---- products
@@ -137,18 +137,21 @@ module _ (F : Format) (ok : Proper F) (room : Roomy F) (a b : ℕ) (ar : Rep (su
   halved : (H : ℕ) × (a ≡ 2 * H) × Rep (suc f) 0 H
   halved = rep-half ar a-big
 
-  H : ℕ
+  pub H : ℕ
   H = halved .0
 
-  twice : a * b ≡ 2 * (H * b)
+  pub H-is : a ≡ 2 * H
   unfolding H
-  twice = ap (λ (z : ℕ). z * b) (halved .1) ∙ mul-assoc 2 (halved .0) b
+  H-is = halved .1
 
-  H-rep : Rep (suc f) 0 H
+  twice : a * b ≡ 2 * (H * b)
+  twice = ap (λ (z : ℕ). z * b) H-is ∙ mul-assoc 2 H b
+
+  pub H-rep : Rep (suc f) 0 H
   unfolding H
   H-rep = halved .2
 
-  big-half : 2 ^ suc (f + f) * 2 ^ low F ≤ H * b
+  pub big-half : 2 ^ suc (f + f) * 2 ^ low F ≤ H * b
   big-half =
       let U = 2 ^ low F in
       let x = mul-le-mul-right U (let z : 2 * 2 ^ suc (f + f) ≤ n = omega (arith, n-big, limit-twice F room, rest-le, small-le) in z) in

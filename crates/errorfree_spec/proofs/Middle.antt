@@ -26,7 +26,7 @@ use Rattle.pattern_spec.specs.Exact.{negate}
 use Rattle.binary32_spec.specs.Steps.{subValue, mulValue, fmaValue}
 use Rattle.augmented_spec.specs.Pairs.{pairOf}
 use Rattle.augmented_spec.proofs.Second.{tail, first-finite}
-use Rattle.errorfree_spec.specs.Comparisons.{same}
+use Rattle.pattern_spec.specs.Comparisons.{same}
 use Rattle.errorfree_spec.specs.Constants.{Roomy}
 use Rattle.errorfree_spec.proofs.Factors.{scale, unscale, zero}
 use Rattle.errorfree_spec.proofs.Signed.{Rel, Is, rel-dist}
@@ -71,7 +71,7 @@ module _ (F : Format) (room : Roomy F) (a b : ℕ) (ar : Rep (suc (F .fraction))
   wide : K ≤ low F
   wide = omega arith
 
-  lower : 2 ^ F .fraction * U ≤ a * b
+  pub lower : 2 ^ F .fraction * U ≤ a * b
   lower = elim (decLe (2 ^ F .fraction * U) (a * b)) [ yes g ↦ g | no g ↦ absurd (omega (arith, pow-le-of F (a * b) (F .fraction) (omega arith), pow-pos (F .fraction))) ]
 
   higher : a * b ≤ 2 ^ suc (suc (F .fraction + F .fraction)) * U
@@ -104,19 +104,19 @@ module _ (F : Format) (room : Roomy F) (a b : ℕ) (ar : Rep (suc (F .fraction))
   b-pos : 0 < b
   b-pos = elim (eq-zero-or-pos b) [ inl z ↦ absurd (omega (arith, lower, ap (λ (z : ℕ). a * z) z ∙ mul-zero a, mul-pos (pow-pos (F .fraction)) (pow-pos (low F)))) | inr z ↦ z ]
 
-  factor-fine : a * 2 ^ K < limit F
+  pub factor-fine : a * 2 ^ K < limit F
   factor-fine = lt-of-le-of-lt (le-trans (le-mul-of-pos-right (a * 2 ^ K) b-pos) (le-trans (le-of-eq moved) scaled-high)) top-fine
 
-  factor-rep : Rep K 0 (a * 2 ^ K)
+  pub factor-rep : Rep K 0 (a * 2 ^ K)
   factor-rep = rep-shift K ar
 
-  big : 2 ^ suc (F .fraction + F .fraction) * U ≤ a * 2 ^ K * b
+  pub big : 2 ^ suc (F .fraction + F .fraction) * U ≤ a * 2 ^ K * b
   big =
       le-trans (le-of-eq (ap (λ (z : ℕ). z * U) (ap (λ (z : ℕ). 2 ^ z) (let z : suc (F .fraction + F .fraction) ≡ F .fraction + K = omega arith in z) ∙ pow-add 2 (F .fraction) K)
       ∙ mul-right-comm (2 ^ F .fraction) (2 ^ K) U))
       (le-trans (mul-le-mul-right (2 ^ K) lower) (le-of-eq (sym moved)))
 
-  fine : toEven F (a * 2 ^ K * b) < limit F
+  pub fine : toEven F (a * 2 ^ K * b) < limit F
   fine = lt-of-le-of-lt (le-trans (pow-le-of F (a * 2 ^ K * b) (K + K + K) (le-trans (le-of-eq moved) scaled-high)) (le-mul-of-pos-right (2 ^ (K + K + K)) (pow-pos (low F)))) top-fine
 
   -- one factor scaled up, and the scaled product split
@@ -142,7 +142,7 @@ module _ (F : Format) (room : Roomy F) (a b : ℕ) (ar : Rep (suc (F .fraction))
     head = toZero F (a * b)
 
     -- far from the lowest exponent, rounding and scaling can change places
-    scaled-head : f ≡ head * 2 ^ K
+    pub scaled-head : f ≡ head * 2 ^ K
     scaled-head =
         let x : Near0 K (low F + K) (a * b * 2 ^ K) (head * U * 2 ^ K) = near0-up K (rounded-near0 (F .fraction) (low F) (a * b)) in
         let y0 : Near0 K (low F) (n * U) (f * U) = rw zero-add at (near0-up (low F) (h .near)) in
@@ -158,7 +158,7 @@ module _ (F : Format) (room : Roomy F) (a b : ℕ) (ar : Rep (suc (F .fraction))
     head-fine : head < limit F
     head-fine = lt-of-le-of-lt (le-mul-of-pos-right head (pow-pos K)) (lt-of-le-of-lt (le-of-eq (sym scaled-head)) (h .fine))
 
-    first-is : mulValue F (unscale F) first ≡ finite s head
+    pub first-is : mulValue F (unscale F) first ≡ finite s head
     first-is = ap (mulValue F (unscale F)) (h .is ∙ ap (finite s) scaled-head) ∙ down-step F wide s head head-rep head-fine
 
     pub middle-first : mulValue F (unscale F) first ≡ pairOf F (finite s (a * b)) .first
@@ -195,6 +195,12 @@ module _ (F : Format) (room : Roomy F) (a b : ℕ) (ar : Rep (suc (F .fraction))
         nothing : q * 2 ^ K ≡ 0 → q ≡ 0
         nothing e = omega (arith, le-mul-of-pos-right q (pow-pos K))
 
+    -- second is a number of the format, and not more than first, which is still one when it is scaled down
+    pub second-sizes : (t : Bool) (d : ℕ) → Is s (finite t d) n f → Rep K 0 d × Rep K K f × (d ≤ f)
+    second-sizes t d rel =
+        let e : d ≡ dist n f = rel-dist s t d n f rel in
+        (rw e (h .error), rw scaled-head (rw zero-add at (rep-up K head-rep)), omega (arith, error-le (h .near .near)))
+
     -- c is second scaled down, g is c scaled up again, and r what that is off by
     pub middle-second : (c g r : Value) → c ≡ mulValue F (unscale F) second → g ≡ mulValue F (scale F) c → r ≡ subValue F g second → Finished F s (a * b) first c r
     middle-second c g r = go second (h .rest)
@@ -203,15 +209,12 @@ module _ (F : Format) (room : Roomy F) (a b : ℕ) (ar : Rep (suc (F .fraction))
         go nan rel c-is g-is r-is = absurd rel
         go (infinite t) rel c-is g-is r-is = absurd rel
         go (finite t d) rel c-is g-is r-is =
-            let e : d ≡ dist n f = rel-dist s t d n f rel in
-            let dr : Rep K 0 d = rw e (h .error) in
-            let tr : Rep K K f = rw scaled-head (rw zero-add at (rep-up K head-rep)) in
-            let dt : d ≤ f = omega (arith, error-le (h .near .near)) in
-            let w = stepped-is F wide t d dr f tr dt (h .fine) c g r c-is g-is r-is in
+            let o = second-sizes t d rel in
+            let w = stepped-is F wide t d (o .0) f (o .1) (o .2) (h .fine) c g r c-is g-is r-is in
             record {
               t = t;
-              e = small F wide t d dr f tr dt (h .fine);
-              is = scaled-down F wide t d dr f tr dt (h .fine) c g r c-is g-is r-is;
+              e = small F wide t d (o .0) f (o .1) (o .2) (h .fine);
+              is = scaled-down F wide t d (o .0) f (o .1) (o .2) (h .fine) c g r c-is g-is r-is;
               finished = rw first-is (finish t d (w .0) (stepped F t c r) rel (w .2) (w .1));
-              nonzero = stepped-nonzero F wide t d dr f tr dt (h .fine) c g r c-is g-is r-is;
+              nonzero = stepped-nonzero F wide t d (o .0) f (o .1) (o .2) (h .fine) c g r c-is g-is r-is;
             }

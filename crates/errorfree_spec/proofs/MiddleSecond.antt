@@ -23,7 +23,7 @@ use Rattle.rounding_spec.proofs.Scaled.{rep-down}
 use Rattle.rounding_spec.proofs.SmallProducts.{rest-down, rest-keep}
 use Rattle.rounding_spec.proofs.TieDown.{dbl}
 use Rattle.binary32_spec.specs.Steps.{subValue, mulValue}
-use Rattle.errorfree_spec.specs.Comparisons.{same}
+use Rattle.pattern_spec.specs.Comparisons.{same}
 use Rattle.errorfree_spec.proofs.Factors.{scale, unscale}
 use Rattle.errorfree_spec.proofs.Signed.{and-both, Is, rel-own, rel-dist, is-shift, same-eq, eq-same}
 use Rattle.errorfree_spec.proofs.Steps.{toEven, is-sub, mul-positive}
@@ -52,10 +52,10 @@ module _ (F : Format) (wide : suc (F .fraction) ≤ low F) (t : Bool) (d : ℕ) 
   small-large : small ≤ large
   small-large = le-mul-of-pos-right small (pow-pos (suc (F .fraction)))
 
-  small-is : mulValue F (unscale F) (finite t d) ≡ finite t small
+  pub small-is : mulValue F (unscale F) (finite t d) ≡ finite t small
   small-is = mul-positive F (2 ^ (low F - suc (F .fraction))) t d ∙ round-below ToEven F t (2 ^ (low F - suc (F .fraction)) * d) (omega (arith, small-large, large-top))
 
-  large-is : mulValue F (scale F) (finite t small) ≡ finite t large
+  pub large-is : mulValue F (scale F) (finite t small) ≡ finite t large
   large-is = up-step F t small (suc (F .fraction)) (rep-lower (let z : 0 ≤ suc (F .fraction) = omega arith in z) (near .rep)) (omega (arith, large-top))
 
   off : 2 * dist large d ≤ 2 ^ suc (F .fraction)
@@ -71,7 +71,7 @@ module _ (F : Format) (wide : suc (F .fraction) ≤ low F) (t : Bool) (d : ℕ) 
   abbrev halfPlace : Value
   halfPlace = finite t (2 ^ F .fraction)
 
-  gap-is : Is t gap large d
+  pub gap-is : Is t gap large d
   gap-is =
       let e : dist (large + 0) (0 + d) ≡ dist large d = omega arith in
       let rep : Rep (suc (F .fraction)) 0 (dist large d) = rep-lt 0 (dist large d) (le-refl 0) (dist large d, sym (mul-one (dist large d))) (omega (arith, off, pow-pos (F .fraction))) in
@@ -84,7 +84,7 @@ module _ (F : Format) (wide : suc (F .fraction) ≤ low F) (t : Bool) (d : ℕ) 
 
   module _ (tie : large + 0 ≡ 2 ^ F .fraction + d) where
     -- half of u would have gone down
-    above-one : 1 < small
+    pub above-one : 1 < small
     above-one =
         let K = suc (F .fraction) in
         let b = pow-pos (F .fraction) in
@@ -110,7 +110,7 @@ module _ (F : Format) (wide : suc (F .fraction) ≤ low F) (t : Bool) (d : ℕ) 
     lower-near : Near0 (suc (F .fraction)) (suc (F .fraction)) d ((small - 1) * 2 ^ suc (F .fraction))
     lower-near = let b = pow-pos (F .fraction) in let two = pow-succ' 2 (F .fraction) in rw less-one (rest-down dr near (omega arith) (omega arith) (omega arith))
 
-    lower-is : Is t (subValue F (finite t small) (finite t 1)) (small - 1) 0
+    pub lower-is : Is t (subValue F (finite t small) (finite t 1)) (small - 1) 0
     lower-is =
         let one = above-one in
         let rep : Rep (suc (F .fraction)) 0 (small - 1) = rep-down (small - 1) (suc (F .fraction)) (rw zero-add (lower-near .near .rep)) in

@@ -1,7 +1,7 @@
 -- Steps on infinities and NaN give no finite value.
-use mathlib.Core.Path.{_≡_, refl, sym, ap, _∙_, subst}
+use mathlib.Core.Path.{_≡_, refl, ap, _∙_, subst}
 use mathlib.Core.Bool.{Bool, true, false, cond, Bool·beq, _&&_}
-use mathlib.Core.Logic.{_⊎_, inl, inr}
+use mathlib.Core.Logic.{inl, inr}
 use lib.Dec.{T, eqb}
 use lib.Ieee.{unlike}
 use Rattle.rounding_spec.specs.Format.{Format}
@@ -9,7 +9,8 @@ use Rattle.rounding_spec.specs.Value.{Value, nan, infinite, finite, isFinite, i
 use Rattle.pattern_spec.specs.Exact.{negate, plus, times, finer}
 use Rattle.binary32_spec.specs.Steps.{addValue, subValue, mulValue}
 use Rattle.pattern_spec.proofs.Exchanged.{plus-comm}
-pub use Rattle.augmented_spec.proofs.FlagFields.{number-of}
+pub use Rattle.pattern_spec.proofs.Truth.{one-of, both-of}
+pub use Rattle.pattern_spec.proofs.Finiteness.{number-of}
 
 -- "is finite" does not hold of a value that is not
 pub not-both : {P : Type 0} → true ≡ false → P
@@ -19,14 +20,6 @@ pub none-zero : (v : Value) → isFinite v ≡ false → isZero v ≡ false
 none-zero nan h = refl
 none-zero (infinite s) h = refl
 none-zero (finite s a) h = not-both h
-
-pub one-of : (i j : Bool) → i && j ≡ false → (i ≡ false) ⊎ (j ≡ false)
-one-of true j e = inr e
-one-of false j e = inl refl
-
-pub both-of : (i j : Bool) → i && j ≡ true → (i ≡ true) × (j ≡ true)
-both-of true j e = (refl, e)
-both-of false j e = not-both (sym e)
 
 -- ---- exact operations
 none-chosen : (c s : Bool) → isFinite (cond c (infinite s) nan) ≡ false

@@ -20,7 +20,7 @@ use Rattle.rounding_spec.proofs.Chosen.{choose-z, choose-a, z-le, z-diff}
 use Rattle.rounding_spec.proofs.TieDown.{error-le}
 use Rattle.pattern_spec.specs.Exact.{negate}
 use Rattle.binary32_spec.specs.Steps.{subValue, mulValue}
-use Rattle.errorfree_spec.specs.Comparisons.{same}
+use Rattle.pattern_spec.specs.Comparisons.{same}
 use Rattle.errorfree_spec.specs.Constants.{Roomy, psiValue, twoValue}
 use Rattle.errorfree_spec.proofs.Signed.{Rel, Is, rel-own, rel-dist, is-negate, is-shift, same-eq, eq-same}
 use Rattle.errorfree_spec.proofs.Steps.{toEven, toZero, zero-at, round-whole, is-sub, mul-positive}
@@ -56,20 +56,20 @@ is-double F r (finite s m) p n h a b =
 
 -- ---- the three lines and the choice
 module _ (F : Format) (room : Roomy F) (s : Bool) (n A : ℕ) (b : Value) (h : Split F s n A b) where
-  Z : ℕ
+  pub Z : ℕ
   Z = toEven F ((2 ^ suc (F .fraction) - 1) * 2 ^ (low F - suc (F .fraction)) * A)
 
   zn : Near (suc (F .fraction)) (suc (F .fraction)) ((2 ^ suc (F .fraction) - 1) * A) (Z * 2 ^ suc (F .fraction))
   unfolding Z
   zn = psi-near F room A
 
-  z-is : mulValue F (psiValue F) (finite s A) ≡ finite s Z
+  pub z-is : mulValue F (psiValue F) (finite s A) ≡ finite s Z
   unfolding Z
   z-is =
       let c = (2 ^ suc (F .fraction) - 1) * 2 ^ (low F - suc (F .fraction)) in
       mul-positive F c s A ∙ round-below ToEven F s (c * A) (lt-of-le-of-lt (z-le Z (h .near) zn) (h .fine))
 
-  d-is : Is s (subValue F (finite s Z) (finite s A)) Z A
+  pub d-is : Is s (subValue F (finite s Z) (finite s A)) Z A
   d-is =
       let e : dist (Z + 0) (0 + A) ≡ dist Z A = omega arith in
       let q = is-sub F s (finite s Z) (finite s A) Z 0 A 0 (rel-own s Z) (rel-own s A) (rw e (z-diff Z (h .near) zn)) (rw e (omega (arith, z-le Z (h .near) zn, h .fine))) in

@@ -11,7 +11,7 @@ use Rattle.rounding_spec.specs.Value.{Value, nan, infinite, finite}
 use Rattle.rounding_spec.proofs.Compare.{tri}
 use Rattle.pattern_spec.specs.Exact.{negate, plusFinite, plus}
 use Rattle.pattern_spec.proofs.Sums.{like?, like-eq, unlike-eq, sum-same, sum-left, sum-right, sum-none}
-use Rattle.errorfree_spec.specs.Comparisons.{same}
+use Rattle.pattern_spec.specs.Comparisons.{same}
 
 -- ---- s * m is the number p - n, where the sign r counts as plus
 abbrev pub Rel : Bool → Bool → ℕ → ℕ → ℕ → Type 0

@@ -1,96 +1,38 @@
 -- The theorems of `specs/Theorems.antt`.
 use mathlib.Core.Path.{_≡_, refl, sym, ap, ap₂, _∙_, subst}
-use mathlib.Core.Bool.{Bool, true, false, cond, Bool·beq, _&&_, _||_}
-use Prim.Native.Nat.{ℕ, zero, suc, _+_, _-_, _*_, _^_, _≤_, _<_}
+use mathlib.Core.Bool.{Bool, true, false, cond, _&&_}
+use Prim.Native.Nat.{ℕ, suc, _+_, _-_, _*_, _^_, _≤_, _<_}
 use native.Mathlib.Nat.{zero-add}
-use native.Mathlib.Decide.{decLe}
 use native.Mathlib.Omega.{arith}
-use borrow.Author.Tests.{ltb-false, eqb-true, eq-eqb}
-use lib.Dec.{eqb}
+use borrow.Author.Tests.{ltb-false}
 use lib.Ieee.{unlike}
-use lib.IntN.{ℤ, pos, negsuc, natAbs}
 use lib.Pow.{pow-pos}
 use Rattle.rounding_spec.specs.declared.Ties.the-variants.{ToEven, ToZero}
-use Rattle.rounding_spec.specs.Format.{Format, low, limit}
+use Rattle.rounding_spec.specs.Format.{Format, low}
 use Rattle.rounding_spec.specs.Round.{rounded}
 use Rattle.rounding_spec.specs.Nearest.{dist, Rep, Near}
-use Rattle.rounding_spec.specs.Value.{Value, nan, infinite, finite, Fits, isFinite, round, roundFinite}
+use Rattle.rounding_spec.specs.Value.{Value, finite, Fits, isFinite, round}
 use Rattle.rounding_spec.proofs.Rounded.{rounded-near}
-use Rattle.rounding_spec.proofs.RoundValue.{round-below, round-above}
+use Rattle.rounding_spec.proofs.RoundValue.{round-below}
 use Rattle.rounding_spec.proofs.Scaled.{rep-up}
 use Rattle.rounding_spec.proofs.Rescaled.{dist-mul, whole-near}
 use Rattle.rounding_spec.proofs.SumError as error
 use Rattle.rounding_spec.proofs.Predecessor.{upper, below-add, below-rep, below-best}
 use Rattle.rounding_spec.proofs.Predecessor as predecessor
-use Rattle.pattern_spec.specs.Exact.{negate, plus, times, finer, int}
+use Rattle.pattern_spec.specs.Exact.{negate, plus, times, finer}
 use Rattle.binary32_spec.specs.Steps.{addValue, subValue, mulValue, fmaValue}
 use Rattle.pattern_spec.proofs.Integers.{plus-exact}
 use Rattle.augmented_spec.specs.Pairs.{rest, addsUp}
-use Rattle.augmented_spec.proofs.Distance.{int-size}
-use Rattle.errorfree_spec.specs.Comparisons.{same, lessMagnitude}
+use Rattle.pattern_spec.specs.Comparisons.{same, lessMagnitude}
 use Rattle.errorfree_spec.specs.Constants.{psiValue}
-use Rattle.errorfree_spec.specs.Theorems.{SameMeans, LessMeans, SumError, ProductError, Fast2Sum, FusedRest, PsiPredecessor, Recomposition, Binary32Roomy, All}
+use Rattle.errorfree_spec.specs.Theorems.{SumError, ProductError, Fast2Sum, FusedRest, PsiPredecessor, Recomposition, Binary32Roomy, All}
 use Rattle.errorfree_spec.proofs.NoNumber.{not-both, none-zero, number-of, both-of, sum-none, finer-none, negate-none, add-none}
 use Rattle.errorfree_spec.proofs.Signed.{Is, rel-dist}
-use Rattle.errorfree_spec.proofs.Steps.{toEven, toZero, even-at, mul-finite, mul-positive}
+use Rattle.errorfree_spec.proofs.Steps.{toEven, toZero, even-at, fine-of, mul-finite, mul-positive}
 use Rattle.errorfree_spec.proofs.ProductSplit.{whole, whole-error, product-split}
 use Rattle.errorfree_spec.proofs.FastTwoSum.{add-finite, fast-two-sum}
 use Rattle.errorfree_spec.proofs.AddsUp.{adds-up, up-adds}
 use Rattle.errorfree_spec.proofs.Recomposed as split
-
--- ---- comparisons
-pub less-means : LessMeans
-unfolding lessMagnitude
-less-means = (λ s a t b. refl, nothing, λ s v. (refl, infinity s v))
-  where
-    nothing : (v : Value) → (lessMagnitude nan v ≡ false) × (lessMagnitude v nan ≡ false)
-    nothing nan = (refl, refl)
-    nothing (infinite s) = (refl, refl)
-    nothing (finite s a) = (refl, refl)
-
-    infinity : (s : Bool) (v : Value) → lessMagnitude v (infinite s) ≡ isFinite v
-    infinity s nan = refl
-    infinity s (infinite t) = refl
-    infinity s (finite t a) = refl
-
--- a zero has every sign, and no other number has two
-NotNegative : ℤ → Type 0
-NotNegative (pos a) = Unit {0}
-NotNegative (negsuc a) = ⊥
-
-two-signs : (a : ℕ) → int false a ≡ int true a → a ≡ 0
-unfolding NotNegative
-two-signs zero e = refl
-two-signs (suc a) e = absurd (subst NotNegative e tt)
-
-sign-or-zero : (s t : Bool) (a : ℕ) → int s a ≡ int t a → Bool·beq s t || eqb a 0 ≡ true
-sign-or-zero true true a e = refl
-sign-or-zero false false a e = refl
-sign-or-zero true false a e = eq-eqb a 0 (two-signs a (sym e))
-sign-or-zero false true a e = eq-eqb a 0 (two-signs a e)
-
-same-sign : (s t : Bool) (a : ℕ) → Bool·beq s t || eqb a 0 ≡ true → int s a ≡ int t a
-same-sign true true a e = refl
-same-sign false false a e = refl
-same-sign true false a e = let z = eqb-true a 0 e in rw z refl
-same-sign false true a e = let z = eqb-true a 0 e in rw z refl
-
-pub same-means : SameMeans
-unfolding same
-same-means = (λ s a t b. (forth s a t b, back s a t b), nothing, λ s t. refl, λ s t b. (refl, refl))
-  where
-    forth : (s : Bool) (a : ℕ) (t : Bool) (b : ℕ) → eqb a b && (Bool·beq s t || eqb a 0) ≡ true → int s a ≡ int t b
-    forth s a t b e = let h = both-of (eqb a b) (Bool·beq s t || eqb a 0) e in same-sign s t a (h .1) ∙ ap (int t) (eqb-true a b (h .0))
-
-    back : (s : Bool) (a : ℕ) (t : Bool) (b : ℕ) → int s a ≡ int t b → eqb a b && (Bool·beq s t || eqb a 0) ≡ true
-    back s a t b e =
-        let n : a ≡ b = sym (int-size s a) ∙ ap natAbs e ∙ int-size t b in
-        ap₂ _&&_ (eq-eqb a b n) (sign-or-zero s t a (e ∙ ap (int t) (sym n)))
-
-    nothing : (v : Value) → (same nan v ≡ false) × (same v nan ≡ false)
-    nothing nan = (refl, refl)
-    nothing (infinite s) = (refl, refl)
-    nothing (finite s a) = (refl, refl)
 
 -- ---- errors
 pub sum-error : SumError
@@ -106,14 +48,6 @@ product-error t F a b ar br big =
     let e : dist (n .0) A * U ≡ dist (A * U) (a * b) = ap (λ (z : ℕ). z * U) (let z : dist (n .0) A ≡ dist A (n .0) = omega arith in z) ∙ sym (dist-mul A (n .0) U) ∙ ap (dist (A * U)) (sym (n .1)) in
     rw (← e) (rw zero-add at (rep-up (low F) (whole-error F a b ar br big A near)))
 
--- ---- a finite rounded value
-fine-of : (F : Format) (s : Bool) (N : ℕ) → isFinite (roundFinite ToEven F s N) ≡ true → toEven F N < limit F
-fine-of F s N f =
-    elim (decLe (limit F) (toEven F N)) [
-      | yes g ↦ not-both (sym f ∙ ap isFinite (round-above ToEven F s N g))
-      | no g ↦ omega arith
-    ]
-
 -- ---- Fast2Sum and the fused step
 fast-finite : (F : Format) (s : Bool) (X : ℕ) (t : Bool) (Y : ℕ) → Fits F (finite s X) → Fits F (finite t Y) → Y ≤ X → isFinite (addValue F (finite s X) (finite t Y)) ≡ true
     → let a = addValue F (finite s X) (finite t Y) in addsUp F (finer F (plus (finite s X) (finite t Y))) (record { first = a; second = subValue F (finite t Y) (subValue F a (finite s X)) }) ≡ true
@@ -125,7 +59,7 @@ fast-finite F s X t Y xf yf le f =
     let ai = add-finite F (finite s X) (finite t Y) r n (e .2) in
     let fine = fine-of F r (n * 2 ^ low F) (sym (ap isFinite ai) ∙ f) in
     let a-is : addValue F (finite s X) (finite t Y) ≡ finite r (toEven F (n * 2 ^ low F)) = ai ∙ round-below ToEven F r (n * 2 ^ low F) fine in
-    let split = fast-two-sum F X Y (xf .0) (yf .0) (xf .1) le s t r n (e .2) fine in
+    let split = fast-two-sum F X Y (xf .0) (yf .0) (xf .1) le s t r n (e .2) fine .split in
     rw (a-is, e .2) (adds-up F r n (toEven F (n * 2 ^ low F)) (subValue F (finite t Y) (subValue F (finite r (toEven F (n * 2 ^ low F))) (finite s X))) (split .rest))
 
 pub fast2sum : Fast2Sum
@@ -209,4 +143,4 @@ pub binary32-roomy : Binary32Roomy
 binary32-roomy = omega arith
 
 pub all : All
-all = (same-means, less-means, sum-error, product-error, fast2sum, fused-rest, psi-predecessor, recomposition, binary32-roomy)
+all = (sum-error, product-error, fast2sum, fused-rest, psi-predecessor, recomposition, binary32-roomy)

@@ -24,7 +24,7 @@ use Rattle.pattern_spec.specs.Exact.{negate, plus, finer}
 use Rattle.binary32_spec.specs.Steps.{addValue, subValue, mulValue, fmaValue}
 use Rattle.pattern_spec.proofs.Sums.{not-like, sum-left}
 use Rattle.augmented_spec.specs.Pairs.{pairOf}
-use Rattle.errorfree_spec.specs.Comparisons.{same}
+use Rattle.pattern_spec.specs.Comparisons.{same}
 use Rattle.errorfree_spec.specs.Constants.{Roomy}
 use Rattle.errorfree_spec.proofs.Factors.{scale, scaleTwice, zero}
 use Rattle.errorfree_spec.proofs.Steps.{toEven, even-at, round-whole, mul-finite, zero-times}
@@ -101,10 +101,10 @@ module _ (F : Format) (room : Roomy F) (a b : ℕ) (ar : Rep (suc (F .fraction))
   up-fine c h =
       lt-of-le-of-lt (le-trans (mul-le-mul-right (2 ^ K) h) (mul-le-mul-left N (pow-mono (let z : K ≤ K + K = omega arith in z)))) (omega (arith, scaled-top, top-fine))
 
-  a-fine : a * 2 ^ K < limit F
+  pub a-fine : a * 2 ^ K < limit F
   a-fine = up-fine a (le-mul-of-pos-right a b-pos)
 
-  b-fine : b * 2 ^ K < limit F
+  pub b-fine : b * 2 ^ K < limit F
   b-fine = up-fine b (le-trans (le-mul-of-pos-right b a-pos) (le-of-eq (mul-comm b a)))
 
   scaled-is : a * 2 ^ K * (b * 2 ^ K) ≡ N * S
@@ -115,23 +115,23 @@ module _ (F : Format) (room : Roomy F) (a b : ℕ) (ar : Rep (suc (F .fraction))
       le-trans (le-of-eq (mul-comm H U)) (le-trans (mul-le-mul-right H N-half)
       (le-of-eq (ap (λ (z : ℕ). z * H) (mul-comm 2 N) ∙ mul-assoc N 2 H ∙ ap (λ (z : ℕ). N * z) (sym S-is) ∙ sym scaled-is)))
 
-  a-rep : Rep K 0 (a * 2 ^ K)
+  pub a-rep : Rep K 0 (a * 2 ^ K)
   a-rep = rep-shift K ar
 
-  b-rep : Rep K 0 (b * 2 ^ K)
+  pub b-rep : Rep K 0 (b * 2 ^ K)
   b-rep = rep-shift K br
 
-  Q : ℕ
+  pub Q : ℕ
   Q = whole F (a * 2 ^ K) (b * 2 ^ K) a-rep b-rep scaled-big .0
 
-  Q-whole : a * 2 ^ K * (b * 2 ^ K) ≡ Q * U
+  pub Q-whole : a * 2 ^ K * (b * 2 ^ K) ≡ Q * U
   unfolding Q
   Q-whole = whole F (a * 2 ^ K) (b * 2 ^ K) a-rep b-rep scaled-big .1
 
-  Q-is : N * S ≡ Q * U
+  pub Q-is : N * S ≡ Q * U
   Q-is = sym scaled-is ∙ Q-whole
 
-  T1 : ℕ
+  pub T1 : ℕ
   T1 = toEven F (a * 2 ^ K * (b * 2 ^ K))
 
   T1-near : Near K 0 Q T1
@@ -147,16 +147,16 @@ module _ (F : Format) (room : Roomy F) (a b : ℕ) (ar : Rep (suc (F .fraction))
   T1-error = whole-error F (a * 2 ^ K) (b * 2 ^ K) a-rep b-rep scaled-big T1 T1-near
 
   -- ---- the scaled rounded product
-  G-rep : Rep K 0 (E * S)
+  pub G-rep : Rep K 0 (E * S)
   G-rep = rep-shift (K + K) (rounded-rep ToEven (F .fraction) (low F) N)
 
-  G-fine : E * S < limit F
+  pub G-fine : E * S < limit F
   G-fine =
       lt-of-lt-of-le (mul-lt-mul-of-pos-right lo (pow-pos (K + K)))
       (le-trans (le-of-eq (sym (pow-add 2 K (K + K)) ∙ ap (λ (z : ℕ). 2 ^ z) (let z : K + (K + K) ≡ K + K + K = omega arith in z)))
       (le-trans (le-mul-of-pos-right (2 ^ (K + K + K)) (pow-pos (low F))) (omega (arith, top-fine))))
 
-  G-is : E * U * S ≡ E * S * U
+  pub G-is : E * U * S ≡ E * S * U
   G-is = mul-right-comm E U S
 
   S-le : S ≤ E * S
@@ -192,11 +192,11 @@ module _ (F : Format) (room : Roomy F) (a b : ℕ) (ar : Rep (suc (F .fraction))
     abbrev left : Value
     left = fmaValue F (finite s (a * 2 ^ K)) (finite t (b * 2 ^ K)) (negate (finite r T1))
 
-    t1-is : mulValue F (finite s (a * 2 ^ K)) (finite t (b * 2 ^ K)) ≡ finite r T1
+    pub t1-is : mulValue F (finite s (a * 2 ^ K)) (finite t (b * 2 ^ K)) ≡ finite r T1
     unfolding T1
     t1-is = mul-finite F s (a * 2 ^ K) t (b * 2 ^ K) ∙ round-below ToEven F r (a * 2 ^ K * (b * 2 ^ K)) T1-fine
 
-    scaled : Scaled F r T1 Q (E * S) H (K + K) left
+    pub scaled : Scaled F r T1 Q (E * S) H (K + K) left
     scaled =
         record {
           near = T1-near;

@@ -18,7 +18,7 @@ use Rattle.rounding_spec.proofs.SmallProducts.{difference-rep, difference-none,
 use Rattle.rounding_spec.proofs.Sterbenz.{dist-le}
 use Rattle.pattern_spec.specs.Exact.{plus, finer}
 use Rattle.binary32_spec.specs.Steps.{addValue, subValue}
-use Rattle.errorfree_spec.specs.Comparisons.{same}
+use Rattle.pattern_spec.specs.Comparisons.{same}
 use Rattle.errorfree_spec.proofs.Signed.{and-both, and-make, Rel, Is, rel-own, rel-dist, is-plus, is-shift, same-eq, eq-same, dist-shift, rel-other, other-side}
 use Rattle.errorfree_spec.proofs.Steps.{toEven, even-at, is-sub}
 
@@ -62,7 +62,7 @@ pub record Scaled (F : Format) (r : Bool) (T1 Q G H k : ℕ) (t2 : Value) : Type
   pub within : dist Q G ≤ H
 
 module _ (F : Format) (r : Bool) (T1 Q G H k : ℕ) (t2 : Value) (h : Scaled F r T1 Q G H k t2) where
-  abbrev t3 : Value
+  abbrev pub t3 : Value
   t3 = subValue F (finite r T1) (finite r G)
 
   abbrev minusH : Value
@@ -72,7 +72,7 @@ module _ (F : Format) (r : Bool) (T1 Q G H k : ℕ) (t2 : Value) (h : Scaled F r
   abbrev pub tieUp : Bool
   tieUp = same (addValue F t2 t3) minusH && same (subValue F (addValue F t2 t3) t3) t2
 
-  t3-is : Is r t3 T1 G
+  pub t3-is : Is r t3 T1 G
   t3-is =
       let e = dist-shift (T1 + 0) (0 + G) T1 G (omega arith) in
       is-shift r t3 (T1 + 0) (0 + G) T1 G
@@ -80,20 +80,20 @@ module _ (F : Format) (r : Bool) (T1 Q G H k : ℕ) (t2 : Value) (h : Scaled F r
       (rw e (omega (arith, h .fine, h .G-fine))))
       (omega arith)
 
-  Z : ℕ
+  pub Z : ℕ
   Z = toEven F (dist Q G * 2 ^ low F)
 
-  Z-near : Near (suc (F .fraction)) 0 (dist Q G) Z
+  pub Z-near : Near (suc (F .fraction)) 0 (dist Q G) Z
   unfolding Z
   Z-near = even-at F (dist Q G)
 
-  Z-le : Z ≤ H
+  pub Z-le : Z ≤ H
   Z-le = near-le Z-near (h .H-rep) (h .within)
 
   sum-dist : dist (Q + T1) (T1 + G) ≡ dist Q G
   sum-dist = dist-shift (Q + T1) (T1 + G) Q G (omega arith)
 
-  z-is : (s : Bool) × (addValue F t2 t3 ≡ finite s Z) × Rel r s (dist Q G) Q G
+  pub z-is : (s : Bool) × (addValue F t2 t3 ≡ finite s Z) × Rel r s (dist Q G) Q G
   unfolding Z
   z-is =
       let c = add-rounded F r t2 t3 Q T1 T1 G (h .rest) t3-is (rw sum-dist (omega (arith, Z-le, h .H-fine))) in (
@@ -115,13 +115,13 @@ module _ (F : Format) (r : Bool) (T1 Q G H k : ℕ) (t2 : Value) (h : Scaled F r
     w-bound : (Z G T1 H W : ℕ) → T1 ≤ G → Z ≤ H → H < W → G < W → dist Z (G - T1) < W
     w-bound Z G T1 H W a b c d = omega arith
 
-    w-is : Is r (subValue F (finite (not r) Z) t3) (0 + G) (Z + T1)
+    pub w-is : Is r (subValue F (finite (not r) Z) t3) (0 + G) (Z + T1)
     w-is =
         let e = w-dist Z G T1 T1-le in
         is-sub F r (finite (not r) Z) t3 0 Z T1 G (rel-other r Z) t3-is (rw e (rounded-rest k (h .near) (h .G-rep) (h .G-grid) (h .top) (h .close) (h .error) less Z-below))
         (rw e (w-bound Z G T1 H (limit F) T1-le Z-le (h .H-fine) (h .G-fine)))
 
-    z-below : addValue F t2 t3 ≡ finite (not r) Z
+    pub z-below : addValue F t2 t3 ≡ finite (not r) Z
     z-below = z-is .1 ∙ ap (λ (s : Bool). finite s Z) (other-side r (z-is .0) (dist Q G) Q G (z-is .2) less)
 
     below-true : T tieUp → Q + H ≡ G

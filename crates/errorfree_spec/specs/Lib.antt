@@ -1,3 +1,2 @@
-pub mod Comparisons
 pub mod Constants
 pub mod Theorems

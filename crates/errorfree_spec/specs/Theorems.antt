@@ -12,25 +12,8 @@ use Rattle.rounding_spec.specs.Value.{Value, nan, infinite, finite, Fits, isFin
 use Rattle.pattern_spec.specs.Exact.{negate, plus, times, finer, int}
 use Rattle.binary32_spec.specs.Steps.{addValue, subValue, mulValue, fmaValue}
 use Rattle.augmented_spec.specs.Pairs.{addsUp}
-use Rattle.errorfree_spec.specs.Comparisons.{same, lessMagnitude}
+use Rattle.pattern_spec.specs.Comparisons.{same, lessMagnitude}
 use Rattle.errorfree_spec.specs.Constants.{Roomy, psiValue, twoValue}
-
--- ---- what comparisons mean
--- finite values are the same where their numbers are, whatever the sign of zero; NaN is the same as nothing, and an infinity as itself
-abbrev pub SameMeans : Type 0
-SameMeans =
-    ((s : Bool) (a : ℕ) (t : Bool) (b : ℕ)
-    → (same (finite s a) (finite t b) ≡ true → int s a ≡ int t b) × (int s a ≡ int t b → same (finite s a) (finite t b) ≡ true))
-    × ((v : Value) → (same nan v ≡ false) × (same v nan ≡ false))
-    × ((s t : Bool) → same (infinite s) (infinite t) ≡ Bool·beq s t)
-    × ((s t : Bool) (b : ℕ) → (same (infinite s) (finite t b) ≡ false) × (same (finite t b) (infinite s) ≡ false))
-
--- by magnitude; NaN is neither below nor above anything
-abbrev pub LessMeans : Type 0
-LessMeans =
-    ((s : Bool) (a : ℕ) (t : Bool) (b : ℕ) → lessMagnitude (finite s a) (finite t b) ≡ ltb a b)
-    × ((v : Value) → (lessMagnitude nan v ≡ false) × (lessMagnitude v nan ≡ false))
-    × ((s : Bool) (v : Value) → (lessMagnitude (infinite s) v ≡ false) × (lessMagnitude v (infinite s) ≡ isFinite v))
 
 -- ---- errors that are numbers of the format
 -- what either tie rule leaves over of a sum, or of a difference
@@ -90,4 +73,4 @@ Binary32Roomy = Roomy binary32
 
 -- ---- all of them: `proofs/Theorems.antt` proves this
 abbrev pub All : Type 0
-All = SameMeans × LessMeans × SumError × ProductError × Fast2Sum × FusedRest × PsiPredecessor × Recomposition × Binary32Roomy
+All = SumError × ProductError × Fast2Sum × FusedRest × PsiPredecessor × Recomposition × Binary32Roomy

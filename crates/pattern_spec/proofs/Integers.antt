@@ -7,7 +7,7 @@ use native.Mathlib.Nat.{mul-comm, zero-mul, mul-zero}
 use native.Mathlib.Omega.{arith}
 use borrow.Author.Tests.{lt-ltb, le-ltb}
 use lib.Ieee.{unlike}
-use lib.IntN.{pos, negℤ, _+ℤ_, _*ℤ_, negℤ-negℤ, negℤ-+ℤ, +ℤ-comm, *ℤ-comm, *ℤ-negsuc, negsuc-*ℤ-pos}
+use lib.IntN.{pos, negℤ, natAbs, _+ℤ_, _*ℤ_, negℤ-negℤ, negℤ-+ℤ, +ℤ-comm, *ℤ-comm, *ℤ-negsuc, negsuc-*ℤ-pos}
 use Rattle.rounding_spec.specs.Value.{finite}
 use Rattle.rounding_spec.proofs.Compare.{tri}
 use Rattle.pattern_spec.specs.Exact.{plusFinite, int}
@@ -68,3 +68,9 @@ int-not true a = sym (negℤ-negℤ (pos a))
 pub int-scale : (s : Bool) (a G : ℕ) → int s (a * G) ≡ int s a *ℤ pos G
 int-scale false a G = refl
 int-scale true a G = sym (neg-times a G)
+
+-- ---- a number's magnitude
+pub int-size : (s : Bool) (a : ℕ) → natAbs (int s a) ≡ a
+int-size false a = refl
+int-size true zero = refl
+int-size true (suc a) = refl

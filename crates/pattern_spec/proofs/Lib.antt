@@ -1,11 +1,14 @@
+pub mod Truth
 pub mod Classified
 pub mod Shown
 pub mod Sums
+pub mod Finiteness
 pub mod Exchanged
 pub mod Exacts
 pub mod Far
 pub mod Integers
 pub mod Products
 pub mod Ordered
+pub mod Compared
 pub mod Theorems
 pub mod Moved

@@ -1,14 +1,15 @@
--- What is proved of classes, flipped signs and exact values. Each name is a statement; `proofs/Theorems.antt` has its proof.
+-- What is proved of classes, flipped signs, exact values and comparisons. Each name is a statement; `proofs/Theorems.antt` has its proof.
 use mathlib.Core.Path.{_≡_}
 use mathlib.Core.Logic.{_⊎_}
-use mathlib.Core.Bool.{Bool, true, false, not, _&&_}
+use mathlib.Core.Bool.{Bool, true, false, not, Bool·beq, _&&_}
 use Prim.Native.Nat.{ℕ, _*_, _%_, _^_, _≤_, _<_}
-use lib.Dec.{leb}
+use lib.Dec.{ltb, leb}
 use lib.Ieee.{unlike}
 use lib.IntN.{_+ℤ_, _*ℤ_}
 use Rattle.rounding_spec.specs.Format.{Format, binary32, signBit}
-use Rattle.rounding_spec.specs.Value.{finite, decode}
+use Rattle.rounding_spec.specs.Value.{Value, nan, infinite, finite, decode, isFinite}
 use Rattle.pattern_spec.specs.Answer.{refused, done, isDone, refusalOf}
+use Rattle.pattern_spec.specs.Comparisons.{same, lessMagnitude}
 use Rattle.pattern_spec.specs.Exact.{negate, plusFinite, int}
 use Rattle.pattern_spec.specs.Classes.{classOf, valueOf, flip}
 use Rattle.pattern_spec.specs.Inner.{Operand, Bounded, larger, smaller}
@@ -48,6 +49,23 @@ PlusExact =
 abbrev pub TimesExact : Type 0
 TimesExact = (s : Bool) (a : ℕ) (t : Bool) (b : ℕ) → int (unlike s t) (a * b) ≡ int s a *ℤ int t b
 
+-- ---- what comparisons mean
+-- finite values are the same where their numbers are, whatever the sign of zero; NaN is the same as nothing, and an infinity as itself
+abbrev pub SameMeans : Type 0
+SameMeans =
+    ((s : Bool) (a : ℕ) (t : Bool) (b : ℕ)
+    → (same (finite s a) (finite t b) ≡ true → int s a ≡ int t b) × (int s a ≡ int t b → same (finite s a) (finite t b) ≡ true))
+    × ((v : Value) → (same nan v ≡ false) × (same v nan ≡ false))
+    × ((s t : Bool) → same (infinite s) (infinite t) ≡ Bool·beq s t)
+    × ((s t : Bool) (b : ℕ) → (same (infinite s) (finite t b) ≡ false) × (same (finite t b) (infinite s) ≡ false))
+
+-- by magnitude; NaN is neither below nor above anything
+abbrev pub LessMeans : Type 0
+LessMeans =
+    ((s : Bool) (a : ℕ) (t : Bool) (b : ℕ) → lessMagnitude (finite s a) (finite t b) ≡ ltb a b)
+    × ((v : Value) → (lessMagnitude nan v ≡ false) × (lessMagnitude v nan ≡ false))
+    × ((s : Bool) (v : Value) → (lessMagnitude (infinite s) v ≡ false) × (lessMagnitude v (infinite s) ≡ isFinite v))
+
 -- ---- answers: a refusal's number is its own, and where a call is carried out it is 0 (R8.2), whatever values it hands back
 abbrev pub AnswerNumbers : Type 1
 AnswerNumbers =
@@ -57,4 +75,6 @@ AnswerNumbers =
 
 -- ---- all of them: `proofs/Theorems.antt` proves this
 abbrev pub All : Type 1
-All = ClassDecodes × ClassBounded × LargerFirst × FlipBits × FlipNegates × PlusExact × TimesExact × AnswerNumbers
+All =
+    ClassDecodes × ClassBounded × LargerFirst × FlipBits × FlipNegates × PlusExact × TimesExact × SameMeans × LessMeans
+    × AnswerNumbers

@@ -23,11 +23,13 @@ pub fn round(ties: Ties, sign: bool, sig: u64, exp: u16) -> u32
     round_with_rest(ties, sign, sig, exp).pattern
 }
 
-// A rounded number, and what the rounding left over, in the unit of the significand that was rounded.
+// A rounded number, and what the rounding left over, in the unit of the significand that was rounded. `none` is whether that is nothing,
+// which is known before the rest is brought to its unit.
 pub struct WithRest {
     pub pattern: u32,
     pub rest: u64,
     pub up: bool,
+    pub none: bool,
 }
 
 // Rounds sig * 2^exp, counted in 2^-298; the rest counts 2^exp of these. Shift and exponent are found by R11.9.
@@ -36,12 +38,14 @@ pub fn round_with_rest(ties: Ties, sign: bool, sig: u64, exp: u16) -> WithRest
     ensures { λ r. ⌜ r .pattern ≡ encode binary32 (roundFinite ties binary32 sign (sig * 2 ^ exp)) ⌝ }
     ensures { λ r. ⌜ r .rest * 2 ^ exp ≡ leftOver ties 23 149 (sig * 2 ^ exp) ⌝ }
     ensures { λ r. ⌜ r .up ≡ roundedUp ties 23 149 (sig * 2 ^ exp) ⌝ }
+    ensures { λ r. ⌜ r .none ≡ eqb (leftOver ties 23 149 (sig * 2 ^ exp)) 0 ⌝ }
 {
     if sig == 0 {
         return WithRest {
             pattern: packed(sign, 0, 0),
             rest: 0,
             up: false,
+            none: true,
         };
     }
     let zeros = u64::leading_zeros(sig) as u64;
@@ -55,6 +59,7 @@ pub fn round_with_rest(ties: Ties, sign: bool, sig: u64, exp: u16) -> WithRest
         pattern: packed(sign, place - 149, q),
         rest: left.rest >> zeros,
         up: left.up,
+        none: left.none,
     }
 }
 
@@ -95,10 +100,11 @@ fn kept_far(ties: Ties, n: u64, shift: u64) -> u64
     0
 }
 
-// The distance of two numbers, and whether the second is the larger.
+// The distance of two numbers, whether the second is the larger, and whether they are equal.
 pub struct Left {
     pub rest: u64,
     pub up: bool,
+    pub none: bool,
 }
 
 fn left_over(n: u64, shift: u64, q: u64) -> Left
@@ -106,6 +112,7 @@ fn left_over(n: u64, shift: u64, q: u64) -> Left
     requires { ⌜ (0 < n) × (2 * (q * 2 ^ shift) ≤ 2 * n + 2 ^ shift) ⌝ }
     ensures { λ r. ⌜ r .rest ≡ dist (q * 2 ^ shift) n ⌝ }
     ensures { λ r. ⌜ r .up ≡ ltb n (q * 2 ^ shift) ⌝ }
+    ensures { λ r. ⌜ r .none ≡ eqb (dist (q * 2 ^ shift) n) 0 ⌝ }
 {
     if shift > 63 {
         return left_far(n, q);
@@ -116,6 +123,7 @@ fn left_over(n: u64, shift: u64, q: u64) -> Left
     Left {
         rest: choose(up, (1 << shift) - rest, rest),
         up,
+        none: rest == 0,
     }
 }
 
@@ -124,13 +132,19 @@ fn left_far(n: u64, q: u64) -> Left
     requires { ⌜ (q ≤ 1) × (0 < n) ⌝ }
     ensures { λ r. ⌜ r .rest ≡ dist (q * 2 ^ 64) n ⌝ }
     ensures { λ r. ⌜ r .up ≡ ltb n (q * 2 ^ 64) ⌝ }
+    ensures { λ r. ⌜ r .none ≡ eqb (dist (q * 2 ^ 64) n) 0 ⌝ }
 {
     if q == 0 {
-        return Left { rest: n, up: false };
+        return Left {
+            rest: n,
+            up: false,
+            none: false,
+        };
     }
     Left {
         rest: 0xffff_ffff_ffff_ffff - n + 1,
         up: true,
+        none: false,
     }
 }
 

@@ -7,15 +7,15 @@ use native.Mathlib.Nat.{mul-lt-mul-of-pos-right, mul-div-cancel, mod-eq-of-lt, m
 use native.Mathlib.Decide.{decLe}
 use native.Mathlib.Omega.{arith}
 use lib.Count.{leadingZeros, leading-top}
-use lib.Dec.{ltb}
+use lib.Dec.{ltb, eqb}
 use lib.Pow.{pow-pos, pow-mono, pow-lt, shl-lt}
-use borrow.Author.Tests.{ltb-true, ltb-false, lt-ltb, le-ltb}
+use borrow.Author.Tests.{ltb-true, ltb-false, lt-ltb, le-ltb, eq-eqb, ne-eqb}
 use Rattle.rounding_spec.specs.declared.Ties.{Ties}
 use Rattle.rounding_spec.specs.Round.{keep, rounded, leftOver, roundedUp}
 use Rattle.rounding_spec.specs.Nearest.{dist, Rep}
 use Rattle.rounding_spec.specs.Theorems.{LeftOverIs}
 use Rattle.rounding_spec.proofs.Keep.{keep-whole}
-use Rattle.rounding_spec.proofs.Multiple.{joined, split-unit, sub-mul}
+use Rattle.rounding_spec.proofs.Multiple.{joined, digits-zero, split-unit, sub-mul}
 use Rattle.rounding_spec.proofs.Remainder.{shifted-back}
 use Rattle.rounding_spec.proofs.Rounded.{rounded-near, rounded-keep, rounded-none}
 use Rattle.rounding_spec.proofs.Normalised.{at-last-place, at-place}
@@ -54,6 +54,9 @@ nothing-left t e =
     dist-zero : {a b : ℕ} → a ≡ 0 → b ≡ 0 → a ≡ dist b a
     dist-zero x y = omega arith
 
+pub nothing-none : (t : Ties) (e : ℕ) → true ≡ eqb (leftOver t 23 149 (0 * 2 ^ e)) 0
+nothing-none t e = sym (eq-eqb (leftOver t 23 149 (0 * 2 ^ e)) 0 (sym (nothing-left t e .0) ∙ zero-mul (2 ^ e)))
+
 -- ---- in a word, with s places dropped
 module _ (n s q : ℕ) (word : n < 2 ^ 64) (low : n / 2 ^ s ≤ q) (high : q ≤ suc (n / 2 ^ s)) where
   abbrev Left : ℕ → Bool → Type 0
@@ -91,6 +94,21 @@ module _ (n s q : ℕ) (word : n < 2 ^ 64) (low : n / 2 ^ s ≤ q) (high : q ≤
               rw (lt-ltb (n / 2 ^ s) q l) (let z = goes-up (omega arith) in (rw (lt-ltb (n / 2 ^ s) q l) at e ∙ ap₂ _-_ unit remainder ∙ z .0, z .1))
         ]
 
+    -- a remainder that is rounded up is at least half the unit
+    pub none-is : 2 * (q * 2 ^ s) ≤ 2 * n + 2 ^ s → eqb (n - n / 2 ^ s * 2 ^ s % 2 ^ 64) 0 ≡ eqb (dist (q * 2 ^ s) n) 0
+    none-is half =
+        ap (λ (x : ℕ). eqb x 0) remainder
+        ∙ elim (decLe q (n / 2 ^ s)) [
+          | yes h ↦ ap (λ (x : ℕ). eqb x 0) (stays (omega arith) .0)
+          | no h ↦
+              let d = div-add-mod' n (2 ^ s) in
+              let m = mod-lt n (pow-pos s) in
+              let u = goes-up (omega arith) .0 in
+              let g : q * 2 ^ s ≡ 2 ^ s + n / 2 ^ s * 2 ^ s =
+              ap (λ (x : ℕ). x * 2 ^ s) (let z : q ≡ suc (n / 2 ^ s) = omega arith in z) ∙ suc-mul (n / 2 ^ s) (2 ^ s) ∙ omega arith in
+              ne-eqb (n % 2 ^ s) 0 (λ (z : n % 2 ^ s ≡ 0). omega (arith, pow-pos s)) ∙ sym (ne-eqb (dist (q * 2 ^ s) n) 0 (λ (z : dist (q * 2 ^ s) n ≡ 0). omega (arith, pow-pos s)))
+        ]
+
   -- all digits dropped
   module _ (large : 63 < s) (half : 2 * (q * 2 ^ s) ≤ 2 * n + 2 ^ s) where
     pub far-small : q ≤ 1
@@ -114,6 +132,10 @@ module _ (n s q : ℕ) (word : n < 2 ^ 64) (low : n / 2 ^ s ≤ q) (high : q ≤
 
 pub far-none : (n q : ℕ) → q ≡ 0 → (n ≡ dist (q * 2 ^ 64) n) × (false ≡ ltb n (q * 2 ^ 64))
 far-none n q e = let z : q * 2 ^ 64 ≡ 0 = ap (λ (x : ℕ). x * 2 ^ 64) e ∙ zero-mul (2 ^ 64) in (omega arith, sym (le-ltb n (q * 2 ^ 64) (omega arith)))
+
+pub far-some : (n q : ℕ) → 0 < n → n < 2 ^ 64 → q ≤ 1 → false ≡ eqb (dist (q * 2 ^ 64) n) 0
+far-some n q pos word small =
+    sym (ne-eqb (dist (q * 2 ^ 64) n) 0 (λ (z : dist (q * 2 ^ 64) n ≡ 0). omega arith))
 
 pub far-one : (n q : ℕ) → n < 2 ^ 64 → q ≡ 1 → (0xffff_ffff_ffff_ffff - n + 1 ≡ dist (q * 2 ^ 64) n) × (true ≡ ltb n (q * 2 ^ 64))
 far-one n q w e = let z : q * 2 ^ 64 ≡ 2 ^ 64 = ap (λ (x : ℕ). x * 2 ^ 64) e ∙ one-mul (2 ^ 64) in (omega arith, sym (lt-ltb n (q * 2 ^ 64) (omega arith)))
@@ -164,6 +186,17 @@ module _ (t : Ties) (sig e place : ℕ) (pos : 0 < sig) (word : sig < 2 ^ 64) (i
       let b : dist (q * 2 ^ (shift - zeros)) sig * 2 ^ e ≡ dist (q * 2 ^ place) (sig * 2 ^ e) =
       sym (dist-scale (q * 2 ^ (shift - zeros)) sig (2 ^ e)) ∙ ap (λ (x : ℕ). dist x (sig * 2 ^ e)) (joined q (shift - zeros) e place (let z = shift-at in omega arith)) in
       rw (a, mul-div-cancel (dist (q * 2 ^ (shift - zeros)) sig) (pow-pos zeros)) b
+
+  -- whether it is nothing, in either unit
+  pub none-at : eqb (dist (q * 2 ^ shift) (sig * 2 ^ zeros % 2 ^ 64)) 0 ≡ eqb (leftOver t 23 149 (sig * 2 ^ e)) 0
+  none-at =
+      let d = dist (q * 2 ^ shift) (sig * 2 ^ zeros) in
+      let l = leftOver t 23 149 (sig * 2 ^ e) in
+      let both : d * 2 ^ e ≡ l * 2 ^ zeros =
+      sym (dist-scale (q * 2 ^ shift) (sig * 2 ^ zeros) (2 ^ e))
+      ∙ ap₂ dist (same ∙ ap (λ (x : ℕ). x * 2 ^ zeros) (sym rounded-at)) (mul-right-comm sig (2 ^ zeros) (2 ^ e))
+      ∙ dist-scale (rounded t 23 149 (sig * 2 ^ e) * 2 ^ 149) (sig * 2 ^ e) (2 ^ zeros) in
+      ap (λ (x : ℕ). eqb (dist (q * 2 ^ shift) x) 0) moved ∙ sym (digits-zero d e) ∙ ap (λ (x : ℕ). eqb x 0) both ∙ digits-zero l zeros
 
   -- or it is, and nothing is left over
   fine : shift < zeros → q * 2 ^ shift ≡ sig * 2 ^ zeros

@@ -2,7 +2,8 @@
 use mathlib.Core.Path.{_≡_, sym, ap, _∙_, subst}
 use mathlib.Core.Logic.{_⊎_, inl, inr}
 use Prim.Native.Nat.{ℕ, suc, _+_, _-_, _*_, _/_, _%_, _^_, _≤_, _<_}
-use native.Mathlib.Nat.{eq-zero-or-pos, mul-le-mul-right, le-div-iff-mul-le, mod-lt, div-add-mod', div-div-eq-div-mul, pow-suc, pow-succ'}
+use native.Mathlib.Decide.{decLe}
+use native.Mathlib.Nat.{le-of-lt, add-mul, eq-zero-or-pos, mul-le-mul-right, le-div-iff-mul-le, mod-lt, div-add-mod', div-div-eq-div-mul, pow-suc, pow-succ'}
 use native.Mathlib.Omega.{arith}
 use lib.Arith.{digits-lt, digits-div, digits-mod, mod-mul}
 use lib.Dec.{lit<}
@@ -11,6 +12,8 @@ use Rattle.rounding_spec.specs.declared.Ties.{Ties}
 use Rattle.rounding_spec.specs.Round.{keep, lastPlace, rounded}
 use Rattle.rounding_spec.proofs.LastPlace.{place-is, place-ge, place-gt, place-above, place-below}
 use Rattle.rounding_spec.proofs.Keep.{keep-lt, keep-gt}
+use Rattle.rounding_spec.proofs.Multiple.{mult-down}
+use Rattle.rounding_spec.proofs.Rounded.{rounded-keep}
 
 -- ---- g counts halves of the last place, and r is what is below
 module _ (t : Ties) (h g r : ℕ) (l : r < 2 ^ h) where
@@ -75,6 +78,17 @@ sticky t f L h A r s over r0 rl s0 sl =
     in
     let same : lastPlace f L M ≡ k = place-is f L k M (place-ge f L N) up down in
     rw same (ap (λ (x : ℕ). x * 2 ^ (k - L)) (keep-sticky-up t k h A r s over r0 rl s0 sl))
+
+-- what lies between two neighbouring multiples of 2 ^ h, and has more digits above it than are kept, loses something
+pub between-lost : (t : Ties) (f L h A N : ℕ) → 2 ^ suc f ≤ A → A * 2 ^ h < N → N < A * 2 ^ h + 2 ^ h → rounded t f L N * 2 ^ L ≡ N → ⊥
+between-lost t f L h A N a l u e =
+    let big : 2 ^ (suc f + h) ≤ N = rw (pow-add 2 (suc f) h) (omega (arith, mul-le-mul-right (2 ^ h) a)) in
+    let c = mult-down N (le-of-lt (place-gt f L h N big)) (keep t (lastPlace f L N) N, sym e ∙ rounded-keep t f L N) in
+    let is = c .1 in
+    elim (decLe (c .0) A) [
+      | yes g ↦ omega (arith, mul-le-mul-right (2 ^ h) g)
+      | no g ↦ let m : A + 1 ≤ c .0 = omega arith in omega (arith, mul-le-mul-right (2 ^ h) m, add-mul A 1 (2 ^ h))
+    ]
 
 -- rounding to odd first: an odd number of units stands for all that lies within one unit of it
 pub odd : (t : Ties) (f L h A N : ℕ) → 2 ^ suc f ≤ A → A * 2 ^ suc h < N → N < A * 2 ^ suc h + 2 ^ suc h → rounded t f L N ≡ rounded t f L ((2 * A + 1) * 2 ^ h)

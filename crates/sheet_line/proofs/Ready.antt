@@ -6,10 +6,10 @@ use Prim.Native.Nat.{ℕ, _≤_, _<_}
 use native.Mathlib.Omega.{arith}
 use borrow.Author.Tests.{le-leb, lt-leb, lt-ltb, le-ltb, ltb-false, leb-true, leb-false, ltb-true}
 use lib.Dec.{leb, ltb}
+use Rattle.pattern_spec.proofs.Truth.{both-of}
 use Rattle.transcript_spec.specs.Texts.{lineRoom}
 use Rattle.sheet_spec.specs.Positions.{goesOn}
 use Rattle.sheet_spec.specs.declared.Position.{Position}
-use Rattle.sheet_spec.proofs.Positions.{and-both}
 use Rattle.sheet_line.specs.Inner.{readyFor, takesMore}
 
 and-false : (a b : Bool) → a && b ≡ false → (a ≡ false) ⊎ (b ≡ false)
@@ -27,7 +27,7 @@ has-room p room need r h e = rw (le-leb need room h) e
 module _ (p : Position) (room need : ℕ) (r : Bool) (is : r ≡ readyFor p room need) where
   pub is-ready : r ≡ true → (need ≤ room) × (goesOn p ≡ true)
   unfolding readyFor
-  is-ready e = let a = and-both (leb need room) (goesOn p) (sym is ∙ e) in (leb-true need room (a .0), a .1)
+  is-ready e = let a = both-of (leb need room) (goesOn p) (sym is ∙ e) in (leb-true need room (a .0), a .1)
 
   pub not-ready : r ≡ false → (room < need) ⊎ (goesOn p ≡ false)
   unfolding readyFor
@@ -46,7 +46,7 @@ module _ (left : ℕ) (p : Position) (room : ℕ) (r : Bool) (is : r ≡ takesMo
   pub more-left : r ≡ true → (0 < left) × (lineRoom ≤ room) × (goesOn p ≡ true)
   unfolding takesMore
   more-left e =
-      let a = and-both (ltb 0 left) (readyFor p room lineRoom) (sym is ∙ e) in
+      let a = both-of (ltb 0 left) (readyFor p room lineRoom) (sym is ∙ e) in
       let b = is-ready p room lineRoom true (sym (a .1)) refl in
       (ltb-true 0 left (a .0), b .0, b .1)
 

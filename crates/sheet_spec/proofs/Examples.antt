@@ -3,11 +3,12 @@ use mathlib.Core.Path.{refl}
 use lib.Ieee.{size}
 use Rattle.rounding_spec.specs.Round.{keep, lastPlace}
 use Rattle.rounding_spec.specs.Value.{decode, encode}
-use Rattle.pattern_spec.specs.Exact.{finer}
+use Rattle.pattern_spec.specs.Exact.{times, finer}
 use Rattle.augmented_spec.specs.Pairs.{pairOf}
 use Rattle.accumulator_spec.specs.Words.{integer, wordsOfInteger}
 use Rattle.binary32_spec.specs.Steps.{addStep, subStep, mulStep}
-use Rattle.errorfree_spec.specs.Comparisons.{same, lessMagnitude}
+use Rattle.binary32_spec.specs.Marks.{markBy, addMark, subMark, mulMark}
+use Rattle.pattern_spec.specs.Comparisons.{same, lessMagnitude}
 use Rattle.augmented_spec.specs.Direct.{directPair}
 use Rattle.worksheet_spec.specs.Sheets.{sheetOf, sumSheet, swaps, sumInOrder, sumFrom, recomposedFinished, recomposition, zeroFinish, overflows}
 use Rattle.worksheet_spec.specs.Filling.{linesWords, sheetWords, sheetAnswer, filling, afterFilling}
@@ -34,7 +35,7 @@ unfolding
     output linesFrom linesText lineText filledText afterLines afterLine closingText
     readQuestion lettersOperation allDigits patternFrom
     filling afterFilling linesWords sheetWords sheetAnswer sheetOf sumSheet swaps sumInOrder sumFrom recomposedFinished recomposition zeroFinish overflows
-    lessMagnitude same addStep subStep mulStep keep lastPlace size directPair
+    lessMagnitude same addStep subStep mulStep addMark subMark mulMark markBy times keep lastPlace size directPair
     reading column adding afterAdding fit integer wordsOfInteger decode encode finer pairOf
     stepsText answeredText askText questionText operationLettersByNumber decimalUpTo stepText stepLettersByNumber thirdText pairText flagsText totalText endText
 printed-example = (refl, refl)
@@ -44,7 +45,7 @@ unfolding
     output linesFrom linesText lineText filledText afterLines afterLine closingText
     readQuestion lettersOperation allDigits patternFrom
     filling afterFilling linesWords sheetWords sheetAnswer sheetOf sumSheet swaps sumInOrder sumFrom recomposedFinished recomposition zeroFinish overflows
-    lessMagnitude same addStep subStep mulStep keep lastPlace size directPair
+    lessMagnitude same addStep subStep mulStep addMark subMark mulMark markBy times keep lastPlace size directPair
     reading column adding afterAdding fit integer wordsOfInteger decode encode finer pairOf
     stepsText answeredText askText questionText operationLettersByNumber decimalUpTo stepText stepLettersByNumber thirdText pairText flagsText totalText endText
 printed-minus-zero = refl

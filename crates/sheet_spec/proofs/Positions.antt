@@ -8,6 +8,7 @@ use native.Mathlib.Omega.{arith}
 use borrow.Author.Tests.{le-leb, lt-leb, lt-ltb, le-ltb, leb-true, ltb-true, eq-eqb, ne-eqb, eqb-true, not-true, not-false}
 use lib.Dec.{eqb, leb, ltb}
 use lib.ListN.{take}
+use Rattle.pattern_spec.proofs.Truth.{both-of}
 use Rattle.accumulator_spec.specs.Totals.{zeros}
 use Rattle.question_spec.specs.Ascii.{newline}
 use Rattle.question_spec.specs.Questions.{readQuestion}
@@ -18,10 +19,6 @@ use Rattle.sheet_spec.specs.Positions.{goesOn, progressOf, stateOf}
 use Rattle.sheet_spec.specs.declared.Position.{Position}
 
 -- ---- whether a run goes on
-pub and-both : (a b : Bool) → a && b ≡ true → (a ≡ true) × (b ≡ true)
-and-both true b e = (refl, e)
-and-both false b e = absurd (true≢false (sym e))
-
 either-true : (a b : Bool) → a || b ≡ true → (a ≡ true) ⊎ (b ≡ true)
 either-true true b e = inl refl
 either-true false b e = inr e
@@ -41,13 +38,13 @@ pub counts : (p : Position) → goesOn p ≡ true → Counts p
 unfolding goesOn
 counts p e =
     let last : Bool = ltb (p .lines) mostInputLines || (eqb (p .lines) mostInputLines && eqb (p .length) 0) in
-    let n = and-both (not (p .stopped)) (leb (p .good) (p .lines) && (leb (p .length) keptBytes && last)) e in
-    let a = and-both (leb (p .good) (p .lines)) (leb (p .length) keptBytes && last) (n .1) in
-    let b = and-both (leb (p .length) keptBytes) last (a .1) in
+    let n = both-of (not (p .stopped)) (leb (p .good) (p .lines) && (leb (p .length) keptBytes && last)) e in
+    let a = both-of (leb (p .good) (p .lines)) (leb (p .length) keptBytes && last) (n .1) in
+    let b = both-of (leb (p .length) keptBytes) last (a .1) in
     let room : (p .lines < mostInputLines) ⊎ ((p .lines ≡ mostInputLines) × (p .length ≡ 0)) =
     elim (either-true (ltb (p .lines) mostInputLines) (eqb (p .lines) mostInputLines && eqb (p .length) 0) (b .1)) [
       | inl h ↦ inl (ltb-true (p .lines) mostInputLines h)
-      | inr h ↦ let k = and-both (eqb (p .lines) mostInputLines) (eqb (p .length) 0) h in inr (eqb-true (p .lines) mostInputLines (k .0), eqb-true (p .length) 0 (k .1))
+      | inr h ↦ let k = both-of (eqb (p .lines) mostInputLines) (eqb (p .length) 0) h in inr (eqb-true (p .lines) mostInputLines (k .0), eqb-true (p .length) 0 (k .1))
     ] in
     record { going = not-true (p .stopped) (n .0); good = leb-true (p .good) (p .lines) (a .0); length = leb-true (p .length) keptBytes (b .0); lines = room }
 

@@ -188,7 +188,7 @@ PastLimit =
 
 -- ---- how many lines are taken (R8.11), bytes of a line are kept, and bytes are room for a line's text and the last two lines
 abbrev pub SheetLimits : Type 0
-SheetLimits = (mostInputLines ≡ 32768) × (keptBytes ≡ 22) × (lineRoom ≡ 680) × (lastRoom ≡ 740)
+SheetLimits = (mostInputLines ≡ 32768) × (keptBytes ≡ 22) × (lineRoom ≡ 706) × (lastRoom ≡ 766)
 
 -- ---- empty input (R9.10)
 abbrev pub EmptyInput : Type 0
@@ -207,12 +207,12 @@ exampleQuestion = ascii "sum\t3F800001\t33800000"
 abbrev pub exampleText : List ℕ
 exampleText =
     ascii "ask\t1\tsum\t3F800001\t33800000\n"
-    ++ (ascii "step\t1\tadd\t3F800001\t33800000\t-\t3F800002\n"
-    ++ (ascii "step\t2\tsub\t3F800002\t3F800001\t-\t34000000\n"
-    ++ (ascii "step\t3\tsub\t33800000\t34000000\t-\tB3800000\n"
-    ++ (ascii "step\t4\tmul\t3F7FFFFF\t3F800002\t-\t3F800001\n"
-    ++ (ascii "step\t5\tsub\t3F800001\t3F800002\t-\tB4000000\n"
-    ++ (ascii "step\t6\tmul\t40000000\tB3800000\t-\tB4000000\n"
+    ++ (ascii "step\t1\tadd\t3F800001\t33800000\t-\t3F800002\t1\n"
+    ++ (ascii "step\t2\tsub\t3F800002\t3F800001\t-\t34000000\t0\n"
+    ++ (ascii "step\t3\tsub\t33800000\t34000000\t-\tB3800000\t0\n"
+    ++ (ascii "step\t4\tmul\t3F7FFFFF\t3F800002\t-\t3F800001\t1\n"
+    ++ (ascii "step\t5\tsub\t3F800001\t3F800002\t-\tB4000000\t0\n"
+    ++ (ascii "step\t6\tmul\t40000000\tB3800000\t-\tB4000000\t0\n"
     ++ (ascii "pair\t3F800001\t33800000\t-\n"
     ++ (ascii "total\t3F800001\t33800000\n"
     ++ ascii "end\t1\t0\n"))))))))
@@ -224,13 +224,13 @@ PrintedExample = (output (exampleQuestion ++ ascii "\n") ≡ exampleText) × (ou
 abbrev pub minusZeroText : List ℕ
 minusZeroText =
     ascii "ask\t1\tsum\t80000000\t80000000\n"
-    ++ (ascii "step\t1\tadd\t80000000\t80000000\t-\t80000000\n"
-    ++ (ascii "step\t2\tsub\t80000000\t80000000\t-\t00000000\n"
-    ++ (ascii "step\t3\tsub\t80000000\t00000000\t-\t80000000\n"
-    ++ (ascii "step\t4\tmul\t3F7FFFFF\t80000000\t-\t80000000\n"
-    ++ (ascii "step\t5\tsub\t80000000\t80000000\t-\t00000000\n"
-    ++ (ascii "step\t6\tmul\t40000000\t80000000\t-\t80000000\n"
-    ++ (ascii "step\t7\tmul\t00000000\t80000000\t-\t80000000\n"
+    ++ (ascii "step\t1\tadd\t80000000\t80000000\t-\t80000000\t0\n"
+    ++ (ascii "step\t2\tsub\t80000000\t80000000\t-\t00000000\t0\n"
+    ++ (ascii "step\t3\tsub\t80000000\t00000000\t-\t80000000\t0\n"
+    ++ (ascii "step\t4\tmul\t3F7FFFFF\t80000000\t-\t80000000\t0\n"
+    ++ (ascii "step\t5\tsub\t80000000\t80000000\t-\t00000000\t0\n"
+    ++ (ascii "step\t6\tmul\t40000000\t80000000\t-\t80000000\t0\n"
+    ++ (ascii "step\t7\tmul\t00000000\t80000000\t-\t80000000\t0\n"
     ++ (ascii "pair\t80000000\t80000000\t-\n"
     ++ (ascii "total\t80000000\t80000000\n"
     ++ ascii "end\t1\t0\n")))))))))

@@ -3,4 +3,5 @@ pub mod bytes;
 pub mod decimals;
 pub mod flags;
 pub mod letters;
+pub mod marks;
 pub mod patterns;

@@ -34,17 +34,17 @@ pub fn flags(flags: Flags) -> usize
 }
 
 pub fn step(number: u32, operation: u32) -> usize
-    ensures { λ r. ⌜ ((words : List ℕ) → getD words 0 0 ≡ operation → r ≡ length (stepText number words)) × (r ≤ 56) ⌝ }
+    ensures { λ r. ⌜ ((words : List ℕ) → getD words 0 0 ≡ operation → r ≡ length (stepText number words)) × (r ≤ 58) ⌝ }
 {
     if takes_two(operation) {
-        return 39 + decimal(number);
+        return 41 + decimal(number);
     }
-    46 + decimal(number)
+    48 + decimal(number)
 }
 
 fn steps(words: &[u32; SHEET_SIZE], lines: usize) -> usize
     requires { ⌜ lines ≤ mostLines ⌝ }
-    ensures { λ r. ⌜ (r ≡ length (stepsText lines 1 (now (words .entry)))) × (r ≤ 56 * mostLines) ⌝ }
+    ensures { λ r. ⌜ (r ≡ length (stepsText lines 1 (now (words .entry)))) × (r ≤ 58 * mostLines) ⌝ }
 {
     let mut n: usize = 0;
     let mut k: usize = 0;

@@ -8,6 +8,7 @@ use transcript_fields::decimals::put_decimal;
 use transcript_fields::flags::put_flags;
 use transcript_fields::letters::put_letters;
 use transcript_fields::letters::put_step_letters;
+use transcript_fields::marks::put_mark;
 use transcript_fields::patterns::put_pattern;
 use transcript_fields::patterns::put_patterns;
 use transcript_fields::patterns::put_third;
@@ -19,7 +20,7 @@ ghost use lib.ListN.{length, drop};
 ghost use Rattle.worksheet_spec.specs.Lines.{lineSize, mostLines};
 ghost use Rattle.question_spec.specs.Ascii.{ascii, tab};
 ghost use Rattle.question_spec.specs.Questions.{patternText};
-ghost use Rattle.transcript_spec.specs.Texts.{decimal, thirdText, flagsText, lineOf};
+ghost use Rattle.transcript_spec.specs.Texts.{decimal, thirdText, flagsText, markText, lineOf};
 ghost use Rattle.transcript_spec.specs.Texts.{askText, stepText, pairText, totalText, stepsText, shownText};
 ghost use Rattle.transcript_spec.specs.Buffers.{Put};
 ghost use Rattle.transcript_spec.specs.Inner.{answeredLength};
@@ -47,14 +48,14 @@ fn put_start(out: &mut [u8], at: usize, number: u32) -> usize
 }
 
 // What a `step` ends with, from its third operand on.
-fn put_rest(out: &mut [u8], at: usize, operation: u32, z: u32, result: u32) -> usize
-    requires { ⌜ at + 11 + length (thirdText operation z) ≤ length (now out) ⌝ }
-    ensures { λ r. ⌜ Put (now (out .entry)) at (tab ∷ lineOf (thirdText operation z ∷ patternText result ∷ [])) r (now (out .exit)) ⌝ }
+fn put_rest(out: &mut [u8], at: usize, operation: u32, z: u32, result: u32, mark: u32) -> usize
+    requires { ⌜ at + 13 + length (thirdText operation z) ≤ length (now out) ⌝ }
+    ensures { λ r. ⌜ Put (now (out .entry)) at (tab ∷ lineOf (thirdText operation z ∷ patternText result ∷ markText mark ∷ [])) r
+        (now (out .exit)) ⌝ }
 {
     let a = put_third(out, at, operation, z);
     let b = put_pattern(out, a, result);
-    out[b] = b'\n';
-    b + 1
+    put_mark(out, b, mark)
 }
 
 pub fn put_step(out: &mut [u8], at: usize, number: u32, line: [u32; LINE_SIZE]) -> usize
@@ -65,7 +66,7 @@ pub fn put_step(out: &mut [u8], at: usize, number: u32, line: [u32; LINE_SIZE]) 
     let a = put_start(out, at, number);
     let b = put_step_letters(out, a, operation);
     let c = put_patterns(out, b, line[1], line[2]);
-    put_rest(out, c, operation, line[3], line[4])
+    put_rest(out, c, operation, line[3], line[4], line[5])
 }
 
 pub fn put_pair(out: &mut [u8], at: usize, pair: Pair) -> usize
@@ -117,6 +118,7 @@ fn put_line(out: &mut [u8], at: usize, words: &[u32; SHEET_SIZE], line: usize) -
         words[i + 2],
         words[i + 3],
         words[i + 4],
+        words[i + 5],
     ];
     put_step(out, at, (line as u32) + 1, step)
 }

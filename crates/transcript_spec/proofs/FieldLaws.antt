@@ -17,7 +17,7 @@ use Rattle.question_spec.specs.Ascii.{ascii}
 use Rattle.question_spec.specs.Questions.{operationLettersByNumber, patternText}
 use Rattle.question_spec.proofs.ThreeLetters.{three-letters}
 use Rattle.transcript_spec.specs.Inner.{halfText}
-use Rattle.transcript_spec.specs.Texts.{stepOf, stepLetters, stepLettersByNumber, takesTwo, thirdText, mark, marks, flagsText}
+use Rattle.transcript_spec.specs.Texts.{stepOf, stepLetters, stepLettersByNumber, takesTwo, thirdText, flagLetter, flagLetters, flagsText}
 
 pub letters-length : (o : ℕ) → length (operationLettersByNumber o) ≡ 3
 unfolding operationLettersByNumber
@@ -102,46 +102,54 @@ pub empty : (l : List ℕ) → length l ≡ 0 → l ≡ []
 empty [] e = refl
 empty (a ∷ l) e = absurd (omega arith)
 
-pub marks-length : (f : Flags) → length (marks f) ≡ length (mark (f .invalid) (code "I"))
-    + (length (mark (f .overflow) (code "O")) + (length (mark (f .underflow) (code "U")) + length (mark (f .inexact) (code "X"))))
-marks-length f =
+pub flag-letters-length : (f : Flags) → length (flagLetters f) ≡ length (flagLetter (f .invalid) (code "I"))
+    + (length (flagLetter (f .overflow) (code "O")) + (length (flagLetter (f .underflow) (code "U")) + length (flagLetter (f .inexact) (code "X"))))
+flag-letters-length f =
     rw (
-      length-append (mark (f .invalid) (code "I")) (mark (f .overflow) (code "O") ++ (mark (f .underflow) (code "U") ++ mark (f .inexact) (code "X"))),
-      length-append (mark (f .overflow) (code "O")) (mark (f .underflow) (code "U") ++ mark (f .inexact) (code "X")),
-      length-append (mark (f .underflow) (code "U")) (mark (f .inexact) (code "X")),
+      length-append (flagLetter (f .invalid) (code "I")) (flagLetter (f .overflow) (code "O") ++ (flagLetter (f .underflow) (code "U") ++ flagLetter (f .inexact) (code "X"))),
+      length-append (flagLetter (f .overflow) (code "O")) (flagLetter (f .underflow) (code "U") ++ flagLetter (f .inexact) (code "X")),
+      length-append (flagLetter (f .underflow) (code "U")) (flagLetter (f .inexact) (code "X")),
     )
 
-mark-length : (b : Bool) (c : ℕ) → length (mark b c) ≡ boolByte b
-mark-length true c = refl
-mark-length false c = refl
+flag-letter-length : (b : Bool) (c : ℕ) → length (flagLetter b c) ≡ boolByte b
+flag-letter-length true c = refl
+flag-letter-length false c = refl
 
 pub byte-most : (b : Bool) → boolByte b ≤ 1
 byte-most true = omega arith
 byte-most false = omega arith
 
 -- as many letters as flags are raised
-pub marks-count : (f : Flags) → boolByte (f .invalid) + boolByte (f .overflow) + boolByte (f .underflow) + boolByte (f .inexact) ≡ length (marks f)
-marks-count f = omega (arith, marks-length f, mark-length (f .invalid) (code "I"), mark-length (f .overflow) (code "O"), mark-length (f .underflow) (code "U"), mark-length (f .inexact) (code "X"))
+pub flag-letters-count : (f : Flags) → boolByte (f .invalid) + boolByte (f .overflow) + boolByte (f .underflow) + boolByte (f .inexact) ≡ length (flagLetters f)
+flag-letters-count f =
+    omega (
+      arith,
+      flag-letters-length f,
+      flag-letter-length (f .invalid) (code "I"),
+      flag-letter-length (f .overflow) (code "O"),
+      flag-letter-length (f .underflow) (code "U"),
+      flag-letter-length (f .inexact) (code "X"),
+    )
 
-pub no-flags : (f : Flags) → length (marks f) ≡ 0 → flagsText f ≡ ascii "-"
+pub no-flags : (f : Flags) → length (flagLetters f) ≡ 0 → flagsText f ≡ ascii "-"
 unfolding flagsText
-no-flags f e = rw (eq-eqb (length (marks f)) 0 e)
+no-flags f e = rw (eq-eqb (length (flagLetters f)) 0 e)
 
-pub some-flags : (f : Flags) → (length (marks f) ≡ 0 → ⊥) → flagsText f ≡ marks f
+pub some-flags : (f : Flags) → (length (flagLetters f) ≡ 0 → ⊥) → flagsText f ≡ flagLetters f
 unfolding flagsText
-some-flags f n = rw (ne-eqb (length (marks f)) 0 n)
+some-flags f n = rw (ne-eqb (length (flagLetters f)) 0 n)
 
 longer : (b : Bool) (l : List ℕ) → (b ≡ true → length l ≡ 0) → (b ≡ false → length l ≢ 0) → (length l ≤ length (cond b (ascii "-") l)) × (1 ≤ length (cond b (ascii "-") l))
 longer true l p q = (omega (arith, p refl), omega arith)
 longer false l p q = (omega arith, omega (arith, q refl))
 
-pub flags-room : (f : Flags) → (length (marks f) ≤ length (flagsText f)) × (1 ≤ length (flagsText f))
+pub flags-room : (f : Flags) → (length (flagLetters f) ≤ length (flagsText f)) × (1 ≤ length (flagsText f))
 unfolding flagsText
-flags-room f = longer (eqb (length (marks f)) 0) (marks f) (eqb-true (length (marks f)) 0) (eqb-false (length (marks f)) 0)
+flags-room f = longer (eqb (length (flagLetters f)) 0) (flagLetters f) (eqb-true (length (flagLetters f)) 0) (eqb-false (length (flagLetters f)) 0)
 
-mark-most : (b : Bool) (c : ℕ) → length (mark b c) ≤ 1
-mark-most true c = omega arith
-mark-most false c = omega arith
+flag-letter-most : (b : Bool) (c : ℕ) → length (flagLetter b c) ≤ 1
+flag-letter-most true c = omega arith
+flag-letter-most false c = omega arith
 
 most : (b : Bool) (l : List ℕ) → length l ≤ 4 → length (cond b (ascii "-") l) ≤ 4
 most true l h = omega arith
@@ -150,5 +158,11 @@ most false l h = h
 pub flags-most : (f : Flags) → length (flagsText f) ≤ 4
 unfolding flagsText
 flags-most f =
-    most (eqb (length (marks f)) 0) (marks f)
-    (rw (marks-length f) (omega (arith, mark-most (f .invalid) (code "I"), mark-most (f .overflow) (code "O"), mark-most (f .underflow) (code "U"), mark-most (f .inexact) (code "X"))))
+    most (eqb (length (flagLetters f)) 0) (flagLetters f)
+    (rw (flag-letters-length f) (omega (
+      arith,
+      flag-letter-most (f .invalid) (code "I"),
+      flag-letter-most (f .overflow) (code "O"),
+      flag-letter-most (f .underflow) (code "U"),
+      flag-letter-most (f .inexact) (code "X"),
+    )))

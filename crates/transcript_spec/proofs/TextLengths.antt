@@ -16,6 +16,7 @@ use Rattle.transcript_spec.specs.Texts.{
   takesTwo,
   thirdText,
   flagsText,
+  markText,
   lineOf,
   askText,
   stepText,
@@ -43,20 +44,20 @@ ask-length n o x y =
     ∙ (between (ascii "ask\t") (decimal n) (tab ∷ []) (operationLettersByNumber o ++ after-letters x y)
     ∙ omega (arith, length-append (operationLettersByNumber o) (after-letters x y), letters-length o))
 
-pub step-length : (n : ℕ) (words : List ℕ) → length (stepText n words) ≡ 38 + length (decimal n) + length (thirdText (getD words 0 0) (getD words 3 0))
+pub step-length : (n : ℕ) (words : List ℕ) → length (stepText n words) ≡ 40 + length (decimal n) + length (thirdText (getD words 0 0) (getD words 3 0))
 unfolding stepText
 step-length n words =
     let o : ℕ = getD words 0 0 in
     let third : List ℕ = thirdText o (getD words 3 0) in
-    let rest : List ℕ = tab ∷ lineOf (patternText (getD words 4 0) ∷ []) in
+    let rest : List ℕ = tab ∷ lineOf (patternText (getD words 4 0) ∷ markText (getD words 5 0) ∷ []) in
     let after : List ℕ = tab ∷ patternText (getD words 1 0) ++ (tab ∷ patternText (getD words 2 0) ++ (tab ∷ third ++ rest)) in
     omega (arith, length-append (decimal n) (tab ∷ stepLettersByNumber o ++ after), length-append (stepLettersByNumber o) after, step-letters-length o, length-append third rest)
 
 module _ (n : ℕ) (words : List ℕ) (two : Bool) (is : two ≡ takesTwo (stepOf (getD words 0 0))) where
-  pub step-length-two : two ≡ true → length (stepText n words) ≡ 39 + length (decimal n)
+  pub step-length-two : two ≡ true → length (stepText n words) ≡ 41 + length (decimal n)
   step-length-two t = omega (arith, step-length n words, ap length (third-unused (getD words 0 0) (getD words 3 0) two t is))
 
-  pub step-length-three : two ≡ false → length (stepText n words) ≡ 46 + length (decimal n)
+  pub step-length-three : two ≡ false → length (stepText n words) ≡ 48 + length (decimal n)
   step-length-three f = omega (arith, step-length n words, ap length (third-used (getD words 0 0) (getD words 3 0) two f is))
 
 pub pair-length : (p : Pair) → length (pairText p) ≡ 24 + length (flagsText (p .flags))

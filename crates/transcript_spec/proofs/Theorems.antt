@@ -4,7 +4,7 @@ use native.Mathlib.Omega.{arith}
 use Rattle.worksheet_spec.specs.Lines.{mostLines}
 use Rattle.transcript_spec.specs.Texts.{askText, stepText, pairText, badText, totalText, endText, answeredText}
 use Rattle.transcript_spec.specs.Theorems.{Decimals, AtMost, NoneEmpty, All}
-use Rattle.transcript_spec.proofs.Bytes.{flag-texts, step-fields, line-fields, example}
+use Rattle.transcript_spec.proofs.Bytes.{flag-texts, step-fields, mark-texts, line-fields, example}
 use Rattle.transcript_spec.proofs.Buffers.{writes-means}
 use Rattle.transcript_spec.proofs.Pasted.{put-means}
 use Rattle.transcript_spec.proofs.DecimalLaws.{decimal-most, decimal-least}
@@ -32,4 +32,4 @@ none-empty n o x y words lines p = (some _, some _, some _, some _, some _, some
     some n = omega arith
 
 pub all : All
-all = (decimals, flag-texts, step-fields, line-fields, put-means, writes-means, at-most, none-empty, example)
+all = (decimals, flag-texts, step-fields, mark-texts, line-fields, put-means, writes-means, at-most, none-empty, example)

@@ -14,11 +14,11 @@ use Rattle.transcript_spec.proofs.TextLengths.{step-length}
 
 -- a step's text depends on the words of its own line
 pub same-step : (number : ℕ) (words : List ℕ) (i : ℕ)
-    → stepText number (getD words i 0 ∷ getD words (i + 1) 0 ∷ getD words (i + 2) 0 ∷ getD words (i + 3) 0 ∷ getD words (i + 4) 0 ∷ []) ≡ stepText number (drop i words)
+    → stepText number (getD words i 0 ∷ getD words (i + 1) 0 ∷ getD words (i + 2) 0 ∷ getD words (i + 3) 0 ∷ getD words (i + 4) 0 ∷ getD words (i + 5) 0 ∷ []) ≡ stepText number (drop i words)
 unfolding stepText
 same-step number words i =
     let e : i + 0 ≡ i = omega arith in
-    rw (getD-drop i words 0 0, getD-drop i words 1 0, getD-drop i words 2 0, getD-drop i words 3 0, getD-drop i words 4 0, e)
+    rw (getD-drop i words 0 0, getD-drop i words 1 0, getD-drop i words 2 0, getD-drop i words 3 0, getD-drop i words 4 0, getD-drop i words 5 0, e)
 
 one-more-from : (k number : ℕ) (words : List ℕ) → stepsText (suc k) number words ≡ stepsText k number words ++ stepText (number + k) (drop (lineSize * k) words)
 unfolding stepsText
@@ -58,14 +58,14 @@ fewer (suc j) (suc k) number words h =
     omega (arith, length-append (stepText number words) (stepsText j (suc number) later), length-append (stepText number words) (stepsText k (suc number) later))
 
 -- ---- at most
-step-most : (number : ℕ) (words : List ℕ) → number < 100 → length (stepText number words) ≤ 48
+step-most : (number : ℕ) (words : List ℕ) → number < 100 → length (stepText number words) ≤ 50
 step-most number words h = omega (arith, step-length number words, third-most (getD words 0 0) (getD words 3 0), two-lengths number h)
 
-short-step-most : (number : ℕ) (words : List ℕ) → number < 10 → length (stepText number words) ≤ 47
+short-step-most : (number : ℕ) (words : List ℕ) → number < 10 → length (stepText number words) ≤ 49
 short-step-most number words h = omega (arith, step-length number words, third-most (getD words 0 0) (getD words 3 0), one-length number h)
 
--- up to the last step of a sheet: 48 bytes for each at most, and a byte less for those before the tenth
-steps-most-from : (k number : ℕ) (words : List ℕ) → number + k ≤ suc mostLines → length (stepsText k number words) + (10 - number) ≤ 48 * (suc mostLines - number)
+-- up to the last step of a sheet: 50 bytes for each at most, and a byte less for those before the tenth
+steps-most-from : (k number : ℕ) (words : List ℕ) → number + k ≤ suc mostLines → length (stepsText k number words) + (10 - number) ≤ 50 * (suc mostLines - number)
 unfolding stepsText
 steps-most-from zero number words h = omega arith
 steps-most-from (suc k) number words h =
@@ -76,5 +76,5 @@ steps-most-from (suc k) number words h =
     (λ l. omega (arith, rest, sum, l, step-most number words (omega arith)))
     (small-or-not number)
 
-pub steps-most : (k : ℕ) (words : List ℕ) → k ≤ mostLines → length (stepsText k 1 words) + 9 ≤ 48 * mostLines
+pub steps-most : (k : ℕ) (words : List ℕ) → k ≤ mostLines → length (stepsText k 1 words) + 9 ≤ 50 * mostLines
 steps-most k words h = omega (arith, steps-most-from k 1 words (omega arith))

@@ -7,7 +7,7 @@ use lib.ListN.{length, getD}
 use Rattle.augmented_spec.specs.declared.Flags.{Flags}
 use Rattle.question_spec.specs.Ascii.{ascii, tab}
 use Rattle.question_spec.specs.Questions.{digit, patternText}
-use Rattle.transcript_spec.specs.Texts.{marks, flagsText}
+use Rattle.transcript_spec.specs.Texts.{flagLetters, flagsText}
 use Rattle.transcript_spec.specs.Inner.{halfText}
 use Rattle.transcript_spec.specs.Buffers.{pasted, Put, Writes}
 use Rattle.transcript_spec.proofs.Buffers.{fits}
@@ -21,11 +21,11 @@ whole {s} {v} {t} {r} p =
     (p .ends ∙ omega (arith, f .0), p .bytes ∙ sym (f .1))
 
 -- where no letter was written the buffer is as before
-pub dash-put : {s r v : List ℕ} {at p q : ℕ} (f : Flags) → Put s at (marks f) p r → p ≡ at → Put r at (ascii "-") q v → Put s at (flagsText f) q v
+pub dash-put : {s r v : List ℕ} {at p q : ℕ} (f : Flags) → Put s at (flagLetters f) p r → p ≡ at → Put r at (ascii "-") q v → Put s at (flagsText f) q v
 unfolding pasted
 dash-put {s} {r} {v} {at} {p} {q} f a e b =
-    let z : length (marks f) ≡ 0 = omega (arith, a .ends) in
-    let n = empty (marks f) z in
+    let z : length (flagLetters f) ≡ 0 = omega (arith, a .ends) in
+    let n = empty (flagLetters f) z in
     let same : r ≡ s = a .bytes ∙ rw n (sym (nothing-put s at (omega (arith, a .room)) .bytes)) in
     rw (no-flags f z) (rw same at b)
 

@@ -49,17 +49,25 @@ takesTwo fused = false
 unfoldable pub thirdText : ℕ → ℕ → List ℕ
 thirdText operation z = cond (takesTwo (stepOf operation)) (ascii "-") (patternText z)
 
--- the letters of the flags that are raised, I O U X in this order (R4.1),
-abbrev pub mark : Bool → ℕ → List ℕ
-mark raised letter = cond raised (letter ∷ []) []
+-- a mark (R2.8) by its digit; what is above 2 is no mark, and is shown as 2
+abbrev pub markDigit : ℕ → ℕ
+markDigit m = code "0" + min m 2
 
-abbrev pub marks : Flags → List ℕ
-marks f =
-    mark (f .invalid) (code "I") ++ (mark (f .overflow) (code "O") ++ (mark (f .underflow) (code "U") ++ mark (f .inexact) (code "X")))
+abbrev pub markText : ℕ → List ℕ
+markText m = markDigit m ∷ []
+
+-- the letters of the flags that are raised, I O U X in this order (R4.1),
+abbrev pub flagLetter : Bool → ℕ → List ℕ
+flagLetter raised letter = cond raised (letter ∷ []) []
+
+abbrev pub flagLetters : Flags → List ℕ
+flagLetters f =
+    flagLetter (f .invalid) (code "I")
+    ++ (flagLetter (f .overflow) (code "O") ++ (flagLetter (f .underflow) (code "U") ++ flagLetter (f .inexact) (code "X")))
 
 -- or a dash where none is
 unfoldable pub flagsText : Flags → List ℕ
-flagsText f = cond (eqb (length (marks f)) 0) (ascii "-") (marks f)
+flagsText f = cond (eqb (length (flagLetters f)) 0) (ascii "-") (flagLetters f)
 
 -- ---- lines: fields with tabs between them, and a newline at the end (R9.2)
 abbrev pub lineOf : List (List ℕ) → List ℕ
@@ -71,7 +79,7 @@ lineOf (field ∷ next ∷ fields) = field ++ (tab ∷ lineOf (next ∷ fields))
 unfoldable pub askText : ℕ → ℕ → ℕ → ℕ → List ℕ
 askText number operation x y = lineOf (ascii "ask" ∷ decimal number ∷ questionText operation x y ∷ [])
 
--- R9.5: the step's number, and its words: operation, three operands, result
+-- R9.5: the step's number, and its words: operation, three operands, result, mark
 unfoldable pub stepText : ℕ → List ℕ → List ℕ
 stepText number words =
     lineOf (
@@ -82,6 +90,7 @@ stepText number words =
     ∷ patternText (getD words 2 0)
     ∷ thirdText (getD words 0 0) (getD words 3 0)
     ∷ patternText (getD words 4 0)
+    ∷ markText (getD words 5 0)
     ∷ []
     )
 
@@ -120,4 +129,4 @@ answeredText number operation x y words lines pair = shownText number operation 
 
 -- bytes that are room for the text of any question (`AtMost` of Theorems)
 abbrev pub lineRoom : ℕ
-lineRoom = 680
+lineRoom = 706

@@ -15,6 +15,7 @@ use Rattle.question_spec.specs.Questions.{patternText, questionText}
 use Rattle.transcript_spec.specs.Texts.{
   decimal,
   flagsText,
+  markText,
   askText,
   stepText,
   pairText,
@@ -62,20 +63,24 @@ FlagTexts =
     × (flagsText (raised true true true false) ≡ ascii "IOU") × (flagsText (raised true true true true) ≡ ascii "IOUX")
 
 -- ---- lines, whatever stands in their fields: tabs between the fields and a newline at the end (R9.2)
--- a step, of these letters and this text of the third operand (R9.5)
-abbrev pub stepLine : ℕ → List ℕ → ℕ → ℕ → List ℕ → ℕ → List ℕ
-stepLine n letters x y third r =
+-- a step, of these letters, this text of the third operand and this digit (R9.5)
+abbrev pub stepLine : ℕ → List ℕ → ℕ → ℕ → List ℕ → ℕ → List ℕ → List ℕ
+stepLine n letters x y third r digit =
     ascii "step\t" ++ (decimal n ++ (ascii "\t" ++ (letters ++ (ascii "\t" ++ (patternText x ++ (ascii "\t" ++ (patternText y
-    ++ (ascii "\t" ++ (third ++ (ascii "\t" ++ (patternText r ++ ascii "\n")))))))))))
+    ++ (ascii "\t" ++ (third ++ (ascii "\t" ++ (patternText r ++ (ascii "\t" ++ (digit ++ ascii "\n")))))))))))))
 
 -- by the operation's number (R5.22): the third operand of a fused step, whatever it is, and of no other
 abbrev pub StepFields : Type 0
 StepFields =
-    (n x y z r : ℕ) (more : List ℕ)
-    → (stepText n (1 ∷ x ∷ y ∷ z ∷ r ∷ more) ≡ stepLine n (ascii "add") x y (ascii "-") r)
-    × (stepText n (2 ∷ x ∷ y ∷ z ∷ r ∷ more) ≡ stepLine n (ascii "sub") x y (ascii "-") r)
-    × (stepText n (3 ∷ x ∷ y ∷ z ∷ r ∷ more) ≡ stepLine n (ascii "mul") x y (ascii "-") r)
-    × (stepText n (4 ∷ x ∷ y ∷ z ∷ r ∷ more) ≡ stepLine n (ascii "fma") x y (patternText z) r)
+    (n x y z r m : ℕ) (more : List ℕ)
+    → (stepText n (1 ∷ x ∷ y ∷ z ∷ r ∷ m ∷ more) ≡ stepLine n (ascii "add") x y (ascii "-") r (markText m))
+    × (stepText n (2 ∷ x ∷ y ∷ z ∷ r ∷ m ∷ more) ≡ stepLine n (ascii "sub") x y (ascii "-") r (markText m))
+    × (stepText n (3 ∷ x ∷ y ∷ z ∷ r ∷ m ∷ more) ≡ stepLine n (ascii "mul") x y (ascii "-") r (markText m))
+    × (stepText n (4 ∷ x ∷ y ∷ z ∷ r ∷ m ∷ more) ≡ stepLine n (ascii "fma") x y (patternText z) r (markText m))
+
+-- the digits of the three marks (R2.8, R9.5); a word that is none is shown as 2
+abbrev pub MarkTexts : Type 0
+MarkTexts = (markText 0 ≡ ascii "0") × (markText 1 ≡ ascii "1") × ((m : ℕ) → 2 ≤ m → markText m ≡ ascii "2")
 
 -- the other lines (R9.4, R9.6 to R9.9)
 abbrev pub LineFields : Type 0
@@ -116,22 +121,25 @@ NoneEmpty =
     × (0 < length (totalText x y)) × (0 < length (endText n o)) × (0 < length stopText)
     × (0 < length (answeredText n o x y words lines p))
 
--- ---- lines of R9.11, and others that have every digit, all letters and flags, three operands, a third operand of 0, and a refusal
+-- ---- lines of R9.11, and others that have every digit, all letters and flags, three operands, a third operand of 0, every mark,
+-- and a refusal
 abbrev pub Example : Type 0
 Example =
     (askText 1 (operationNumber sum) 0x3f80_0001 0x3380_0000 ≡ ascii "ask\t1\tsum\t3F800001\t33800000\n")
     × (askText 12 (operationNumber difference) 0x0123_4567 0x89ab_cdef ≡ ascii "ask\t12\tdif\t01234567\t89ABCDEF\n")
     × (askText 345 (operationNumber product) 0xfedc_ba98 0x7654_3210 ≡ ascii "ask\t345\tmul\tFEDCBA98\t76543210\n")
-    × (stepText 1 (stepNumber add ∷ 0x3f80_0001 ∷ 0x3380_0000 ∷ 0 ∷ 0x3f80_0002 ∷ [])
-    ≡ ascii "step\t1\tadd\t3F800001\t33800000\t-\t3F800002\n")
-    × (stepText 2 (stepNumber subtract ∷ 0x3f80_0002 ∷ 0x3f80_0001 ∷ 0 ∷ 0x3400_0000 ∷ [])
-    ≡ ascii "step\t2\tsub\t3F800002\t3F800001\t-\t34000000\n")
-    × (stepText 4 (stepNumber multiply ∷ 0x3f7f_ffff ∷ 0x3f80_0002 ∷ 0 ∷ 0x3f80_0001 ∷ [])
-    ≡ ascii "step\t4\tmul\t3F7FFFFF\t3F800002\t-\t3F800001\n")
-    × (stepText 10 (stepNumber fused ∷ 0x3f80_0001 ∷ 0x3f80_0001 ∷ 0 ∷ 0x3f80_0002 ∷ [])
-    ≡ ascii "step\t10\tfma\t3F800001\t3F800001\t00000000\t3F800002\n")
-    × (stepText 11 (stepNumber fused ∷ 0x4178_0000 ∷ 0x7d04_2108 ∷ 0xff00_0000 ∷ 0xf280_0000 ∷ [])
-    ≡ ascii "step\t11\tfma\t41780000\t7D042108\tFF000000\tF2800000\n")
+    × (stepText 1 (stepNumber add ∷ 0x3f80_0001 ∷ 0x3380_0000 ∷ 0 ∷ 0x3f80_0002 ∷ 1 ∷ [])
+    ≡ ascii "step\t1\tadd\t3F800001\t33800000\t-\t3F800002\t1\n")
+    × (stepText 2 (stepNumber subtract ∷ 0x3f80_0002 ∷ 0x3f80_0001 ∷ 0 ∷ 0x3400_0000 ∷ 0 ∷ [])
+    ≡ ascii "step\t2\tsub\t3F800002\t3F800001\t-\t34000000\t0\n")
+    × (stepText 4 (stepNumber multiply ∷ 0x3f7f_ffff ∷ 0x3f80_0002 ∷ 0 ∷ 0x3f80_0001 ∷ 1 ∷ [])
+    ≡ ascii "step\t4\tmul\t3F7FFFFF\t3F800002\t-\t3F800001\t1\n")
+    × (stepText 10 (stepNumber fused ∷ 0x3f80_0001 ∷ 0x3f80_0001 ∷ 0 ∷ 0x3f80_0002 ∷ 1 ∷ [])
+    ≡ ascii "step\t10\tfma\t3F800001\t3F800001\t00000000\t3F800002\t1\n")
+    × (stepText 11 (stepNumber fused ∷ 0x4178_0000 ∷ 0x7d04_2108 ∷ 0xff00_0000 ∷ 0xf280_0000 ∷ 0 ∷ [])
+    ≡ ascii "step\t11\tfma\t41780000\t7D042108\tFF000000\tF2800000\t0\n")
+    × (stepText 13 (stepNumber multiply ∷ 0x3f00_0000 ∷ 0x7f80_0000 ∷ 0 ∷ 0x7f80_0000 ∷ 2 ∷ [])
+    ≡ ascii "step\t13\tmul\t3F000000\t7F800000\t-\t7F800000\t2\n")
     × (pairText (record { first = 0x3f80_0001; second = 0x3380_0000; flags = none }) ≡ ascii "pair\t3F800001\t33800000\t-\n")
     × (pairText (record { first = 0x7fc0_0000; second = 0x7fc0_0000; flags = I }) ≡ ascii "pair\t7FC00000\t7FC00000\tI\n")
     × (pairText (record { first = 0x7f80_0000; second = 0x7f80_0000; flags = OX }) ≡ ascii "pair\t7F800000\t7F800000\tOX\n")
@@ -142,4 +150,4 @@ Example =
     × (stopText ≡ ascii "stop\t11\n")
 
 abbrev pub All : Type 0
-All = Decimals × FlagTexts × StepFields × LineFields × PutMeans × WritesMeans × AtMost × NoneEmpty × Example
+All = Decimals × FlagTexts × StepFields × MarkTexts × LineFields × PutMeans × WritesMeans × AtMost × NoneEmpty × Example

@@ -30,8 +30,8 @@ blank-words : (k : ℕ) → flat (blank k) ≡ replicate (lineSize * k) 0
 unfolding flat
 blank-words zero = refl
 blank-words (suc k) =
-    let five : lineSize * suc k ≡ suc (suc (suc (suc (suc (lineSize * k))))) = omega arith in
-    rw (blank-words k, five)
+    let six : lineSize * suc k ≡ suc (suc (suc (suc (suc (suc (lineSize * k)))))) = omega arith in
+    rw (blank-words k, six)
 
 flat-append : (ks ls : Rows) → flat (ks ++ ls) ≡ flat ks ++ flat ls
 unfolding flat

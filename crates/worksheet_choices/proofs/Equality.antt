@@ -11,7 +11,7 @@ use Rattle.rounding_spec.specs.Format.{binary32, infinity}
 use Rattle.rounding_spec.specs.Value.{infinite, finite, magnitude, unsigned, decode}
 use Rattle.rounding_spec.proofs.Compare.{tri}
 use Rattle.rounding_spec.proofs.Codec.{unsigned-finite, unsigned-infinite, unsigned-nan}
-use Rattle.errorfree_spec.specs.Comparisons.{same}
+use Rattle.pattern_spec.specs.Comparisons.{same}
 use Rattle.worksheet_spec.specs.Lines.{equal}
 use Rattle.rounding_spec.proofs.Orders.{magnitude-none, magnitude-eqb}
 

@@ -12,7 +12,7 @@ use Rattle.rounding_spec.specs.Format.{binary32, infinity}
 use Rattle.rounding_spec.specs.Value.{Value, finite, magnitude, unsigned, decode}
 use Rattle.rounding_spec.proofs.Compare.{tri}
 use Rattle.rounding_spec.proofs.Codec.{unsigned-finite, unsigned-infinite, unsigned-nan}
-use Rattle.errorfree_spec.specs.Comparisons.{lessMagnitude}
+use Rattle.pattern_spec.specs.Comparisons.{lessMagnitude}
 use Rattle.worksheet_spec.specs.Sheets.{swaps}
 use Rattle.rounding_spec.proofs.Orders.{magnitude-ltb}
 

@@ -10,17 +10,19 @@ use Rattle.worksheet_spec.specs.Lines.{lineSize}
 use Rattle.worksheet_lines.specs.Inner.{flat}
 
 -- ---- one row
-word-by-word : (l : List ℕ) → length l ≡ lineSize → l ≡ getD l 0 0 ∷ getD l 1 0 ∷ getD l 2 0 ∷ getD l 3 0 ∷ getD l 4 0 ∷ []
+word-by-word : (l : List ℕ) → length l ≡ lineSize → l ≡ getD l 0 0 ∷ getD l 1 0 ∷ getD l 2 0 ∷ getD l 3 0 ∷ getD l 4 0 ∷ getD l 5 0 ∷ []
 word-by-word l e =
     let a = drop-cons l 0 0 (omega arith) in
     let b = drop-cons l 1 0 (omega arith) in
     let d = drop-cons l 2 0 (omega arith) in
     let f = drop-cons l 3 0 (omega arith) in
     let g = drop-cons l 4 0 (omega arith) in
-    let h = drop-of-length-le l {i = lineSize} (omega arith) in
-    cc (a, b, d, f, g, h)
+    let h = drop-cons l 5 0 (omega arith) in
+    let n = drop-of-length-le l {i = lineSize} (omega arith) in
+    cc (a, b, d, f, g, h, n)
 
-pub line-copied : (ws l : List ℕ) → length ws ≡ lineSize → length l ≡ lineSize → set (set (set (set (set ws 0 (getD l 0 0)) 1 (getD l 1 0)) 2 (getD l 2 0)) 3 (getD l 3 0)) 4 (getD l 4 0) ≡ l
+pub line-copied : (ws l : List ℕ) → length ws ≡ lineSize → length l ≡ lineSize
+    → set (set (set (set (set (set ws 0 (getD l 0 0)) 1 (getD l 1 0)) 2 (getD l 2 0)) 3 (getD l 3 0)) 4 (getD l 4 0)) 5 (getD l 5 0) ≡ l
 line-copied ws l p q = rw (word-by-word ws p) (sym (word-by-word l q))
 
 -- ---- the rows so far, and one more

@@ -7,9 +7,9 @@ use Rattle.worksheet_spec.specs.Lines.{Line, Gives, Sheet}
 use Rattle.worksheet_spec.specs.Filling.{lineWords}
 use Rattle.worksheet_lines.specs.declared.Foot.{Foot}
 
--- A line went into the nth row. Its result is the step's on its operands.
+-- A line went into the nth row. Its result and its mark are the step's on its operands.
 pub record Written (before after : List (List ℕ)) (n : ℕ) (l : Line) : Type 0 where
-  pub gives : Gives (l .step) (l .x) (l .y) (l .z) (l .result)
+  pub gives : Gives (l .step) (l .x) (l .y) (l .z) (l .result) (l .mark)
   pub rows : after ≡ set before n (lineWords l)
 
 -- rows with lines in them from the nth on

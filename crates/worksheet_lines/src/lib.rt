@@ -1,4 +1,4 @@
-// Lines of a sheet, in rows of their own. Each result is a rounding step's.
+// Lines of a sheet, in rows of their own. Each result, with its mark, is a rounding step's.
 pub mod blocks;
 pub mod constants;
 
@@ -29,8 +29,8 @@ pub fn add(lines: &mut Rows, n: usize, x: u32, y: u32) -> u32
     ensures { λ r. ⌜ Written (now (lines .entry)) (now (lines .exit)) n (line add x y r) ⌝ }
 {
     let r = binary32::add(x, y);
-    lines[n] = [ADD, x, y, 0, r];
-    r
+    lines[n] = [ADD, x, y, 0, r.result, r.mark];
+    r.result
 }
 
 pub fn sub(lines: &mut Rows, n: usize, x: u32, y: u32) -> u32
@@ -38,8 +38,8 @@ pub fn sub(lines: &mut Rows, n: usize, x: u32, y: u32) -> u32
     ensures { λ r. ⌜ Written (now (lines .entry)) (now (lines .exit)) n (line subtract x y r) ⌝ }
 {
     let r = binary32::sub(x, y);
-    lines[n] = [SUBTRACT, x, y, 0, r];
-    r
+    lines[n] = [SUBTRACT, x, y, 0, r.result, r.mark];
+    r.result
 }
 
 pub fn mul(lines: &mut Rows, n: usize, x: u32, y: u32) -> u32
@@ -47,8 +47,8 @@ pub fn mul(lines: &mut Rows, n: usize, x: u32, y: u32) -> u32
     ensures { λ r. ⌜ Written (now (lines .entry)) (now (lines .exit)) n (line multiply x y r) ⌝ }
 {
     let r = binary32::mul(x, y);
-    lines[n] = [MULTIPLY, x, y, 0, r];
-    r
+    lines[n] = [MULTIPLY, x, y, 0, r.result, r.mark];
+    r.result
 }
 
 pub fn fused(lines: &mut Rows, n: usize, x: u32, y: u32, z: u32) -> u32
@@ -56,8 +56,8 @@ pub fn fused(lines: &mut Rows, n: usize, x: u32, y: u32, z: u32) -> u32
     ensures { λ r. ⌜ Written (now (lines .entry)) (now (lines .exit)) n (fusedLine x y z r) ⌝ }
 {
     let r = binary32::fma(x, y, z);
-    lines[n] = [FUSED, x, y, z, r];
-    r
+    lines[n] = [FUSED, x, y, z, r.result, r.mark];
+    r.result
 }
 
 // All rows, the unused ones too.
@@ -84,4 +84,5 @@ fn copy_line(line: [u32; LINE_SIZE], words: &mut [u32])
     words[2] = line[2];
     words[3] = line[3];
     words[4] = line[4];
+    words[5] = line[5];
 }

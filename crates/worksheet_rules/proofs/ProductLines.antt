@@ -20,7 +20,7 @@ module _ (x y a : ℕ) {l₀ l₁ l₂ l₃ l₄ : Rows} {h s m r : ℕ} {foot :
       → Follows l₃ l₄ 4 (edgeFinish a s r) foot → Follows l₀ l₄ 1 (infiniteProduct x y a) foot
   unfolding infiniteProduct
   infinite c₁ c₂ e c₃ f =
-      rw (← c₁ .gives .0, ← c₂ .gives .0, ← e, ← c₃ .gives) (then-sheet (then-line (then-line (then-line (none-yet l₀ 1) c₁ refl) c₂ refl) c₃ refl) f refl)
+      rw (← c₁ .gives .0, ← c₂ .gives .0, ← e, ← c₃ .gives .0) (then-sheet (then-line (then-line (then-line (none-yet l₀ 1) c₁ refl) c₂ refl) c₃ refl) f refl)
 
 -- ---- a tiny one
 module _ (x y a : ℕ) {l₀ l₁ l₂ l₃ l₄ l₅ l₆ l₇ l₈ : Rows} {m n t₁ f t₂ g t₃ z w : ℕ}
@@ -36,14 +36,14 @@ module _ (x y a : ℕ) {l₀ l₁ l₂ l₃ l₄ l₅ l₆ l₇ l₈ : Rows} {m 
       → Written l₉ l₁₀ 10 (line multiply plusZero first second) → Follows l₀ l₁₀ 1 (tinyProduct x y a) (record { first = first; second = second; next = 11 })
   unfolding tinyProduct lowering lowered
   lowered-tiny {l₉} {l₁₀} tie k c₉ c₁₀ =
-      rw (← c₁ .gives .0, ← c₂ .gives .0, ← c₃ .gives .0, ← e, ← c₄ .gives, ← c₅ .gives .0, ← c₆ .gives .0, ← c₇ .gives .0, ← c₈ .gives .0, tie, ← k, ← c₉ .gives .0, ← c₁₀ .gives .0)
+      rw (← c₁ .gives .0, ← c₂ .gives .0, ← c₃ .gives .0, ← e, ← c₄ .gives .0, ← c₅ .gives .0, ← c₆ .gives .0, ← c₇ .gives .0, ← c₈ .gives .0, tie, ← k, ← c₉ .gives .0, ← c₁₀ .gives .0)
       (then-sheet eight-lines (then-sheet (then-line (none-yet l₈ 9) c₉ refl) (then-sheet (then-line (none-yet l₉ 10) c₁₀ refl) (foot-follows l₁₀ 11 _ _) refl) refl) refl)
 
   pub tiny : {l₉ : Rows} {second : ℕ} → tinyTie a z w t₂ ≡ false → Written l₈ l₉ 9 (line multiply plusZero a second)
       → Follows l₀ l₉ 1 (tinyProduct x y a) (record { first = a; second = second; next = 10 })
   unfolding tinyProduct
   tiny {l₉} tie c₉ =
-      rw (← c₁ .gives .0, ← c₂ .gives .0, ← c₃ .gives .0, ← e, ← c₄ .gives, ← c₅ .gives .0, ← c₆ .gives .0, ← c₇ .gives .0, ← c₈ .gives .0, tie, ← c₉ .gives .0)
+      rw (← c₁ .gives .0, ← c₂ .gives .0, ← c₃ .gives .0, ← e, ← c₄ .gives .0, ← c₅ .gives .0, ← c₆ .gives .0, ← c₇ .gives .0, ← c₈ .gives .0, tie, ← c₉ .gives .0)
       (then-sheet eight-lines (then-sheet (none-yet l₈ 9) (then-sheet (then-line (none-yet l₈ 9) c₉ refl) (foot-follows l₉ 10 _ _) refl) refl) refl)
 
 -- ---- one between
@@ -69,14 +69,14 @@ module _ (x y : ℕ) {l₀ l₁ l₂ l₃ l₄ l₅ : Rows} {m a f b : ℕ} {pai
       → Follows l₃ l₄ 4 (recomposition a b) pair → Follows l₄ l₅ 7 (scaledDown (pair .first) (pair .second)) foot → Follows l₀ l₅ 1 (middleProduct x y) foot
   unfolding middleProduct
   middle c₁ c₂ e c₃ p q =
-      rw (← c₁ .gives .0, ← c₂ .gives .0, ← e, ← c₃ .gives, ← p .first, ← p .second)
+      rw (← c₁ .gives .0, ← c₂ .gives .0, ← e, ← c₃ .gives .0, ← p .first, ← p .second)
       (then-sheet (then-lines (then-line (then-line (then-line (none-yet l₀ 1) c₁ refl) c₂ refl) c₃ refl) p refl) q (omega (arith, recomposition-length a b)))
 
 -- ---- any other
 module _ (x y a : ℕ) {l₀ l₁ l₂ : Rows} {f b : ℕ} {foot : Foot} where
   pub other : f ≡ minus a → Written l₀ l₁ 1 (fusedLine x y f b) → Follows l₁ l₂ 2 (recomposedFinished a b) foot → Follows l₀ l₂ 1 (otherProduct x y a) foot
   unfolding otherProduct
-  other e c₁ g = rw (← e, ← c₁ .gives) (then-sheet (then-line (none-yet l₀ 1) c₁ refl) g refl)
+  other e c₁ g = rw (← e, ← c₁ .gives .0) (then-sheet (then-line (none-yet l₀ 1) c₁ refl) g refl)
 
 -- ---- each of them after the first line
 module _ (x y a : ℕ) {l₀ l₁ l₂ : Rows} {foot : Foot} where

@@ -9,7 +9,7 @@ use Rattle.rounding_spec.specs.Value.{Value, nan, infinite, finite, isZero, isF
 use Rattle.pattern_spec.specs.Exact.{negate, plus, times, finer}
 use Rattle.binary32_spec.specs.Steps.{addValue, subValue, mulValue, subStep, mulStep}
 use Rattle.binary32_spec.proofs.Theorems.{sub-decodes, mul-decodes}
-use Rattle.errorfree_spec.specs.Comparisons.{same}
+use Rattle.pattern_spec.specs.Comparisons.{same}
 use Rattle.errorfree_spec.specs.Constants as factor
 use Rattle.errorfree_spec.proofs.Factors as factors
 use Rattle.errorfree_spec.proofs.Steps.{toZero}
@@ -148,7 +148,7 @@ module _ (a a' b' : ℕ) where
 
   -- a' is a number
   module _ (s : Bool) (A : ℕ) (ei : value a' ≡ finite s A) where
-    test-is : atEdge a' b' ≡ same (value a') (finite s (halfLimit binary32)) && same (value b') (finite (not s) (edgeRest binary32))
+    pub test-is : atEdge a' b' ≡ same (value a') (finite s (halfLimit binary32)) && same (value b') (finite (not s) (edgeRest binary32))
     unfolding negate atEdge
     test-is =
         let w : Pattern (copySign twoTo102 a') = sign-width a' twoTo102 (omega arith) in

@@ -34,19 +34,19 @@ none = tt
 -- ---- a line of each operation, before others
 adds : (x y : ℕ) (ls : List Line) → Each ls → Each (line add x y (addStep x y) ∷ ls)
 unfolding Each
-adds x y ls h = ((refl, refl), h)
+adds x y ls h = ((refl, refl, refl), h)
 
 subtracts : (x y : ℕ) (ls : List Line) → Each ls → Each (line subtract x y (subStep x y) ∷ ls)
 unfolding Each
-subtracts x y ls h = ((refl, refl), h)
+subtracts x y ls h = ((refl, refl, refl), h)
 
 multiplies : (x y : ℕ) (ls : List Line) → Each ls → Each (line multiply x y (mulStep x y) ∷ ls)
 unfolding Each
-multiplies x y ls h = ((refl, refl), h)
+multiplies x y ls h = ((refl, refl, refl), h)
 
 fuses : (x y z : ℕ) (ls : List Line) → Each ls → Each (fusedLine x y z (fmaStep x y z) ∷ ls)
 unfolding Each
-fuses x y z ls h = (refl, h)
+fuses x y z ls h = ((refl, refl), h)
 
 -- ---- the parts
 -- a correction, where there is one

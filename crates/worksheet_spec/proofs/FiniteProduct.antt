@@ -12,9 +12,10 @@ use Rattle.rounding_spec.proofs.RoundValue.{round-finite}
 use Rattle.rounding_spec.proofs.Codec.{decode-fits}
 use Rattle.binary32_spec.specs.Steps.{mulStep}
 use Rattle.binary32_spec.proofs.Theorems.{mul-decodes}
-use Rattle.errorfree_spec.proofs.NoNumber.{not-both, number-of, both-of, mul-none}
+use Rattle.errorfree_spec.proofs.NoNumber.{not-both, both-of, mul-none}
 use Rattle.errorfree_spec.proofs.Steps.{toEven}
 use Rattle.worksheet_spec.specs.Lines.{value}
+use Rattle.worksheet_spec.proofs.Patterns.{number-at}
 use Rattle.worksheet_spec.proofs.Products.{p-value}
 
 -- the numbers of x and y, whose product rounds to m
@@ -40,11 +41,9 @@ factors-of x y s m e = by (isFinite (value x) && isFinite (value y)) refl
     by false n = not-both (sym (ap isFinite e) ∙ ap isFinite (mul-decodes x y) ∙ mul-none binary32 (value x) (value y) n)
     by true n =
         let h = both-of (isFinite (value x)) (isFinite (value y)) n in
-        let u = number-of (value x) (h .0) in
-        let w = number-of (value y) (h .1) in
-        let f = subst (Fits binary32) (u .2) (decode-fits binary32 (omega arith) x) in
-        let g = subst (Fits binary32) (w .2) (decode-fits binary32 (omega arith) y) in
+        let u = number-at x (h .0) in
+        let w = number-at y (h .1) in
         let k = subst (Fits binary32) e (decode-fits binary32 (omega arith) (mulStep x y)) in
         let is : m ≡ toEven binary32 (u .1 * w .1) = round-finite ToEven binary32 (unlike (u .0) (w .0)) (u .1 * w .1) s m
-        (sym (p-value x y (u .0) (w .0) (u .1) (w .1) (u .2) (w .2) (f .0) (g .0) (f .1) (g .1)) ∙ e) in
-        record { s = u .0; t = w .0; a = u .1; b = w .1; xi = u .2; yi = w .2; xr = f .0; yr = g .0; xb = f .1; yb = g .1; fine = rw (← is) (k .1); is = is }
+        (sym (p-value x y (u .0) (w .0) (u .1) (w .1) (u .2) (w .2) (u .3) (w .3) (u .4) (w .4)) ∙ e) in
+        record { s = u .0; t = w .0; a = u .1; b = w .1; xi = u .2; yi = w .2; xr = u .3; yr = w .3; xb = u .4; yb = w .4; fine = rw (← is) (k .1); is = is }

@@ -29,17 +29,30 @@ recomposed a b h k =
     ap (λ (ls : List Line). line multiply psi a z ∷ line subtract z a (subStep z a) ∷ line multiply two b (mulStep two b) ∷ ls)
     (unfinished (recomposition a b .first) (recomposition a b .second) (ap isZeroPattern (recomposition-none a b h .1) ∙ k))
 
-infinite-sum : (x y : ℕ) (s : Bool) → value (addStep x y) ≡ infinite s → take 11 (sumInOrder x y .lines) ≡ infiniteSumLines x y
-unfolding sumFrom halvedSum
-infinite-sum x y s h =
+-- the six lines before those of the halves
+abbrev pub opening : ℕ → ℕ → List Line
+opening x y =
+    let a = addStep x y in
+    let v = subStep a x in
+    let b = subStep y v in
+    let z = mulStep psi a in
+    line add x y a ∷ line subtract a x v ∷ line subtract y v b ∷ line multiply psi a z ∷ line subtract z a (subStep z a) ∷ line multiply two b (mulStep two b) ∷ []
+
+pub infinite-sum-lines : (x y : ℕ) (s : Bool) → value (addStep x y) ≡ infinite s → sumInOrder x y .lines ≡ opening x y ++ halvedSum x y (addStep x y) .lines
+unfolding sumFrom
+infinite-sum-lines x y s h =
     let a = addStep x y in
     let v = subStep a x in
     let b = subStep y v in
     let r = recomposedFinished a b in
     let n : isFinite (value a) ≡ false = ap isFinite h in
-    ap (λ (t : Sheet). take 11 (t .lines)) (goes-on x y (ap isNaN h))
-    ∙ ap₂ (λ (ls : List Line) (c : Bool). take 11 (line add x y a ∷ line subtract a x v ∷ line subtract y v b ∷ (ls ++ cond c (halvedSum x y a) (ends (r .first) (r .second)) .lines)))
+    ap (λ (t : Sheet). t .lines) (goes-on x y (ap isNaN h))
+    ∙ ap₂ {C = List Line} (λ (ls : List Line) (c : Bool). line add x y a ∷ line subtract a x v ∷ line subtract y v b ∷ (ls ++ cond c (halvedSum x y a) (ends (r .first) (r .second)) .lines))
     (recomposed a b n (none-zero (value b) (b-none x y a n))) (asks-edge x y s h)
+
+infinite-sum : (x y : ℕ) (s : Bool) → value (addStep x y) ≡ infinite s → take 11 (sumInOrder x y .lines) ≡ infiniteSumLines x y
+unfolding halvedSum
+infinite-sum x y s h = ap (λ (ls : List Line). take 11 ls) (infinite-sum-lines x y s h)
 
 -- ---- products
 infinite-product : (x y : ℕ) (s : Bool) → value (mulStep x y) ≡ infinite s → take 4 (productSheet x y .lines) ≡ infiniteProductLines x y

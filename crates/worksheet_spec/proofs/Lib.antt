@@ -1,3 +1,4 @@
+pub mod Entries
 pub mod Computed
 pub mod Patterns
 pub mod Constants

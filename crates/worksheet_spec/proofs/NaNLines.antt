@@ -12,7 +12,7 @@ use Rattle.rounding_spec.proofs.NaN.{differs}
 use Rattle.pattern_spec.specs.Exact.{times}
 use Rattle.binary32_spec.specs.Steps.{mulValue, mulStep, fmaStep}
 use Rattle.binary32_spec.proofs.Theorems.{mul-decodes, step-invalid, step-nan}
-use Rattle.errorfree_spec.specs.Comparisons.{same}
+use Rattle.pattern_spec.specs.Comparisons.{same}
 use Rattle.worksheet_spec.specs.Constants.{half}
 use Rattle.worksheet_spec.specs.Lines.{multiply, line, fusedLine, Sheet, before, ends, value, minus}
 use Rattle.worksheet_spec.specs.Sheets.{atEdge, edgeFinish, infiniteProduct, branchOf, productBy, productSheet, sheetOf}

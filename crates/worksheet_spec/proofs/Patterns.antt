@@ -1,5 +1,5 @@
 -- Patterns of a sheet and their values: steps, flips, constants with a sign; and from a value back to its pattern.
-use mathlib.Core.Path.{_≡_, refl, sym, ap, _∙_}
+use mathlib.Core.Path.{_≡_, refl, sym, ap, _∙_, subst}
 use mathlib.Core.Logic.{_≢_, inl, inr}
 use mathlib.Core.Bool.{Bool, true, false, not, cond}
 use mathlib.Core.List.{[], _∷_}
@@ -9,15 +9,17 @@ use native.Mathlib.Decide.{decLe}
 use native.Mathlib.Omega.{arith}
 use borrow.Author.Tests.{le-leb, lt-leb}
 use lib.Dec.{leb}
-use Rattle.rounding_spec.specs.Format.{binary32, infinity, signBit}
-use Rattle.rounding_spec.specs.Value.{Value, nan, finite, unsigned, decode, encode}
-use Rattle.rounding_spec.proofs.Codec.{unsigned-finite, unsigned-infinite, unsigned-nan, encode-decode}
+use Rattle.rounding_spec.specs.Format.{binary32, limit, infinity, signBit}
+use Rattle.rounding_spec.specs.Nearest.{Rep}
+use Rattle.rounding_spec.specs.Value.{Value, nan, finite, Fits, isFinite, unsigned, decode, encode}
+use Rattle.rounding_spec.proofs.Codec.{decode-fits, unsigned-finite, unsigned-infinite, unsigned-nan, encode-decode}
 use Rattle.rounding_spec.proofs.Compare.{tri}
 use Rattle.pattern_spec.specs.Exact.{negate}
 use Rattle.binary32_spec.specs.Steps.{addStep, subStep, mulStep, fmaStep}
 use Rattle.pattern_spec.proofs.Classified.{decode-flip}
 use Rattle.binary32_spec.proofs.Result.{result-width, add-fits, sub-fits, mul-fits, fma-fits, add-step, sub-step, mul-step, fma-step}
 use Rattle.pattern_spec.specs.Classes.{copySign}
+use Rattle.errorfree_spec.proofs.NoNumber.{number-of}
 use Rattle.worksheet_spec.specs.Lines.{value, minus}
 
 -- ---- a pattern of 32 bits
@@ -52,6 +54,14 @@ minus-width x h = elim (decLe (signBit binary32) x)
 -- ---- a pattern that is no NaN is read back from its value
 pub pattern-of : (x : ℕ) (v : Value) → Pattern x → value x ≡ v → v ≢ nan → x ≡ encode binary32 v
 pattern-of x v w e n = sym (encode-decode binary32 x w (λ z. n (sym e ∙ z))) ∙ ap (encode binary32) e
+
+-- ---- the number of a finite pattern
+pub number-at : (x : ℕ) → isFinite (value x) ≡ true → (s : Bool) × (a : ℕ) × (value x ≡ finite s a) × Rep 24 0 a × (a < limit binary32)
+unfolding Fits
+number-at x f =
+    let p = number-of (value x) f in
+    let k = subst (Fits binary32) (p .2) (decode-fits binary32 (omega arith) x) in
+    (p .0, p .1, p .2, k .0, k .1)
 
 -- ---- a constant with a's sign
 unsigned-sign : (b s : Bool) (c A : ℕ) → unsigned binary32 b c ≡ finite s A → b ≡ s

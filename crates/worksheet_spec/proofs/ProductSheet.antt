@@ -11,9 +11,8 @@ use lib.Ieee.{unlike}
 use Rattle.rounding_spec.specs.declared.Ties.the-variants.{ToEven}
 use Rattle.rounding_spec.specs.Format.{binary32, limit}
 use Rattle.rounding_spec.specs.Nearest.{Rep}
-use Rattle.rounding_spec.specs.Value.{Value, nan, infinite, finite, Fits, isNaN, nanOf, encode, isFinite}
+use Rattle.rounding_spec.specs.Value.{Value, nan, infinite, finite, isNaN, nanOf, encode, isFinite}
 use Rattle.rounding_spec.proofs.RoundValue.{round-above}
-use Rattle.rounding_spec.proofs.Codec.{decode-fits}
 use Rattle.pattern_spec.specs.Exact.{times}
 use Rattle.binary32_spec.specs.Steps.{mulValue, result, mulStep, fmaStep}
 use Rattle.binary32_spec.proofs.Theorems.{mul-decodes}
@@ -22,9 +21,10 @@ use Rattle.errorfree_spec.proofs.Steps.{toEven}
 use Rattle.worksheet_spec.specs.Constants.{half}
 use Rattle.worksheet_spec.specs.Lines.{multiply, line, Sheet, before, ends, value, minus}
 use Rattle.worksheet_spec.specs.Sheets.{Branch, infiniteProduct, branchOf, productBy, productSheet}
+use Rattle.worksheet_spec.proofs.Patterns.{number-at}
 use Rattle.worksheet_spec.proofs.Foots.{Foots, foots-infinite}
 use Rattle.worksheet_spec.proofs.Blocks.{edge-none}
-use Rattle.errorfree_spec.proofs.NoNumber.{not-both, number-of, one-of, both-of, product-none, mul-left, mul-right, mul-kept}
+use Rattle.errorfree_spec.proofs.NoNumber.{not-both, one-of, both-of, product-none, mul-left, mul-right, mul-kept}
 use Rattle.worksheet_spec.proofs.Branches.{branch-zero, branch-tiny, branch-middle, branch-other}
 use Rattle.worksheet_spec.proofs.Products.{p-value, pi, infinite-foot, zero-foot, tiny-foot, middle-foot, other-foot}
 
@@ -93,18 +93,16 @@ module _ (x y : ℕ) where
 
 -- ---- all numbers
 pub product-foot : (x y : ℕ) → isNaN (times (value x) (value y)) ≡ false → Foots (times (value x) (value y)) (productSheet x y)
-unfolding productSheet Fits times
+unfolding productSheet times
 product-foot x y m = by (isFinite (value x) && isFinite (value y)) refl
   where
     by : (c : Bool) → isFinite (value x) && isFinite (value y) ≡ c → Foots (times (value x) (value y)) (productSheet x y)
     by false n = none-foot x y n m
     by true n =
         let h = both-of (isFinite (value x)) (isFinite (value y)) n in
-        let u = number-of (value x) (h .0) in
-        let w = number-of (value y) (h .1) in
-        let f = subst (Fits binary32) (u .2) (decode-fits binary32 (omega arith) x) in
-        let g = subst (Fits binary32) (w .2) (decode-fits binary32 (omega arith) y) in
-        subst (λ (v : Value). Foots v (productSheet x y)) (sym (ap₂ times (u .2) (w .2))) (finite-foot x y (u .0) (w .0) (u .1) (w .1) (u .2) (w .2) (f .0) (g .0) (f .1) (g .1))
+        let u = number-at x (h .0) in
+        let w = number-at y (h .1) in
+        subst (λ (v : Value). Foots v (productSheet x y)) (sym (ap₂ times (u .2) (w .2))) (finite-foot x y (u .0) (w .0) (u .1) (w .1) (u .2) (w .2) (u .3) (w .3) (u .4) (w .4))
 
 -- ---- NaN: the sheet is one line, whose result stands twice
 pub product-ends : (x y : ℕ) → value (mulStep x y) ≡ nan

@@ -3,22 +3,20 @@ use mathlib.Core.Path.{_≡_, refl, sym, ap, ap₂, _∙_, subst}
 use mathlib.Core.Logic.{_⊎_, inl, inr}
 use mathlib.Core.Bool.{Bool, true, false, not, cond}
 use mathlib.Core.List.{List, [], _∷_, _++_}
-use Prim.Native.Nat.{ℕ, _+_, _-_, _^_, _≤_, _<_}
-use native.Mathlib.Nat.{le-refl, mul-one}
+use Prim.Native.Nat.{ℕ, _^_, _≤_, _<_}
+use native.Mathlib.Nat.{le-of-lt}
 use native.Mathlib.Omega.{arith}
 use lib.Dec.{T}
-use Rattle.rounding_spec.specs.Format.{binary32, limit}
-use Rattle.rounding_spec.specs.Nearest.{dist}
+use Rattle.rounding_spec.specs.Format.{binary32}
 use Rattle.rounding_spec.specs.Value.{Value, nan, infinite, finite, Fits, isFinite}
-use Rattle.rounding_spec.proofs.Representable.{rep-lt}
 use Rattle.rounding_spec.proofs.Codec.{decode-fits}
 use Rattle.binary32_spec.specs.Steps.{subValue, subStep, mulStep, fmaStep}
 use Rattle.binary32_spec.proofs.Theorems.{sub-decodes}
-use Rattle.errorfree_spec.specs.Comparisons.{same}
+use Rattle.pattern_spec.specs.Comparisons.{same}
 use Rattle.errorfree_spec.proofs.NoNumber.{not-both}
 use Rattle.errorfree_spec.proofs.Signed.{Is, rel-own, same-eq}
-use Rattle.errorfree_spec.proofs.Steps.{is-sub}
-use Rattle.errorfree_spec.proofs.Theorems.{same-means}
+use Rattle.errorfree_spec.proofs.Steps.{is-one-less}
+use Rattle.pattern_spec.proofs.Theorems.{same-means}
 use Rattle.worksheet_spec.specs.Constants.{half, plusZero, smallest}
 use Rattle.pattern_spec.specs.Classes.{copySign}
 use Rattle.worksheet_spec.specs.Lines.{Step, subtract, multiply, fused, Line, line, Sheet, before, value, minus, equal, isZeroPattern}
@@ -33,9 +31,6 @@ use Rattle.worksheet_spec.proofs.TinyResults as tiny
 use Rattle.worksheet_spec.proofs.Products.{first, β, tie, corrected, corrected-nonzero, first-number}
 use Rattle.worksheet_spec.proofs.FiniteProduct.{factors-of}
 use Rattle.worksheet_spec.proofs.SumSteps.{finish-steps, recomposed-steps, edge-steps, finish-zero, recomposed-zero, edge-told}
-
-one-less : (m W : ℕ) → m < W → m - 1 < W
-one-less m W h = omega arith
 
 -- a correction or none, before other lines
 corrected-steps : (c : Bool) (a : ℕ) (ls : List Line) → stepsOf (cond c (lowering a ∷ []) [] ++ ls) ≡ cond c (subtract ∷ []) [] ++ stepsOf ls
@@ -76,17 +71,12 @@ module _ (x y : ℕ) where
         lower-is : value (subStep p (copySign smallest p)) ≡ v
         lower-is = sub-decodes p (copySign smallest p) ∙ ap₂ (subValue binary32) e (sign-value p s m e smallest 1 (omega arith) smallest-value)
 
-        less : Is s v (m + 0) (0 + 1)
-        less =
-            let d : dist (m + 0) (0 + 1) ≡ m - 1 = omega arith in
-            is-sub binary32 s (finite s m) (finite s 1) m 0 1 0 (rel-own s m) (rel-own s 1) (rw d (rep-lt 0 (m - 1) (le-refl 0) (m - 1, sym (mul-one (m - 1))) (omega arith))) (rw d small)
-          where
-            small : m - 1 < limit binary32
-            small = one-less m (limit binary32) (subst (Fits binary32) e (decode-fits binary32 (omega arith) p) .1)
+        less : Is s v m 1
+        less = is-one-less binary32 s m pos (le-of-lt lo) (subst (Fits binary32) e (decode-fits binary32 (omega arith) p) .1)
 
         by : (c : Bool) → equal (subStep p (copySign smallest p)) p ≡ c → equal (subStep p (copySign smallest p)) p ≡ false
         by false f = f
-        by true f = absurd (omega (arith, same-eq s v (finite s m) (m + 0) (0 + 1) m 0 less (rel-own s m) (subst T (sym (sym (ap₂ same lower-is e) ∙ f)) tt)))
+        by true f = absurd (omega (arith, same-eq s v (finite s m) m 1 m 0 less (rel-own s m) (subst T (sym (sym (ap₂ same lower-is e) ∙ f)) tt)))
 
     -- tie or not, as first tells
     told : 0 < m → m < 2 ^ 24 → (c : Bool) → equal (cond c (lowered p) p) p ≡ not c

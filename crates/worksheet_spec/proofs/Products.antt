@@ -16,7 +16,7 @@ use Rattle.pattern_spec.specs.Exact.{negate}
 use Rattle.binary32_spec.specs.Steps.{mulValue, fmaValue, subValue, subStep, mulStep, fmaStep}
 use Rattle.binary32_spec.proofs.Theorems.{add-decodes, sub-decodes, mul-decodes, fma-decodes}
 use Rattle.augmented_spec.proofs.Second.{first-finite}
-use Rattle.errorfree_spec.specs.Comparisons.{same}
+use Rattle.pattern_spec.specs.Comparisons.{same}
 use Rattle.errorfree_spec.proofs.Factors as factors
 use Rattle.errorfree_spec.proofs.Steps.{toEven, toZero, mul-finite}
 use Rattle.errorfree_spec.proofs.Split.{Split0}
@@ -35,6 +35,13 @@ use Rattle.worksheet_spec.proofs.Constants.{half-value, up-value, up-up
 use Rattle.worksheet_spec.proofs.TinyResults as tiny
 use Rattle.worksheet_spec.proofs.Foots.{Foots, foots}
 use Rattle.worksheet_spec.proofs.Blocks.{value-cond, width-cond, recomposition-split, finish-first, finish-second, finish-width, recomposed-foot, edge-foot, edge-none}
+
+-- ---- a product step, and a fused step on what it gave, by the values of their operands
+pub scaled : (c : ℕ) (v : Value) → value c ≡ v → (z : ℕ) (w : Value) → value z ≡ w → value (mulStep c z) ≡ mulValue binary32 v w
+scaled c v e z w f = mul-decodes c z ∙ ap₂ (mulValue binary32) e f
+
+pub fused-value : (m k q : ℕ) (v w : Value) → value m ≡ v → value k ≡ w → Pattern q → value (fmaStep m k (minus q)) ≡ fmaValue binary32 v w (negate (value q))
+fused-value m k q v w e f wq = fma-decodes m k (minus q) ∙ ap₂ (λ (u o : Value). fmaValue binary32 u o (value (minus q))) e f ∙ ap (fmaValue binary32 v w) (minus-value q wq)
 
 -- ---- the middle branch's results
 module _ (x y : ℕ) where
@@ -84,14 +91,6 @@ module _ (x y : ℕ) (s t : Bool) (a b : ℕ) (xi : value x ≡ finite s a) (yi 
 
   pub p-value : value p ≡ roundFinite ToEven binary32 r (a * b)
   p-value = mul-decodes x y ∙ ap₂ (mulValue binary32) xi yi ∙ mul-finite binary32 s a t b
-
-  -- a constant times an operand
-  scaled : (c : ℕ) (v : Value) → value c ≡ v → (z : ℕ) (w : Value) → value z ≡ w → value (mulStep c z) ≡ mulValue binary32 v w
-  scaled c v e z w f = mul-decodes c z ∙ ap₂ (mulValue binary32) e f
-
-  -- what a fused step leaves of a product
-  fused-value : (m k q : ℕ) (v w : Value) → value m ≡ v → value k ≡ w → Pattern q → value (fmaStep m k (minus q)) ≡ fmaValue binary32 v w (negate (value q))
-  fused-value m k q v w e f wq = fma-decodes m k (minus q) ∙ ap₂ (λ (u o : Value). fmaValue binary32 u o (value (minus q))) e f ∙ ap (fmaValue binary32 v w) (minus-value q wq)
 
   pub infinite-foot : limit binary32 ≤ A → Foots (finite r (a * b)) (infiniteProduct x y p)
   unfolding infiniteProduct
@@ -160,11 +159,11 @@ module _ (x y : ℕ) (s t : Bool) (a b : ℕ) (xi : value x ≡ finite s a) (yi 
 
     -- one factor scaled up, the split recomposed, and scaled down again
     module _ (lo : 2 ^ 24 ≤ A) (hi : A ≤ 2 ^ 47) where
-      split-is : Scaled binary32 a b r (value (a' x y)) (value (b' x y))
+      pub split-is : Scaled binary32 a b r (value (a' x y)) (value (b' x y))
       split-is = middle-split binary32 (omega arith) a b xr yr lo hi s t (value (m x y)) (value (a' x y)) (value (b' x y)) (scaled twoTo24 (factors.scale binary32) up-value x (finite s a) xi)
           (mul-decodes (m x y) y ∙ ap (mulValue binary32 (value (m x y))) yi) (fused-value (m x y) y (a' x y) (value (m x y)) (finite t b) refl yi (mul-width (m x y) y))
 
-      halves : Split0 binary32 r (split-is .n) (toZero binary32 (split-is .n * 2 ^ low binary32)) (value (C x y)) (value (B x y))
+      pub halves : Split0 binary32 r (split-is .n) (toZero binary32 (split-is .n * 2 ^ low binary32)) (value (C x y)) (value (B x y))
       halves = recomposition-split r (split-is .n) (split-is .A) (a' x y) (b' x y) (split-is .is) (fma-width (m x y) y (minus (a' x y))) (split-is .split)
 
       first-is : value (first x y) ≡ mulValue binary32 (factors.unscale binary32) (value (C x y))

@@ -13,20 +13,20 @@ use Rattle.pattern_spec.specs.Exact.{negate, finer}
 use Rattle.binary32_spec.specs.Steps.{addValue, mulValue, addStep, subStep, mulStep}
 use Rattle.binary32_spec.proofs.Theorems.{add-decodes, mul-decodes}
 use Rattle.pattern_spec.proofs.Exchanged.{plus-comm}
-use Rattle.errorfree_spec.specs.Comparisons.{same}
+use Rattle.pattern_spec.specs.Comparisons.{same}
 use Rattle.errorfree_spec.proofs.NoNumber.{not-both, none-zero, number-of, both-of}
 use Rattle.errorfree_spec.proofs.Steps.{zero-times}
 use Rattle.errorfree_spec.proofs.Recomposed.{psi-finite}
 use Rattle.errorfree_spec.proofs.Edge.{halfLimit, kappa-is}
 use Rattle.worksheet_spec.specs.Constants.{psi, two, half, kappa, plusZero, twoTo127, twoTo102}
 use Rattle.pattern_spec.specs.Classes.{copySign}
-use Rattle.worksheet_spec.specs.Lines.{Step, add, subtract, Line, line, Sheet, before, ends, value, minus, equal, isZeroPattern}
+use Rattle.worksheet_spec.specs.Lines.{Step, add, subtract, Line, Sheet, ends, value, minus, equal, isZeroPattern}
 use Rattle.worksheet_spec.specs.Sheets.{recomposition, zeroFinish, recomposedFinished, atEdge, edgeFinish, halvedSum, overflows, sumFrom, sumInOrder, swaps, sumSheet}
 use Rattle.worksheet_spec.specs.Theorems.{stepsOf, recompositionSteps, finishStep, edgeSteps, openingSteps, halvedSteps, sumSteps}
 use Rattle.worksheet_spec.proofs.Patterns.{minus-value, negate-finite}
 use Rattle.worksheet_spec.proofs.Constants.{psi-value, kappa-value, zero-value, half-limit-value}
 use Rattle.worksheet_spec.proofs.Blocks.{value-cond, finish-pattern, recomposition-none, edge-first}
-use Rattle.worksheet_spec.proofs.Sums.{goes-on, first-is, second-is, b-none, no-edge, asks-edge}
+use Rattle.worksheet_spec.proofs.Sums.{ends-there, goes-on, first-is, second-is, b-none, no-edge, asks-edge}
 
 -- ---- lists and choices
 steps-append : (ls ms : List Line) → stepsOf (ls ++ ms) ≡ stepsOf ls ++ stepsOf ms
@@ -61,7 +61,7 @@ finish-zero x y h = ap isZeroPattern (finish-pattern x y) ∙ by (isZeroPattern 
     by false e = e
 
 -- recomposition of a finite a leaves a finite first
-first-finite : (a b : ℕ) → isFinite (value a) ≡ true → isFinite (value (recomposition a b .first)) ≡ true
+pub first-finite : (a b : ℕ) → isFinite (value a) ≡ true → isFinite (value (recomposition a b .first)) ≡ true
 unfolding recomposition
 first-finite a b h =
     ap isFinite (value-cond (equal (mulStep two b) (subStep (mulStep psi a) a)) (mulStep psi a) a) ∙ by (equal (mulStep two b) (subStep (mulStep psi a) a))
@@ -89,18 +89,22 @@ copied : (b : Bool) → value (cond b (minus twoTo127) twoTo127) ≡ finite b (h
 copied true = minus-value twoTo127 (omega arith) ∙ ap negate half-limit-value ∙ negate-finite false (halfLimit binary32)
 copied false = half-limit-value
 
-same-number : (v : Value) (b : Bool) (m : ℕ) → same v (finite b m) ≡ true → (s : Bool) × (v ≡ finite s m)
+pub same-number : (v : Value) (b : Bool) (m : ℕ) → same v (finite b m) ≡ true → (s : Bool) × (v ≡ finite s m)
 unfolding same
 same-number nan b m e = not-both (sym e)
 same-number (infinite s) b m e = not-both (sym e)
 same-number (finite s k) b m e = (s, ap (finite s) (eqb-true k m (both-of (eqb k m) _ e .0)))
 
-pub edge-finite : (a' b' : ℕ) → atEdge a' b' ≡ true → isFinite (value (mulStep kappa a')) ≡ true
+pub edge-number : (a' b' : ℕ) → atEdge a' b' ≡ true → (s : Bool) × (value a' ≡ finite s (halfLimit binary32))
 unfolding atEdge
-edge-finite a' b' e =
+edge-number a' b' e =
     let b = leb (signBit binary32) a' in
     let h = both-of (equal a' (copySign twoTo127 a')) (equal b' (minus (copySign twoTo102 a'))) e .0 in
-    let n = same-number (value a') b (halfLimit binary32) (sym (ap (same (value a')) (copied b)) ∙ h) in
+    same-number (value a') b (halfLimit binary32) (sym (ap (same (value a')) (copied b)) ∙ h)
+
+pub edge-finite : (a' b' : ℕ) → atEdge a' b' ≡ true → isFinite (value (mulStep kappa a')) ≡ true
+edge-finite a' b' e =
+    let n = edge-number a' b' e in
     ap isFinite (mul-decodes kappa a' ∙ ap₂ (mulValue binary32) kappa-value (n .1) ∙ kappa-is binary32 (omega arith) (n .0))
 
 -- so that the two lines stand exactly where it is
@@ -158,8 +162,7 @@ module _ (x y : ℕ) where
       by false true e = not-both (sym e)
 
   nan-steps : value a ≡ nan → Ordered nan
-  unfolding sumInOrder
-  nan-steps h = ap (λ (c : Bool). stepsOf (before (line add x y a ∷ []) (cond c (ends a a) (sumFrom x y a)) .lines)) (ap isNaN h)
+  nan-steps h = ap (λ (s : Sheet). stepsOf (s .lines)) (ends-there x y (ap isNaN h))
 
   -- a is infinite
   abbrev half-sum : ℕ
@@ -194,7 +197,7 @@ module _ (x y : ℕ) where
       by (infinite s) h = infinite-steps s h
       by (finite s m) h = finite-steps s m h
 
-swapped : (x y : ℕ) → value (addStep y x) ≡ value (addStep x y)
+pub swapped : (x y : ℕ) → value (addStep y x) ≡ value (addStep x y)
 unfolding addValue
 swapped x y = add-decodes y x ∙ ap (λ (v : Value). RNe binary32 (finer binary32 v)) (plus-comm (value x) (value y)) ∙ sym (add-decodes x y)
 

@@ -1,7 +1,7 @@
 -- The sum's sheet ends in the pair of the exact sum, for all patterns.
 use mathlib.Core.Path.{_≡_, refl, sym, ap, ap₂, _∙_, subst}
 use mathlib.Core.Logic.{inl, inr}
-use mathlib.Core.Bool.{Bool, true, false, not, cond, Bool·beq, _&&_}
+use mathlib.Core.Bool.{Bool, true, false, not, cond, Bool·beq, _&&_, and-false}
 use mathlib.Core.List.{[], _∷_}
 use Prim.Native.Nat.{ℕ, _+_, _-_, _*_, _^_, _≤_, _<_}
 use native.Mathlib.Nat.{lt-of-le-of-lt}
@@ -11,18 +11,17 @@ use borrow.Author.Tests.{le-ltb, ltb-true, ltb-false}
 use Rattle.rounding_spec.specs.declared.Ties.the-variants.{ToEven}
 use Rattle.rounding_spec.specs.Format.{binary32, low, limit}
 use Rattle.rounding_spec.specs.Nearest.{Rep}
-use Rattle.rounding_spec.specs.Value.{Value, nan, infinite, finite, Fits, encode, isNaN, nanOf, isFinite, isInfinite, round}
+use Rattle.rounding_spec.specs.Value.{Value, nan, infinite, finite, encode, isNaN, nanOf, isFinite, isInfinite, round}
 use Rattle.rounding_spec.proofs.NaN.{nan-is, rounded-number}
 use Rattle.rounding_spec.proofs.NearLaws.{near-le}
 use Rattle.rounding_spec.proofs.RoundValue.{round-below, round-above}
-use Rattle.rounding_spec.proofs.Codec.{decode-fits}
 use Rattle.pattern_spec.specs.Exact.{plus, finer}
 use Rattle.binary32_spec.specs.Steps.{addValue, subValue, mulValue, result, addStep, subStep, mulStep}
 use Rattle.binary32_spec.proofs.Theorems.{add-decodes, sub-decodes, mul-decodes}
 use Rattle.binary32_spec.proofs.Result.{result-number, result-nan, add-step}
 use Rattle.pattern_spec.proofs.Exchanged.{plus-comm}
 use Rattle.pattern_spec.proofs.Sums.{like?, like-eq, like-own, sum-same, sum-left, sum-none, sum-finite}
-use Rattle.errorfree_spec.specs.Comparisons.{lessMagnitude}
+use Rattle.pattern_spec.specs.Comparisons.{lessMagnitude}
 use Rattle.errorfree_spec.proofs.Factors as factors
 use Rattle.errorfree_spec.proofs.Steps.{toEven, even-at}
 use Rattle.errorfree_spec.proofs.FastTwoSum.{add-finite, fast-two-sum}
@@ -30,12 +29,12 @@ use Rattle.errorfree_spec.proofs.Halved.{sum-edge}
 use Rattle.worksheet_spec.specs.Constants.{half}
 use Rattle.worksheet_spec.specs.Lines.{add, line, Sheet, before, ends, value, isZeroPattern}
 use Rattle.worksheet_spec.specs.Sheets.{recomposedFinished, halvedSum, overflows, sumFrom, sumInOrder, swaps, sumSheet}
-use Rattle.worksheet_spec.proofs.Patterns.{add-width, sub-width}
+use Rattle.worksheet_spec.proofs.Patterns.{add-width, sub-width, number-at}
 use Rattle.worksheet_spec.proofs.Constants.{half-value}
 use Rattle.worksheet_spec.proofs.Foots.{Foots, foots-infinite}
 use Rattle.worksheet_spec.proofs.Blocks.{first-cond, second-cond, recomposed-foot, recomposed-none, edge-foot, edge-none}
 use Rattle.errorfree_spec.proofs.NoNumber as no-number
-use Rattle.errorfree_spec.proofs.NoNumber.{not-both, none-zero, number-of, one-of, both-of, add-left, add-right, sub-left, sub-right, mul-right, add-kept}
+use Rattle.errorfree_spec.proofs.NoNumber.{not-both, none-zero, one-of, both-of, add-left, add-right, sub-left, sub-right, mul-right, add-kept}
 
 -- a is no number: v and b are none
 pub b-none : (x y a : ℕ) → isFinite (value a) ≡ false → isFinite (value (subStep y (subStep a x))) ≡ false
@@ -54,6 +53,11 @@ module _ (x y : ℕ) where
   abbrev edge : Bool
   edge = overflows (recomposedFinished a b .second) a
 
+  -- a is NaN: its line is the only one
+  pub ends-there : isNaN (value a) ≡ true → sumInOrder x y ≡ before (line add x y a ∷ []) (ends a a)
+  unfolding sumInOrder
+  ends-there n = ap (λ (c : Bool). before (line add x y a ∷ []) (cond c (ends a a) (sumFrom x y a))) n
+
   -- a is no NaN: more lines follow
   pub goes-on : isNaN (value a) ≡ false → sumInOrder x y ≡ before (line add x y a ∷ []) (sumFrom x y a)
   unfolding sumInOrder
@@ -70,11 +74,7 @@ module _ (x y : ℕ) where
   -- only where a is infinite the edge is asked for
   pub no-edge : isInfinite (value a) ≡ false → edge ≡ false
   unfolding overflows
-  no-edge h = ap (λ (i : Bool). not (isZeroPattern (recomposedFinished a b .second)) && i) h ∙ never (not (isZeroPattern (recomposedFinished a b .second)))
-    where
-      never : (i : Bool) → i && false ≡ false
-      never true = refl
-      never false = refl
+  no-edge h = ap (λ (i : Bool). not (isZeroPattern (recomposedFinished a b .second)) && i) h ∙ and-false (not (isZeroPattern (recomposedFinished a b .second)))
 
   -- a is finite
   pub plain-foot : (v : Value) → isNaN (value a) ≡ false → isInfinite (value a) ≡ false → Foots v (recomposedFinished a b) → Foots v (sumInOrder x y)
@@ -116,7 +116,7 @@ module _ (x y : ℕ) (s t : Bool) (X Y : ℕ) (xi : value x ≡ finite s X) (yi 
       let ai : value (a x y) ≡ finite r (A n) = a-value r n e ∙ round-below ToEven binary32 r (n * 2 ^ low binary32) fine in
       let vi : value (subStep (a x y) x) ≡ subValue binary32 (finite r (A n)) (finite s X) = sub-decodes (a x y) x ∙ ap₂ (subValue binary32) ai xi in
       let bi : value (b x y) ≡ subValue binary32 (finite t Y) (subValue binary32 (finite r (A n)) (finite s X)) = sub-decodes y (subStep (a x y) x) ∙ ap₂ (subValue binary32) yi vi in
-      let split = fast-two-sum binary32 X Y xr yr xb le s t r n e fine in
+      let split = fast-two-sum binary32 X Y xr yr xb le s t r n e fine .split in
       plain-foot x y (finite r (n * 2 ^ low binary32)) (ap isNaN ai) (ap isInfinite ai)
       (recomposed-foot r n (A n) (a x y) (b x y) ai (add-width x y) (sub-width y (subStep (a x y) x)) (rw bi split))
 
@@ -198,21 +198,19 @@ module _ (x y : ℕ) where
       by (finite s k) e f m = not-both f
 
   in-order : lessMagnitude (value x) (value y) ≡ false → isNaN (plus (value x) (value y)) ≡ false → Foots (finer binary32 (plus (value x) (value y))) (sumInOrder x y)
-  unfolding Fits lessMagnitude
+  unfolding lessMagnitude
   in-order l m = by (isFinite (value x) && isFinite (value y)) refl
     where
       by : (c : Bool) → isFinite (value x) && isFinite (value y) ≡ c → Foots (finer binary32 (plus (value x) (value y))) (sumInOrder x y)
       by false n = none-foot n m
       by true n =
           let h = both-of (isFinite (value x)) (isFinite (value y)) n in
-          let p = number-of (value x) (h .0) in
-          let q = number-of (value y) (h .1) in
-          let f = subst (Fits binary32) (p .2) (decode-fits binary32 (omega arith) x) in
-          let g = subst (Fits binary32) (q .2) (decode-fits binary32 (omega arith) y) in
-          finite-foot x y (p .0) (q .0) (p .1) (q .1) (p .2) (q .2) (f .0) (g .0) (f .1) (ltb-false (p .1) (q .1) (sym (ap₂ lessMagnitude (p .2) (q .2)) ∙ l))
+          let p = number-at x (h .0) in
+          let q = number-at y (h .1) in
+          finite-foot x y (p .0) (q .0) (p .1) (q .1) (p .2) (q .2) (p .3) (q .3) (p .4) (ltb-false (p .1) (q .1) (sym (ap₂ lessMagnitude (p .2) (q .2)) ∙ l))
 
 -- one of two is not the smaller
-not-less : (v w : Value) → lessMagnitude v w ≡ true → lessMagnitude w v ≡ false
+pub not-less : (v w : Value) → lessMagnitude v w ≡ true → lessMagnitude w v ≡ false
 unfolding lessMagnitude
 not-less nan w h = not-both (sym h)
 not-less (infinite s) w h = not-both (sym h)
@@ -262,11 +260,8 @@ in-place x y n = by (lessMagnitude (value x) (value y)) refl
 -- its sheet is one line, whose result stands twice
 nan-sheet : (x y : ℕ) → isNaN (plus (value x) (value y)) ≡ true → value (addStep x y) ≡ nan
     → sumSheet x y ≡ before (line add x y (addStep x y) ∷ []) (ends (addStep x y) (addStep x y))
-unfolding sumSheet sumInOrder
-nan-sheet x y n e =
-    let a = addStep x y in
-    ap (λ (c : Bool). cond c (sumInOrder y x) (sumInOrder x y)) (in-place x y n)
-    ∙ ap (λ (c : Bool). before (line add x y a ∷ []) (cond c (ends a a) (sumFrom x y a))) (ap isNaN e)
+unfolding sumSheet
+nan-sheet x y n e = ap (λ (c : Bool). cond c (sumInOrder y x) (sumInOrder x y)) (in-place x y n) ∙ ends-there x y (ap isNaN e)
 
 -- only a NaN sum is rounded to one
 rounded-nan : (v : Value) → isNaN (round ToEven binary32 (finer binary32 v)) ≡ isNaN v

@@ -59,7 +59,7 @@ step-numbers = (refl, refl, refl, refl)
 
 -- ---- the lines
 pub gives-means : GivesMeans
-gives-means x y z r = (λ g. g, λ g. g, λ g. g, λ g. g)
+gives-means x y z r m = (λ g. g, λ g. g, λ g. g, λ g. g)
 
 pub each-line : EachLine
 each-line = lines.each-line

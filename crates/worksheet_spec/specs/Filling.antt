@@ -14,7 +14,7 @@ use Rattle.worksheet_spec.specs.Sheets.{sheetOf}
 
 -- ---- words: of a line (R5.22), of lines one after the other, and of a sheet, whose unused words are 0 (R8.6)
 abbrev pub lineWords : Line → List ℕ
-lineWords l = stepNumber (l .step) ∷ l .x ∷ l .y ∷ l .z ∷ l .result ∷ []
+lineWords l = stepNumber (l .step) ∷ l .x ∷ l .y ∷ l .z ∷ l .result ∷ l .mark ∷ []
 
 unfoldable pub linesWords : List Line → List ℕ
 linesWords [] = []

@@ -9,8 +9,9 @@ use Rattle.pattern_spec.specs.Answer.{Answer, refused}
 use Rattle.rounding_spec.specs.Format.{binary32}
 use Rattle.rounding_spec.specs.Value.{Value, nan, infinite, finite, isFinite, encode}
 use Rattle.binary32_spec.specs.Steps.{addStep, subStep, mulStep, fmaStep}
+use Rattle.binary32_spec.specs.Marks.{addMark, subMark, mulMark, fmaMark}
 use Rattle.augmented_spec.specs.Direct.{Operation, sum, difference, product, directPair, operationNumber}
-use Rattle.errorfree_spec.specs.Comparisons.{lessMagnitude}
+use Rattle.pattern_spec.specs.Comparisons.{lessMagnitude}
 use Rattle.worksheet_spec.specs.Constants.{psi, two, minusTwo, half, kappa, twoTo24, twoTo48, twoToMinus24, plusZero, smallest}
 use Rattle.worksheet_spec.specs.Constants.{twoTo127, twoTo102, twoToMinus102, twoToMinus126}
 use Rattle.worksheet_spec.specs.Lines.{lineSize, mostLines, sheetSize, Step, add, subtract, multiply, fused, stepNumber}
@@ -34,23 +35,25 @@ ConstantPatterns =
 
 -- ---- how many words a line has, how many lines and words a sheet (R5.21, R5.22, R8.5)
 abbrev pub SheetSizes : Type 0
-SheetSizes = (lineSize ≡ 5) × (mostLines ≡ 13) × (sheetSize ≡ 65)
+SheetSizes = (lineSize ≡ 6) × (mostLines ≡ 13) × (sheetSize ≡ 78)
 
 -- ---- the numbers of steps (R5.22)
 abbrev pub StepNumbers : Type 0
 StepNumbers = (stepNumber add ≡ 1) × (stepNumber subtract ≡ 2) × (stepNumber multiply ≡ 3) × (stepNumber fused ≡ 4)
 
--- ---- each line by itself: its result is the step's on its operands (R7.3)
+-- ---- each line by itself: its result and its mark are the step's on its operands (R7.3)
 -- what it is to be given by a step, NaN too; an unused third operand is 0 (R5.22)
 abbrev pub GivesMeans : Type 0
 GivesMeans =
-    (x y z r : ℕ)
-    → (Gives add x y z r → (r ≡ addStep x y) × (z ≡ 0)) × (Gives subtract x y z r → (r ≡ subStep x y) × (z ≡ 0))
-    × (Gives multiply x y z r → (r ≡ mulStep x y) × (z ≡ 0)) × (Gives fused x y z r → r ≡ fmaStep x y z)
+    (x y z r m : ℕ)
+    → (Gives add x y z r m → (r ≡ addStep x y) × (m ≡ addMark x y) × (z ≡ 0))
+    × (Gives subtract x y z r m → (r ≡ subStep x y) × (m ≡ subMark x y) × (z ≡ 0))
+    × (Gives multiply x y z r m → (r ≡ mulStep x y) × (m ≡ mulMark x y) × (z ≡ 0))
+    × (Gives fused x y z r m → (r ≡ fmaStep x y z) × (m ≡ fmaMark x y z))
 
 unfoldable pub Each : List Line → Type 0
 Each [] = Unit {0}
-Each (l ∷ ls) = Gives (l .step) (l .x) (l .y) (l .z) (l .result) × Each ls
+Each (l ∷ ls) = Gives (l .step) (l .x) (l .y) (l .z) (l .result) (l .mark) × Each ls
 
 abbrev pub EachLine : Type 0
 EachLine = (o : Operation) (x y : ℕ) → Each (sheetOf o x y .lines)
@@ -216,7 +219,7 @@ FootIsPair =
     (o : Operation) (x y : ℕ) → let s = sheetOf o x y in let p = directPair o binary32 x y in
     (s .first ≡ p .first) × (s .second ≡ p .second)
 
--- ---- one sheet in full, the one of R9.11: its six lines and its foot
+-- ---- one sheet in full, the one of R9.11: its six lines, whose marks `WorkedMarks` of worksheet_marks has, and its foot
 abbrev pub PrintedSheet : Type 0
 PrintedSheet =
     sheetOf sum 0x3f80_0001 0x3380_0000
@@ -244,7 +247,7 @@ SheetWritten ls words after =
     let unused = sheetSize - lineSize * length ls in
     (length after ≡ length words)
     × ((k : ℕ) (earlier later : List Line) (l : Line) → ls ≡ earlier ++ (l ∷ later) → k ≡ length earlier
-    → take lineSize (drop (lineSize * k) after) ≡ stepNumber (l .step) ∷ l .x ∷ l .y ∷ l .z ∷ l .result ∷ [])
+    → take lineSize (drop (lineSize * k) after) ≡ stepNumber (l .step) ∷ l .x ∷ l .y ∷ l .z ∷ l .result ∷ l .mark ∷ [])
     × (take unused (drop (lineSize * length ls) after) ≡ replicate unused 0)
     × (drop sheetSize after ≡ drop sheetSize words)
 

@@ -2,7 +2,7 @@
 // stands above.
 
 // Words of a line, most lines, and words of a sheet (R5.21, R5.22).
-pub const LINE_SIZE: usize = 5;
+pub const LINE_SIZE: usize = 6;
 
 pub const MOST_LINES: usize = 13;
 

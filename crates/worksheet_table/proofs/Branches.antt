@@ -5,7 +5,7 @@ use mathlib.Core.Bool.{Bool, true, false, cond}
 use borrow.Author.Tests.{ltb-false, leb-true, leb-false}
 use Rattle.rounding_spec.specs.Format.{binary32}
 use Rattle.rounding_spec.specs.Value.{Value, nan, infinite, finite, decode, isNaN, isInfinite, isFinite, isZero}
-use Rattle.errorfree_spec.specs.Comparisons.{lessMagnitude}
+use Rattle.pattern_spec.specs.Comparisons.{lessMagnitude}
 use Rattle.errorfree_spec.proofs.NoNumber.{not-both, none-zero}
 use Rattle.worksheet_spec.specs.Sheets.{Branch, whenNaN, whenInfinite, whenZero, whenTiny, whenMiddle, otherwise, branchOf}
 use Rattle.worksheet_table.specs.Programs.{notAbove}

@@ -17,7 +17,7 @@ use Rattle.rounding_spec.proofs.TieDown.{error-le}
 use Rattle.pattern_spec.specs.Exact.{negate}
 use Rattle.binary32_spec.specs.Steps.{subValue, mulValue, subStep, mulStep}
 use Rattle.binary32_spec.proofs.Theorems.{sub-decodes, mul-decodes}
-use Rattle.errorfree_spec.specs.Comparisons.{same}
+use Rattle.pattern_spec.specs.Comparisons.{same}
 use Rattle.errorfree_spec.specs.Constants as factor
 use Rattle.errorfree_spec.proofs.Recomposed as recomposed
 use Rattle.errorfree_spec.proofs.Signed.{Is, rel-dist}

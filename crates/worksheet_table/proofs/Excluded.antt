@@ -14,7 +14,7 @@ use Rattle.rounding_spec.proofs.NearLaws.{near-ge}
 use Rattle.pattern_spec.specs.Exact.{negate}
 use Rattle.binary32_spec.specs.Steps.{mulValue, fmaValue, subStep, mulStep, fmaStep}
 use Rattle.binary32_spec.proofs.Theorems.{mul-decodes, fma-decodes}
-use Rattle.errorfree_spec.specs.Comparisons.{lessMagnitude}
+use Rattle.pattern_spec.specs.Comparisons.{lessMagnitude}
 use Rattle.errorfree_spec.proofs.Middle.{middle-split}
 use Rattle.errorfree_spec.proofs.Powers.{pow-above}
 use Rattle.errorfree_spec.proofs.ProductSplit.{whole, product-split}

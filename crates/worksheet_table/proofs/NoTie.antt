@@ -16,7 +16,7 @@ use Rattle.rounding_spec.proofs.Representable.{rep-zero}
 use Rattle.rounding_spec.proofs.RoundValue.{round-below}
 use Rattle.binary32_spec.specs.Steps.{subValue, mulValue, subStep, mulStep}
 use Rattle.binary32_spec.proofs.Theorems.{sub-decodes, mul-decodes}
-use Rattle.errorfree_spec.specs.Comparisons.{same}
+use Rattle.pattern_spec.specs.Comparisons.{same}
 use Rattle.errorfree_spec.proofs.Factors as factors
 use Rattle.errorfree_spec.proofs.Powers.{up-step, down-step, down-rounds}
 use Rattle.errorfree_spec.proofs.Signed.{Is, rel-own, same-eq}

@@ -3,7 +3,7 @@ use Prim.Native.Nat.{ℕ}
 use mathlib.Core.Path.{_≡_, refl, _∙_}
 use mathlib.Core.Bool.{true, false}
 use Rattle.binary32_spec.specs.Steps.{mulStep}
-use Rattle.errorfree_spec.specs.Comparisons.{lessMagnitude}
+use Rattle.pattern_spec.specs.Comparisons.{lessMagnitude}
 use Rattle.worksheet_spec.specs.Lines.{value}
 use Rattle.worksheet_spec.specs.Sheets.{whenNaN, whenInfinite, whenZero, whenTiny, whenMiddle, otherwise, recomposition, zeroFinish, recomposedFinished, atEdge, edgeFinish, infiniteProduct}
 use Rattle.worksheet_spec.specs.Sheets.{lowered, lowering, tinyTie, tinyProduct, restTie, scaledDown, middleProduct, otherProduct, productBy, productSheet}

@@ -10,9 +10,10 @@ use Rattle.rounding_spec.specs.Value.{decode, isNaN}
 use Rattle.binary32_spec.specs.Steps.{addStep, mulStep}
 use Rattle.pattern_spec.specs.Classes.{flip}
 use Rattle.augmented_spec.specs.Direct.{sum, difference, product}
-use Rattle.errorfree_spec.specs.Comparisons.{lessMagnitude}
+use Rattle.pattern_spec.specs.Comparisons.{lessMagnitude}
 use Rattle.worksheet_spec.specs.Lines.{Sheet, minus}
 use Rattle.worksheet_spec.specs.Sheets.{sheetOf, sumSheet, swaps, sumInOrder, productSheet}
+use Rattle.worksheet_spec.proofs.Entries.{_&_}
 use Rattle.worksheet_table.specs.Programs.{Way, taken, howManyTaken, sheetAlong, sheetBy}
 use Rattle.worksheet_table.specs.Table.{sumNaN, sumChanged, sumChangedZero, sumKept, sumKeptZero, sumInfinite, sumEdge, sumWays}
 use Rattle.worksheet_table.specs.Table.{productNaN, productInfinite, productEdge, productZero, tinyLowered, tinyKept}
@@ -20,8 +21,8 @@ use Rattle.worksheet_table.specs.Table.{middleChanged, middleChangedZero
 use Rattle.worksheet_table.specs.Table.{sheetByTable}
 use Rattle.worksheet_table.specs.Sampled.{Sample, sample, notNaNSumSamples, shownSums, shownProducts, Shows, SampledSheets}
 use Rattle.worksheet_table.specs.Theorems.{Agree, Every, SumWritten, EachWay, OneWay, EachTaken, WellMade, NaNTaken, All}
+pub use Rattle.worksheet_table.proofs.Computed.{sampled-marks}
 use Rattle.worksheet_table.proofs.Computed as computed
-use Rattle.worksheet_table.proofs.Computed.{_&_}
 use Rattle.worksheet_table.proofs.Told.{Told, told}
 use Rattle.worksheet_table.proofs.Sums as sums
 use Rattle.worksheet_table.proofs.Products as products
@@ -104,7 +105,7 @@ each-taken = computed.each-taken
 
 same-shown : (f g : ℕ → ℕ → Sheet) → ((x y : ℕ) → f x y ≡ g x y) → (qs : List Sample) → Shows g qs → Shows f qs
 same-shown f g e [] k = tt
-same-shown f g e (sample x y ls first second ∷ qs) k = (e x y ∙ k .0, same-shown f g e qs (k .1))
+same-shown f g e (sample x y ls marked first second ∷ qs) k = (e x y ∙ k .0, same-shown f g e qs (k .1))
 
 pub sampled-sheets : SampledSheets
 sampled-sheets =
@@ -127,4 +128,4 @@ nan-taken x y = (and-true (isNaN (decode binary32 (addStep x y))), and-true (isN
 
 -- ---- all of them
 pub all : All
-all = (agree, each-way, one-way, each-taken, sampled-sheets, well-made, nan-taken)
+all = (agree, each-way, one-way, each-taken, sampled-sheets, sampled-marks, well-made, nan-taken)

@@ -10,7 +10,7 @@ use Rattle.rounding_spec.specs.Value as values
 use Rattle.rounding_spec.specs.Value.{Value, nan, infinite, finite, decode}
 use Rattle.pattern_spec.specs.Classes.{flip, copySign}
 use Rattle.binary32_spec.specs.Steps.{addStep, subStep, mulStep, fmaStep}
-use Rattle.errorfree_spec.specs.Comparisons.{same, lessMagnitude}
+use Rattle.pattern_spec.specs.Comparisons.{same, lessMagnitude}
 use Rattle.worksheet_spec.specs.Lines.{Line, add, subtract, multiply, line as lineOfTwo, fusedLine, Sheet, ends}
 
 -- ---- what stands on a line

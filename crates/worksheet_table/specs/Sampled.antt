@@ -1,19 +1,19 @@
--- A whole sheet for each way through the rules (R5), and four more: the question, every word of every line, and the foot. The words come
--- from implementations that share nothing with the two accounts of R5: a model in whole numbers, and the processor's floats. Which
--- pattern a NaN result has is the rule's in both.
+-- A whole sheet for each way through the rules (R5), and four more: the question, every word of every line (the sixth, its mark, apart) and
+-- the foot. The words come from implementations that share nothing with the two accounts of R5: a model in whole numbers, and the
+-- processor's floats. Which pattern a NaN result has is the rule's in both.
 -- A way's sample is named by its row of Table. Operands and results of a sample differ where such a question was found, and have both
 -- signs, so that a line with another operand is, most often, another line.
 use Prim.Native.Nat.{ℕ}
 use mathlib.Core.Path.{_≡_}
 use mathlib.Core.List.{List, [], _∷_}
 use Rattle.augmented_spec.specs.Direct.{Operation, sum, difference, product}
-use Rattle.worksheet_spec.specs.Lines.{Line, add, subtract, multiply, line, fusedLine, Sheet, minus}
+use Rattle.worksheet_spec.specs.Lines.{Line, add, subtract, multiply, line, fusedLine, marks, Sheet, minus}
 use Rattle.worksheet_spec.specs.Sheets.{sheetOf}
 use Rattle.worksheet_table.specs.Table.{sheetByTable}
 
--- x, y, the lines, and the foot's two halves
+-- x, y, the lines, their marks (R2.8), and the foot's two halves
 pub data Sample : Type 0 where
-  sample : ℕ → ℕ → List Line → ℕ → ℕ → Sample
+  sample : ℕ → ℕ → List Line → List ℕ → ℕ → ℕ → Sample
 
 -- ---- sums
 abbrev pub sumNaNSheet : Sample
@@ -21,6 +21,7 @@ sumNaNSheet =
     sample 0xff81_2345 0x7fc0_0001
     (line add 0xff81_2345 0x7fc0_0001 0xffc1_2345
     ∷ [])
+    (2 ∷ [])
     0xffc1_2345 0xffc1_2345
 
 abbrev pub sumChangedSheet : Sample
@@ -33,6 +34,7 @@ sumChangedSheet =
     ∷ line subtract 0xca9a_b8a3 0xca9a_b8a4 0x3f00_0000
     ∷ line multiply 0x4000_0000 0x3e80_0000 0x3f00_0000
     ∷ [])
+    (1 ∷ 0 ∷ 0 ∷ 1 ∷ 0 ∷ 0 ∷ [])
     0xca9a_b8a3 0xbe80_0000
 
 abbrev pub sumChangedZeroSheet : Sample
@@ -46,6 +48,7 @@ sumChangedZeroSheet =
     ∷ line multiply 0x4000_0000 0x0000_0000 0x0000_0000
     ∷ line multiply 0x0000_0000 0x8000_01f8 0x8000_0000
     ∷ [])
+    (0 ∷ 0 ∷ 0 ∷ 1 ∷ 0 ∷ 0 ∷ 0 ∷ [])
     0x8000_01f8 0x8000_0000
 
 abbrev pub sumKeptSheet : Sample
@@ -58,6 +61,7 @@ sumKeptSheet =
     ∷ line subtract 0xc99c_bfad 0xc99c_bfae 0x3e00_0000
     ∷ line multiply 0x4000_0000 0xbd10_0000 0xbd90_0000
     ∷ [])
+    (1 ∷ 0 ∷ 0 ∷ 1 ∷ 0 ∷ 0 ∷ [])
     0xc99c_bfae 0xbd10_0000
 
 abbrev pub sumKeptZeroSheet : Sample
@@ -71,6 +75,7 @@ sumKeptZeroSheet =
     ∷ line multiply 0x4000_0000 0x0000_0000 0x0000_0000
     ∷ line multiply 0x0000_0000 0xff1f_ffd8 0x8000_0000
     ∷ [])
+    (0 ∷ 0 ∷ 0 ∷ 1 ∷ 0 ∷ 0 ∷ 0 ∷ [])
     0xff1f_ffd8 0x8000_0000
 
 abbrev pub sumInfiniteSheet : Sample
@@ -88,6 +93,7 @@ sumInfiniteSheet =
     ∷ line subtract 0xff07_dc99 0xfeeb_8000 0xfd90_e4c8
     ∷ line subtract 0xfd90_e4c6 0xfd90_e4c8 0x7280_0000
     ∷ [])
+    (1 ∷ 2 ∷ 2 ∷ 2 ∷ 2 ∷ 2 ∷ 0 ∷ 0 ∷ 1 ∷ 0 ∷ 0 ∷ [])
     0xff80_0000 0xff80_0000
 
 abbrev pub sumEdgeSheet : Sample
@@ -107,6 +113,7 @@ sumEdgeSheet =
     ∷ line multiply 0x3fff_ffff 0xff00_0000 0xff7f_ffff
     ∷ line multiply 0xc000_0000 0x7280_0000 0xf300_0000
     ∷ [])
+    (1 ∷ 2 ∷ 2 ∷ 2 ∷ 2 ∷ 2 ∷ 0 ∷ 0 ∷ 1 ∷ 0 ∷ 0 ∷ 0 ∷ 0 ∷ [])
     0xff7f_ffff 0xf300_0000
 
 -- ---- products
@@ -115,6 +122,7 @@ productNaNSheet =
     sample 0x8000_0000 0x7f81_2345
     (line multiply 0x8000_0000 0x7f81_2345 0x7fc1_2345
     ∷ [])
+    (2 ∷ [])
     0x7fc1_2345 0x7fc1_2345
 
 abbrev pub productInfiniteSheet : Sample
@@ -125,6 +133,7 @@ productInfiniteSheet =
     ∷ line multiply 0xe990_7b75 0x5516_50d7 0xff29_abed
     ∷ fusedLine 0xe990_7b75 0x5516_50d7 0x7f29_abed 0x7138_17a0
     ∷ [])
+    (1 ∷ 0 ∷ 1 ∷ 0 ∷ [])
     0xff80_0000 0xff80_0000
 
 abbrev pub productEdgeSheet : Sample
@@ -137,6 +146,7 @@ productEdgeSheet =
     ∷ line multiply 0x3fff_ffff 0xff00_0000 0xff7f_ffff
     ∷ line multiply 0xc000_0000 0x7280_0000 0xf300_0000
     ∷ [])
+    (1 ∷ 0 ∷ 1 ∷ 0 ∷ 0 ∷ 0 ∷ [])
     0xff7f_ffff 0xf300_0000
 
 abbrev pub productZeroSheet : Sample
@@ -144,6 +154,7 @@ productZeroSheet =
     sample 0x06c9_0000 0xacb4_c480
     (line multiply 0x06c9_0000 0xacb4_c480 0x8000_0000
     ∷ [])
+    (1 ∷ [])
     0x8000_0000 0x8000_0000
 
 abbrev pub tinyLoweredSheet : Sample
@@ -161,6 +172,7 @@ tinyLoweredSheet =
     ∷ line subtract 0x8003_602a 0x8000_0001 0x8003_6029
     ∷ line multiply 0x0000_0000 0x8003_6029 0x8000_0000
     ∷ [])
+    (1 ∷ 0 ∷ 0 ∷ 0 ∷ 0 ∷ 0 ∷ 0 ∷ 0 ∷ 0 ∷ 0 ∷ 0 ∷ [])
     0x8003_6029 0x8000_0000
 
 abbrev pub tinyKeptSheet : Sample
@@ -177,6 +189,7 @@ tinyKeptSheet =
     ∷ line subtract 0x8c29_7dd5 0x8c29_7c00 0x84ea_8000
     ∷ line multiply 0x0000_0000 0x0000_0102 0x0000_0000
     ∷ [])
+    (1 ∷ 0 ∷ 0 ∷ 1 ∷ 0 ∷ 0 ∷ 0 ∷ 1 ∷ 0 ∷ 0 ∷ [])
     0x0000_0102 0x0000_0000
 
 abbrev pub middleChangedSheet : Sample
@@ -194,6 +207,7 @@ middleChangedSheet =
     ∷ line multiply 0x4b80_0000 0x8000_0002 0x8180_0000
     ∷ line subtract 0x8180_0000 0x8180_0000 0x0000_0000
     ∷ [])
+    (1 ∷ 0 ∷ 1 ∷ 0 ∷ 1 ∷ 0 ∷ 0 ∷ 0 ∷ 0 ∷ 0 ∷ 0 ∷ [])
     0x8195_0867 0x8000_0002
 
 abbrev pub middleChangedZeroSheet : Sample
@@ -212,6 +226,7 @@ middleChangedZeroSheet =
     ∷ line subtract 0x8000_0000 0x8080_0000 0x0080_0000
     ∷ line multiply 0x0000_0000 0x80ff_ffff 0x8000_0000
     ∷ [])
+    (1 ∷ 0 ∷ 1 ∷ 0 ∷ 0 ∷ 0 ∷ 0 ∷ 0 ∷ 1 ∷ 0 ∷ 0 ∷ 0 ∷ [])
     0x80ff_ffff 0x8000_0000
 
 abbrev pub middleKeptSheet : Sample
@@ -229,6 +244,7 @@ middleKeptSheet =
     ∷ line multiply 0x4b80_0000 0x0000_0003 0x01c0_0000
     ∷ line subtract 0x01c0_0000 0x01b3_ec78 0x0030_4e20
     ∷ [])
+    (1 ∷ 0 ∷ 1 ∷ 0 ∷ 1 ∷ 0 ∷ 0 ∷ 0 ∷ 1 ∷ 0 ∷ 0 ∷ [])
     0x0241_cd55 0x0000_0003
 
 abbrev pub middleKeptZeroSheet : Sample
@@ -247,6 +263,7 @@ middleKeptZeroSheet =
     ∷ line subtract 0x0000_0000 0x0018_0000 0x8018_0000
     ∷ line multiply 0x0000_0000 0x013a_9909 0x0000_0000
     ∷ [])
+    (1 ∷ 0 ∷ 1 ∷ 0 ∷ 1 ∷ 0 ∷ 0 ∷ 0 ∷ 1 ∷ 0 ∷ 0 ∷ 0 ∷ [])
     0x013a_9909 0x0000_0000
 
 abbrev pub middleLoweredSheet : Sample
@@ -265,6 +282,7 @@ middleLoweredSheet =
     ∷ line subtract 0x0240_0000 0x0230_0000 0x0080_0000
     ∷ line subtract 0x0000_0006 0x0000_0001 0x0000_0005
     ∷ [])
+    (1 ∷ 0 ∷ 1 ∷ 0 ∷ 1 ∷ 0 ∷ 0 ∷ 0 ∷ 1 ∷ 0 ∷ 0 ∷ 0 ∷ [])
     0x0295_fab9 0x0000_0005
 
 abbrev pub otherChangedSheet : Sample
@@ -276,6 +294,7 @@ otherChangedSheet =
     ∷ line subtract 0xbc8b_c583 0xbc8b_c584 0x3100_0000
     ∷ line multiply 0x4000_0000 0x3080_0000 0x3100_0000
     ∷ [])
+    (1 ∷ 0 ∷ 1 ∷ 0 ∷ 0 ∷ [])
     0xbc8b_c583 0xb080_0000
 
 abbrev pub otherKeptSheet : Sample
@@ -287,6 +306,7 @@ otherKeptSheet =
     ∷ line subtract 0xbe50_94ce 0xbe50_94cf 0x3280_0000
     ∷ line multiply 0x4000_0000 0x3104_7000 0x3184_7000
     ∷ [])
+    (1 ∷ 0 ∷ 1 ∷ 0 ∷ 0 ∷ [])
     0xbe50_94cf 0x3104_7000
 
 abbrev pub otherKeptZeroSheet : Sample
@@ -299,6 +319,7 @@ otherKeptZeroSheet =
     ∷ line multiply 0x4000_0000 0x0000_0000 0x0000_0000
     ∷ line multiply 0x0000_0000 0x8ca9_95e4 0x8000_0000
     ∷ [])
+    (0 ∷ 0 ∷ 1 ∷ 0 ∷ 0 ∷ 0 ∷ [])
     0x8ca9_95e4 0x8000_0000
 
 -- ---- four more, of questions in which NaN stands elsewhere
@@ -308,6 +329,7 @@ secondNaNSheet =
     sample 0x0000_0000 0xffc0_0001
     (line add 0x0000_0000 0xffc0_0001 0xffc0_0001
     ∷ [])
+    (2 ∷ [])
     0xffc0_0001 0xffc0_0001
 
 -- u and -u times an infinity: h is zero and a' NaN, and b' is the NaN -a' that stands on its line (R2.4)
@@ -319,6 +341,7 @@ smallestSheet =
     ∷ line multiply 0x0000_0000 0x7f80_0000 0x7fc0_0000
     ∷ fusedLine 0x0000_0000 0x7f80_0000 0xffc0_0000 0xffc0_0000
     ∷ [])
+    (2 ∷ 1 ∷ 2 ∷ 2 ∷ [])
     0x7f80_0000 0x7f80_0000
 
 abbrev pub minusSmallestSheet : Sample
@@ -329,6 +352,7 @@ minusSmallestSheet =
     ∷ line multiply 0x8000_0000 0x7f80_0000 0x7fc0_0000
     ∷ fusedLine 0x8000_0000 0x7f80_0000 0xffc0_0000 0xffc0_0000
     ∷ [])
+    (2 ∷ 1 ∷ 2 ∷ 2 ∷ [])
     0xff80_0000 0xff80_0000
 
 -- an infinite operand: NaN from line 2 on, on both sides of a subtraction, and no NaN line ends the sheet
@@ -347,6 +371,7 @@ infiniteOperandSheet =
     ∷ line subtract 0x7f80_0000 0x7f80_0000 0x7fc0_0000
     ∷ line subtract 0x3f00_0000 0x7fc0_0000 0x7fc0_0000
     ∷ [])
+    (2 ∷ 2 ∷ 2 ∷ 2 ∷ 2 ∷ 2 ∷ 2 ∷ 0 ∷ 2 ∷ 2 ∷ 2 ∷ [])
     0x7f80_0000 0x7f80_0000
 
 -- ---- in the order of the table's rows
@@ -373,7 +398,7 @@ shownProducts = smallestSheet ∷ minusSmallestSheet ∷ productSamples
 -- ---- an account of R5 gives these sheets
 abbrev pub Shows : (ℕ → ℕ → Sheet) → List Sample → Type 0
 Shows sheet [] = Unit {0}
-Shows sheet (sample x y ls first second ∷ samples) =
+Shows sheet (sample x y ls marked first second ∷ samples) =
     (sheet x y ≡ record { lines = ls; first = first; second = second }) × Shows sheet samples
 
 -- the sum of a way too where it is asked the other way round, unless it is NaN; every sum where it is the difference of x and the flipped
@@ -386,3 +411,11 @@ GivesAll sheet =
 -- both accounts do
 abbrev pub SampledSheets : Type 0
 SampledSheets = GivesAll sheetOf × GivesAll sheetByTable
+
+-- A line as it is written above has the mark of its step (`line` of worksheet_spec). These are the marks that stand with the samples.
+abbrev pub ShowsMarks : List Sample → Type 0
+ShowsMarks [] = Unit {0}
+ShowsMarks (sample x y ls marked first second ∷ samples) = (marks ls ≡ marked) × ShowsMarks samples
+
+abbrev pub SampledMarks : Type 0
+SampledMarks = ShowsMarks shownSums × ShowsMarks shownProducts

@@ -7,11 +7,11 @@ use Rattle.rounding_spec.specs.Format.{binary32}
 use Rattle.rounding_spec.specs.Value.{decode, isNaN}
 use Rattle.binary32_spec.specs.Steps.{addStep, mulStep}
 use Rattle.augmented_spec.specs.Direct.{Operation, sum, product}
-use Rattle.errorfree_spec.specs.Comparisons.{lessMagnitude}
+use Rattle.pattern_spec.specs.Comparisons.{lessMagnitude}
 use Rattle.worksheet_spec.specs.Sheets.{sheetOf}
 use Rattle.worksheet_table.specs.Programs.{Way, taken, howManyTaken, sheetAlong, allWellMade}
 use Rattle.worksheet_table.specs.Table.{sumNaN, sumWays, productNaN, productWays, sheetByTable}
-use Rattle.worksheet_table.specs.Sampled.{Sample, sample, sumSamples, productSamples, SampledSheets}
+use Rattle.worksheet_table.specs.Sampled.{Sample, sample, sumSamples, productSamples, SampledSheets, SampledMarks}
 
 -- ---- both accounts of R5 agree, in lines and foot, on every question
 abbrev pub Agree : Type 0
@@ -42,12 +42,12 @@ unfolding taken
 eachTaken [] [] = true
 eachTaken [] (q ∷ qs) = false
 eachTaken (w ∷ ws) [] = false
-eachTaken (w ∷ ws) (sample x y ls first second ∷ qs) = taken w x y && eachTaken ws qs
+eachTaken (w ∷ ws) (sample x y ls marked first second ∷ qs) = taken w x y && eachTaken ws qs
 
 unfoldable pub noneExchanged : List Sample → Bool
 unfolding lessMagnitude decode
 noneExchanged [] = true
-noneExchanged (sample x y ls first second ∷ qs) = not (lessMagnitude (decode binary32 x) (decode binary32 y)) && noneExchanged qs
+noneExchanged (sample x y ls marked first second ∷ qs) = not (lessMagnitude (decode binary32 x) (decode binary32 y)) && noneExchanged qs
 
 abbrev pub EachTaken : Type 0
 EachTaken =
@@ -64,4 +64,4 @@ NaNTaken =
 
 -- ---- all of them
 abbrev pub All : Type 0
-All = Agree × EachWay × OneWay × EachTaken × SampledSheets × WellMade × NaNTaken
+All = Agree × EachWay × OneWay × EachTaken × SampledSheets × SampledMarks × WellMade × NaNTaken

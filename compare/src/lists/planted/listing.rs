@@ -1,7 +1,7 @@
 //! Faults in lists: in what enters, in what the totals are given, and in what a replay refuses.
 use crate::lists::book::enters;
 use crate::lists::events::Shape;
-use crate::lists::model::Filled;
+use crate::lists::model::{Filled, LINE, UNMARKED, WORDS as SHEET};
 use crate::lists::subject::{enter, Arrays, Lents, Question, Subject, TESTED};
 use crate::lists::trial::Source;
 use crate::pattern::{is_finite, magnitude, SIGN};
@@ -18,7 +18,9 @@ pub enum Fault {
     YNotFlipped,
     ProductAsTwo,
     LastLost,
-    NoFillPast65,
+    NoFill,
+    NoMarks,
+    UnmarkedEnters,
     ReplayTakesUnequal,
     ReplayTakesMore,
     ReplayTakesFewer,
@@ -42,7 +44,7 @@ const CALL: Source = Source::Replayed(Shape::Random);
 const ZERO_EVENTS: Source = Source::Events(Shape::Zeros);
 const ZERO_CALL: Source = Source::Replayed(Shape::Zeros);
 
-pub const FAULTS: [(Fault, Source, &str); 43] = [
+pub const FAULTS: [(Fault, Source, &str); 46] = [
     (Fault::RefusedEnters, Source::Events(Shape::Refused), "a refused question added"),
     (Fault::RefusedEnters, Source::Replayed(Shape::Refused), "a refused question added"),
     (Fault::InexactEnters, Source::Events(Shape::Tiny), "a product with X added"),
@@ -58,7 +60,10 @@ pub const FAULTS: [(Fault, Source, &str); 43] = [
     (Fault::LastLost, Source::Events(Shape::Cancelling), "a question lost"),
     (Fault::LastLost, Source::Replayed(Shape::Cancelling), "a question lost"),
     (Fault::LastLost, Source::Replayed(Shape::Long), "a question lost"),
-    (Fault::NoFillPast65, CALL, "sheets not filled"),
+    (Fault::NoFill, CALL, "sheets not filled"),
+    (Fault::NoMarks, CALL, "sheets filled without marks"),
+    (Fault::UnmarkedEnters, Source::Events(Shape::Refused), "a question of 65 words added"),
+    (Fault::UnmarkedEnters, Source::Replayed(Shape::Refused), "a question of 65 words added"),
     (Fault::ReplayTakesUnequal, Source::RefusedReplays, "unequal arrays taken"),
     (Fault::ReplayTakesMore, Source::RefusedReplays, "32,769 questions taken"),
     (Fault::ReplayTakesFewer, Source::Replayed(Shape::Long), "32,768 questions refused"),
@@ -100,6 +105,8 @@ const ONE: [u32; LENGTH] = {
 impl Fault {
     /// What a wrong caller or replay gives the totals.
     fn give(self, q: Question, sheet: &Filled, first: &mut [u32], second: &mut [u32]) -> u32 {
+        let unmarked = self == Fault::UnmarkedEnters && sheet.refusal == 9 && q.lent as usize >= UNMARKED;
+        let sheet = if unmarked { &filled(q, &mut Lent::new(&[0; SHEET])) } else { sheet };
         let entering = match self {
             Fault::RefusedEnters => sheet.refusal != 0 && is_finite(q.x) && is_finite(q.y) || enters(sheet),
             Fault::InexactEnters => sheet.refusal == 0 && is_finite(sheet.first),
@@ -190,14 +197,22 @@ impl Fault {
         for i in 0..arrays.operations.len() {
             let q = arrays.question(i);
             let mut lent = Lent::new(&lents.words.words()[..q.lent as usize]);
-            let sheet = TESTED.fill(q.operation, q.x, q.y, &mut lent);
-            if self != Fault::NoFillPast65 {
+            let sheet = filled(q, &mut lent);
+            if self == Fault::NoMarks && sheet.refusal == 0 {
+                lent.words_mut()[..SHEET].chunks_mut(LINE).for_each(|line| line[LINE - 1] = 0);
+            }
+            if self != Fault::NoFill {
                 lents.words.words_mut()[..q.lent as usize].copy_from_slice(lent.words());
             }
             self.give(q, &sheet, lents.first.words_mut(), lents.second.words_mut());
         }
         0
     }
+}
+
+/// The question's sheet, in these words.
+fn filled(q: Question, lent: &mut Lent) -> Filled {
+    TESTED.fill(q.operation, q.x, q.y, lent)
 }
 
 /// What is tested, with one fault in lists.

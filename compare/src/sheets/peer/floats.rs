@@ -64,23 +64,45 @@ fn nan_of(operands: &[u32]) -> u32 {
 }
 
 #[inline(always)]
+fn mark<const N: usize>(operands: [u32; N], is_exact: impl Fn() -> bool) -> u32 {
+    if !operands.into_iter().all(is_finite) {
+        2
+    } else {
+        u32::from(!is_exact())
+    }
+}
+
+/// In binary64, where a product of two such numbers is exact.
+#[inline(always)]
+fn wide(pattern: u32) -> f64 {
+    f64::from(f32::from_bits(pattern))
+}
+
+/// Whether a + b is what the result stands for. A sum that was rounded leaves something of the smaller one.
+#[inline(always)]
+fn is_sum(a: f64, b: f64, result: u32) -> bool {
+    let sum = a + b;
+    sum == wide(result) && sum - a == b && sum - b == a
+}
+
+#[inline(always)]
 fn add(text: &mut Text, x: u32, y: u32) -> u32 {
     let sum = result(f32::from_bits(x) + f32::from_bits(y), [x, y]);
-    text.two(Operation::Add, x, y, sum);
+    text.two(Operation::Add, [x, y], sum, mark([x, y], || is_sum(wide(x), wide(y), sum)));
     sum
 }
 
 #[inline(always)]
 fn sub(text: &mut Text, x: u32, y: u32) -> u32 {
     let difference = result(f32::from_bits(x) - f32::from_bits(y), [x, y]);
-    text.two(Operation::Sub, x, y, difference);
+    text.two(Operation::Sub, [x, y], difference, mark([x, y], || is_sum(wide(x), -wide(y), difference)));
     difference
 }
 
 #[inline(always)]
 fn mul(text: &mut Text, x: u32, y: u32) -> u32 {
     let product = result(f32::from_bits(x) * f32::from_bits(y), [x, y]);
-    text.two(Operation::Mul, x, y, product);
+    text.two(Operation::Mul, [x, y], product, mark([x, y], || wide(x) * wide(y) == wide(product)));
     product
 }
 
@@ -89,7 +111,8 @@ fn mul(text: &mut Text, x: u32, y: u32) -> u32 {
 fn rest(text: &mut Text, x: u32, y: u32, a: u32) -> u32 {
     let z = a ^ SIGN;
     let fused = result(f32::from_bits(x).mul_add(f32::from_bits(y), f32::from_bits(z)), [x, y, z]);
-    text.three(Operation::Fma, [x, y, z], fused);
+    let mark = mark([x, y, z], || is_sum(wide(x) * wide(y), wide(z), fused));
+    text.three(Operation::Fma, [x, y, z], fused, mark);
     fused
 }
 

@@ -126,21 +126,21 @@ impl Text {
     }
 
     #[inline(always)]
-    pub fn two(&mut self, operation: Operation, x: u32, y: u32, result: u32) {
+    pub fn two(&mut self, operation: Operation, [x, y]: [u32; 2], result: u32, mark: u32) {
         self.begin(operation, x, y);
         self.put(*b"\t-\t");
         self.put(digits(result));
-        self.put(*b"\n");
+        self.put([b'\t', b'0' + mark as u8, b'\n']);
     }
 
     #[inline(always)]
-    pub fn three(&mut self, operation: Operation, [x, y, z]: [u32; 3], result: u32) {
+    pub fn three(&mut self, operation: Operation, [x, y, z]: [u32; 3], result: u32, mark: u32) {
         self.begin(operation, x, y);
         self.put(*b"\t");
         self.put(digits(z));
         self.put(*b"\t");
         self.put(digits(result));
-        self.put(*b"\n");
+        self.put([b'\t', b'0' + mark as u8, b'\n']);
     }
 
     #[inline(always)]

@@ -1,5 +1,6 @@
 //! The comparison of the program tried on itself: a program with a planted fault has to be found out.
 mod input;
+mod marks;
 mod nan;
 mod order;
 mod text;
@@ -12,6 +13,11 @@ use super::files::branches::{self, Way};
 use super::files::{File, Shape, Source, SHAPES};
 use super::model;
 use super::program::{Process, Program};
+use super::sheet::LINES;
+
+/// The fields of a step's line.
+const RESULT: usize = 6;
+const MARK: usize = 7;
 
 #[derive(Clone, Copy)]
 enum Fault {
@@ -21,8 +27,10 @@ enum Fault {
     Text(fn(&str) -> String),
     /// The right text, with other refusals.
     Order(order::Order),
-    /// A digit is wrong in the last step of each question that takes this way through the rules.
-    Digit(Way),
+    /// A digit is wrong in a field of the last step of each question that takes this way through the rules.
+    Digit(Way, usize),
+    /// The mark is wrong in every step of this number.
+    MarkOnLine(usize),
 }
 
 /// The model's text, with one fault.
@@ -34,7 +42,8 @@ impl Program for Planted {
             Fault::Input(changed) => model::printed(&changed(file)),
             Fault::Text(spoilt) => spoilt(right),
             Fault::Order(order) => order::reordered(file, right, order),
-            Fault::Digit(way) => text::wrong_digit(right, way),
+            Fault::Digit(way, place) => text::wrong_digit(right, way, place),
+            Fault::MarkOnLine(number) => marks::on_line(right, number),
         };
         Ok(text.into_bytes())
     }
@@ -42,14 +51,19 @@ impl Program for Planted {
 
 /// Each fault with the shape that is there to find it, and what a report calls it.
 fn faults() -> Vec<(Fault, Shape, &'static str)> {
-    let digits = branches::ways().into_iter();
-    let digits =
-        digits.map(|way| (Fault::Digit(way), Shape::Branches, "a wrong digit on each way through the rules"));
+    let ways = branches::ways();
+    let of_ways = |place: usize, name: &'static str| {
+        ways.iter().map(move |&way| (Fault::Digit(way, place), Shape::Branches, name))
+    };
+    let digits = of_ways(RESULT, "a wrong digit on each way through the rules");
+    let marked = of_ways(MARK, "a wrong mark on each way through the rules");
+    let numbers = (1..=LINES)
+        .map(|number| (Fault::MarkOnLine(number), Shape::Branches, "a wrong mark on each line's number"));
     let inputs = input::FAULTS.iter().map(|&(fault, shape, name)| (Fault::Input(fault), shape, name));
     let orders = order::FAULTS.iter().map(|&(fault, shape, name)| (Fault::Order(fault), shape, name));
-    let texts = text::FAULTS.iter().chain(&nan::FAULTS).chain(&totals::FAULTS);
+    let texts = text::FAULTS.iter().chain(&nan::FAULTS).chain(&marks::FAULTS).chain(&totals::FAULTS);
     let texts = texts.map(|&(fault, shape, name)| (Fault::Text(fault), shape, name));
-    digits.chain(inputs).chain(orders).chain(texts).collect()
+    digits.chain(marked).chain(numbers).chain(inputs).chain(orders).chain(texts).collect()
 }
 
 const FILES: u64 = 12;

@@ -127,8 +127,8 @@ fn going_on(text: &str) -> String {
     lines(text, |fields| {
         if is_nan_line(fields) {
             let (x, nan) = (fields[3].clone(), fields[6].clone());
-            let next = ["step", "2", "sub", &nan, &x, "-", &nan].join("\t");
-            fields[6] = format!("{nan}\n{next}");
+            let next = ["step", "2", "sub", &nan, &x, "-", &nan, "2"].join("\t");
+            fields[7] = format!("2\n{next}");
         }
     })
 }

@@ -61,7 +61,7 @@ pub fn fields(text: &str, kind: &str, place: usize, changed: impl Fn(&str) -> St
 }
 
 /// The same in the middle one of such lines only.
-fn one(text: &str, kind: &str, place: usize, changed: impl Fn(&str) -> String) -> String {
+pub fn one(text: &str, kind: &str, place: usize, changed: impl Fn(&str) -> String) -> String {
     let middle = text.lines().filter(|line| line.starts_with(kind)).count() / 2;
     let mut met = 0;
     lines(text, |fields| {
@@ -84,13 +84,13 @@ pub fn lines(text: &str, mut change: impl FnMut(&mut Vec<String>)) -> String {
     changed.collect()
 }
 
-fn wrong_last(digits: &str) -> String {
+pub fn wrong_last(digits: &str) -> String {
     let last = if digits.ends_with('0') { '1' } else { '0' };
     format!("{}{last}", &digits[..digits.len() - 1])
 }
 
-/// In the last step of each question of a way.
-pub fn wrong_digit(text: &str, wanted: Way) -> String {
+/// In one field of the last step of each question of a way.
+pub fn wrong_digit(text: &str, wanted: Way, place: usize) -> String {
     let all: Vec<&str> = text.lines().collect();
     let mut asked = None;
     let mut changed = String::new();
@@ -101,11 +101,11 @@ pub fn wrong_digit(text: &str, wanted: Way) -> String {
         }
         let last = line.starts_with("step") && all.get(i + 1).is_some_and(|next| next.starts_with("pair"));
         if last && asked.map(way) == Some(wanted) {
-            changed += &wrong_last(line);
+            changed += &fields(line, "step", place, wrong_last);
         } else {
             changed += line;
+            changed.push('\n');
         }
-        changed.push('\n');
     }
     changed
 }

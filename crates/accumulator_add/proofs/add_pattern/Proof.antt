@@ -10,7 +10,7 @@ use Rattle.pattern_spec.specs.Exact.{finer}
 use Rattle.pattern_spec.specs.Classes.{valueOf}
 use Rattle.pattern_spec.proofs.Classified.{class-operand}
 use Rattle.accumulator_spec.specs.Totals.{numberSize, ofPattern}
-use Rattle.accumulator_words.proofs.Lent.{takes-term}
+use Rattle.accumulator_fit.proofs.Lent.{takes-term}
 use Rattle.accumulator_add.proofs.Scaled.{pattern-value, finer-digits, as-product}
 use Rattle.accumulator_add.proofs.Entered.{countable, entered, refused-term, stays}
 use Rattle.accumulator_add.proofs.add_pattern.Statement.{statement}

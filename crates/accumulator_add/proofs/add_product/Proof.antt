@@ -6,7 +6,7 @@ use lib.Seq.{length-take-le}
 use Rattle.rounding_spec.specs.Value.{isFinite}
 use Rattle.pattern_spec.specs.Classes.{valueOf}
 use Rattle.accumulator_spec.specs.Totals.{numberSize, ofProduct}
-use Rattle.accumulator_words.proofs.Lent.{takes-term}
+use Rattle.accumulator_fit.proofs.Lent.{takes-term}
 use Rattle.accumulator_add.proofs.Entered.{countable, entered, refused-term, stays}
 use Rattle.accumulator_add.proofs.add_product.Statement.{statement}
 use Rattle.accumulator_add.proofs.add_product.Tie as tie

@@ -6,7 +6,7 @@ use Rattle.rounding_spec.specs.Value.{isFinite}
 use Rattle.pattern_spec.specs.Classes.{valueOf}
 use Rattle.accumulator_spec.specs.Totals.{numberSize, ofProduct}
 use Rattle.accumulator_spec.proofs.Adding.{fit-bounds}
-use Rattle.accumulator_words.proofs.Lent.{takes-term}
+use Rattle.accumulator_fit.proofs.Lent.{takes-term}
 use Rattle.accumulator_add.proofs.Numbers.{fault-adds}
 use Rattle.accumulator_add.proofs.Entered.{countable, entered, refused-term, noted-takes, written}
 use Rattle.accumulator_add.proofs.admit.Statement.{statement}

@@ -12,7 +12,7 @@ use Rattle.accumulator_spec.specs.Totals.{number, count, exactNumber, pairAnswe
 use Rattle.accumulator_spec.proofs.Adding.{fit-bounds, sum-room}
 use Rattle.accumulator_spec.proofs.Answers.{reading-pair}
 use Rattle.accumulator_spec.proofs.ReadTotal.{minus-read}
-use Rattle.accumulator_words.proofs.Lent.{sound}
+use Rattle.accumulator_fit.proofs.Lent.{sound}
 use Rattle.accumulator_read.specs.Inner.{replied}
 use Rattle.accumulator_read.proofs.Replies.{fault-replied}
 use Rattle.accumulator_read.proofs.read.Statement.{statement}

@@ -38,7 +38,8 @@ returns-2 c =
     let b = f .before in
     let is = f .round-with-rest .ensures .0 in
     let below = shown-finite (b .args .sign) _ _ is (sym (e .before .is-infinite .ensures) ∙ e .if1 .left) in
-    twice-is (b .args .sign) _ _ is (b .args .exp) _ _ (f .round-with-rest .ensures .1 .0) (f .round-with-rest .ensures .1 .1) below _ _ _ _ (g .round-with-rest2 .ensures .0) (z .zero-takes .ensures)
+    twice-is (b .args .sign) _ _ is (b .args .exp) _ _ (f .round-with-rest .ensures .1 .0) (f .round-with-rest .ensures .1 .1 .0) below
+    _ _ _ _ (g .round-with-rest2 .ensures .0) (z .zero-takes .ensures)
     (g .round-with-rest2 .ensures .1 .0) (c .pair2 .ensures)
 
 pub twice-rounded-spec : {M : Type 1} → statement M

@@ -16,7 +16,7 @@ returns c =
     let b = f .before in
     let first = f .round-with-rest .ensures in
     let below = product-small (b .args .sign) (b .args .sig) (b .args .exp) (b .pre .0) (b .pre .1) in
-    lost-is (b .args .sign) _ _ (first .0) (b .args .exp) _ _ (first .1 .0) (first .1 .1) below _ (g .round-with-rest2 .ensures .1 .0)
+    lost-is (b .args .sign) _ _ (first .0) (b .args .exp) _ _ (first .1 .0) (first .1 .1 .0) below _ (g .round-with-rest2 .ensures .1 .0)
 
 pub underflows-spec : {M : Type 1} → statement M
 underflows-spec = tie.close (tie.spec round-with-rest-requires round-with-rest-requires-2 returns)

@@ -37,7 +37,7 @@ returns c operands =
     let f = u .before .before in
     let b = f .before in
     let halves = with-rest-is (b .args .sign) (b .args .sig) (b .args .exp) (b .pre) _ (f .round-with-rest .ensures .1 .0) _ _ (f .round-with-rest .ensures .0) (u .before .is-infinite .ensures) _
-    (u .choose-exponent .ensures) _ (f .round-with-rest .ensures .1 .1) _ _ (p .rest-pattern .ensures) (c .before .choose-pattern .ensures) in
+    (u .choose-exponent .ensures) _ (f .round-with-rest .ensures .1 .1 .0) _ _ (p .rest-pattern .ensures) (c .before .choose-pattern .ensures) in
     c .in-one-word .ensures ∙ halved-word (b .args .sign) (b .args .sig * 2 ^ b .args .exp) halves operands
 
 pub near-spec : {M : Type 1} → statement M

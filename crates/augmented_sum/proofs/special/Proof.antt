@@ -14,7 +14,7 @@ in-one-word-requires c κs = search needs
 
 returns : tie.Need-returns
 unfolding addValue
-returns c = c .in-one-word .ensures ∙ special-word _ _ (c .before .before .pre) _ (c .before .add .ensures ∙ add-step _ _)
+returns c = c .in-one-word .ensures ∙ special-word _ _ (c .before .before .pre) _ (c .before .add .ensures .0 ∙ add-step _ _)
 
 pub special-spec : {M : Type 1} → statement M
 special-spec = tie.close (tie.spec add-requires in-one-word-requires returns)

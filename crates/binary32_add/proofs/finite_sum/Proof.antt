@@ -1,14 +1,14 @@
 use borrow.Author.Needs.{needs}
-use mathlib.Core.Path.{sym, ap, _∙_}
-use Prim.Native.Nat.{_-_}
+use mathlib.Core.Path.{sym, _∙_}
+use mathlib.Core.Bool.{cond}
+use Prim.Native.Nat.{_-_, _*_, _^_}
 use native.Mathlib.Omega.{arith}
-use Rattle.rounding_spec.specs.declared.Ties.the-variants.{ToEven}
+use lib.Dec.{eqb}
 use Rattle.rounding_spec.specs.Format.{binary32}
-use Rattle.binary32_spec.specs.Steps.{addValue}
-use Rattle.rounding_spec.specs.Value.{encode}
+use Rattle.rounding_spec.specs.Value.{finite, encode}
 use Rattle.pattern_spec.proofs.Moved.{moved}
-use Rattle.binary32_spec.proofs.Near.{near-sum, operand-packed}
-use Rattle.pattern_spec.proofs.Far.{far-sum}
+use Rattle.binary32_spec.proofs.Marks.{same-outcome}
+use Rattle.binary32_spec.proofs.Near.{near-sum, operand-packed, far-outcome}
 use Rattle.binary32_add.proofs.finite_sum.Statement.{statement}
 use Rattle.binary32_add.proofs.finite_sum.Tie as tie
 
@@ -18,12 +18,16 @@ sub-gap c = search needs
 packed-requires : tie.Need-packed-requires
 packed-requires c κs = let o = c .before .pre .1 .0 in omega (arith, o .sig, o .exp)
 
+choose-pattern-requires : tie.Need-choose-pattern-requires
+choose-pattern-requires c κs = search needs
+
 returns : tie.Need-returns
-unfolding addValue
 returns c =
-    let b = c .before .before in
-    c .packed .ensures ∙ operand-packed (b .args .s) (b .args .m) (b .args .e) (b .pre .1 .0)
-    ∙ ap (encode binary32) (sym (far-sum ToEven (b .args .s) (b .args .m) (b .args .e) (b .args .t) (b .args .n) (b .args .d) (b .pre .1 .0) (b .pre .1 .1) (omega arith)))
+    let b = c .before .before .before in
+    let a = b .args in
+    same-outcome _ (record { result = encode binary32 (finite (a .s) (a .m * 2 ^ a .e)); mark = cond (eqb (a .n) 0) 0 1 })
+    (c .before .packed .ensures ∙ operand-packed (a .s) (a .m) (a .e) (b .pre .1 .0)) (c .choose-pattern .ensures)
+    ∙ sym (far-outcome (a .s) (a .m) (a .e) (a .t) (a .n) (a .d) (b .pre .1 .0) (b .pre .1 .1) (omega arith))
 
 cast-round-sum : tie.Need-cast-round-sum
 cast-round-sum c = search needs
@@ -51,6 +55,7 @@ finite-sum-spec =
     (tie.spec
     sub-gap
     packed-requires
+    choose-pattern-requires
     returns
     cast-round-sum
     shl-round-sum

@@ -1,12 +1,9 @@
 use borrow.Author.Needs.{needs}
 use mathlib.Core.Path.{_≡_, refl, sym, ap, _∙_}
-use Rattle.rounding_spec.specs.Format.{binary32}
-use Rattle.rounding_spec.specs.Value.{encode}
 use Rattle.pattern_spec.specs.Classes.{classOf, valueOf}
 use Rattle.pattern_spec.specs.Inner.{Descending, larger, smaller}
 use Rattle.pattern_spec.proofs.Classified.{class-operand, chosen-descending}
-use Rattle.binary32_spec.proofs.Special.{add-infinite}
-use Rattle.binary32_spec.proofs.Sums.{ordered-nan, ordered-number}
+use Rattle.binary32_spec.proofs.Sums.{ordered-nan, ordered-infinite, ordered-number}
 use Rattle.binary32_add.proofs.of_patterns.Statement.{statement}
 use Rattle.binary32_add.proofs.of_patterns.Tie as tie
 
@@ -25,6 +22,9 @@ enum-told c = search needs
 nan-of-two-requires : tie.Need-nan-of-two-requires
 nan-of-two-requires c κs = search needs
 
+special-requires : tie.Need-special-requires
+special-requires c κs = search needs
+
 enum-known-a : tie.Need-enum-known-a
 enum-known-a c = search needs
 
@@ -33,6 +33,9 @@ classify-requires-2 c κs = search needs
 
 infinite-plus-requires : tie.Need-infinite-plus-requires
 infinite-plus-requires c κs = search needs
+
+special-requires-2 : tie.Need-special-requires-2
+special-requires-2 c κs = search needs
 
 enum-known-a-2 : tie.Need-enum-known-a-2
 enum-known-a-2 c = search needs
@@ -55,21 +58,21 @@ finite-plus-requires c κs =
 returns : tie.Need-returns
 unfolding valueOf
 returns c =
-    let t = c .before in
+    let t = c .before .before in
     let f = t .before .before in
     let b = f .before .before .before in
     let first = sym (t .enum-told .given .1) ∙ f .classify .ensures ∙ ap classOf (f .before .larger .ensures) in
-    c .nan-of-two .ensures ∙ ordered-nan (b .args .x) (b .args .y) _ _ first refl refl
+    rw (c .special .ensures, c .before .nan-of-two .ensures) (ordered-nan (b .args .x) (b .args .y) _ _ first refl refl)
 
 returns-2 : tie.Need-returns-2
 unfolding valueOf
 returns-2 c =
-    let k = c .before .before .before in
+    let k = c .before .before .before .before in
     let f = k .before .before in
     let b = f .before .before .before in
     let first = sym (k .a .given .1) ∙ f .classify .ensures ∙ ap classOf (f .before .larger .ensures) in
-    let second = c .before .classify2 .ensures ∙ ap classOf (f .before .before .smaller .ensures) in
-    c .infinite-plus .ensures ∙ ap (encode binary32) (sym (add-infinite binary32 _ _)) ∙ ordered-number (b .args .x) (b .args .y) _ _ first second refl
+    let second = c .before .before .classify2 .ensures ∙ ap classOf (f .before .before .smaller .ensures) in
+    rw (c .special2 .ensures, c .before .infinite-plus .ensures) (ordered-infinite (b .args .x) (b .args .y) _ _ first second _ refl)
 
 returns-3 : tie.Need-returns-3
 unfolding valueOf
@@ -79,7 +82,7 @@ returns-3 c =
     let b = f .before .before .before in
     let first = sym (k .a2 .given .1) ∙ f .classify .ensures ∙ ap classOf (f .before .larger .ensures) in
     let second = c .before .classify3 .ensures ∙ ap classOf (f .before .before .smaller .ensures) in
-    c .finite-plus .ensures ∙ ordered-number (b .args .x) (b .args .y) _ _ first second refl
+    rw (c .finite-plus .ensures) (ordered-number (b .args .x) (b .args .y) _ _ first second refl)
 
 pub of-patterns-spec : {M : Type 1} → statement M
 of-patterns-spec =
@@ -90,9 +93,11 @@ of-patterns-spec =
     classify-requires
     enum-told
     nan-of-two-requires
+    special-requires
     enum-known-a
     classify-requires-2
     infinite-plus-requires
+    special-requires-2
     enum-known-a-2
     classify-requires-3
     finite-plus-requires

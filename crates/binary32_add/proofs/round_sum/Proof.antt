@@ -7,11 +7,11 @@ use Rattle.binary32_add.proofs.round_sum.Tie as tie
 signed-sum-requires : tie.Need-signed-sum-requires
 signed-sum-requires c κs = search needs
 
-round-requires : tie.Need-round-requires
-round-requires c κs = search needs
+rounded-requires : tie.Need-rounded-requires
+rounded-requires c κs = search needs
 
 returns : tie.Need-returns
-returns c = c .round .ensures ∙ round-sum-is _ _ _ _ _ _ _ (c .before .signed-sum .ensures)
+returns c = c .rounded .ensures ∙ round-sum-is _ _ _ _ _ _ _ (c .before .signed-sum .ensures)
 
 pub round-sum-spec : {M : Type 1} → statement M
-round-sum-spec = tie.close (tie.spec signed-sum-requires round-requires returns)
+round-sum-spec = tie.close (tie.spec signed-sum-requires rounded-requires returns)

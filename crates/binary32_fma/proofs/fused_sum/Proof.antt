@@ -1,10 +1,8 @@
 use borrow.Author.Needs.{needs}
 use mathlib.Core.Path.{ap, _∙_}
 use native.Mathlib.Omega.{arith}
-use Rattle.rounding_spec.specs.declared.Ties.the-variants.{ToEven}
-use Rattle.rounding_spec.specs.Format.{binary32}
-use Rattle.rounding_spec.specs.Value.{Value, encode, round}
 use Rattle.pattern_spec.proofs.Products.{vanished}
+use Rattle.binary32_spec.specs.Inner.{outcome}
 use Rattle.binary32_fma.proofs.Ordering.{ordered-reaches, ordered-sum}
 use Rattle.binary32_fma.proofs.fused_sum.Statement.{statement}
 use Rattle.binary32_fma.proofs.fused_sum.Tie as tie
@@ -35,7 +33,7 @@ aligned-requires c κs =
 
 returns-3 : tie.Need-returns-3
 returns-3 c = rw (← c .before .before .normalised .ensures .value)
-    (c .aligned .ensures ∙ ap (λ (v : Value). encode binary32 (round ToEven binary32 v)) (ordered-sum _ _ _ _ _ _ _ (c .before .ordered .ensures)))
+    (c .aligned .ensures ∙ ap outcome (ordered-sum _ _ _ _ _ _ _ (c .before .ordered .ensures)))
 
 pub fused-sum-spec : {M : Type 1} → statement M
 fused-sum-spec =

@@ -1,10 +1,10 @@
 use borrow.Author.Needs.{needs}
 use mathlib.Core.Path.{ap, _∙_}
 use Prim.Native.Nat.{ℕ}
-use lib.Dec.{ltb}
+use lib.Dec.{ltb, eqb}
 use Rattle.rounding_spec.specs.Nearest.{dist}
 use Rattle.rounding_spec.proofs.Remainder as remainder
-use Rattle.rounding_spec.proofs.LeftOver.{rest-fits, left-is, far-small, far-unit}
+use Rattle.rounding_spec.proofs.LeftOver.{rest-fits, left-is, none-is, far-small, far-unit}
 use Rattle.rounding.proofs.left_over.Statement.{statement}
 use Rattle.rounding.proofs.left_over.Tie as tie
 
@@ -18,7 +18,8 @@ returns : tie.Need-returns
 returns c =
     let b = c .before .before in
     let u = far-unit (b .args .n) (b .args .shift) (b .args .q) (b .fits .n .fits) (b .pre .0 .0) (b .pre .0 .1) (c .before .if1 .taken) (b .pre .1 .1) in
-    (c .left-far .ensures .0 ∙ ap (λ (x : ℕ). dist x (b .args .n)) u, c .left-far .ensures .1 ∙ ap (ltb (b .args .n)) u)
+    let f = c .left-far .ensures in
+    (f .0 ∙ ap (λ (x : ℕ). dist x (b .args .n)) u, (f .1 .0 ∙ ap (ltb (b .args .n)) u, f .1 .1 ∙ ap (λ (x : ℕ). eqb (dist x (b .args .n)) 0) u))
 
 shr-down : tie.Need-shr-down
 shr-down c = search needs
@@ -41,7 +42,8 @@ choose-requires c κs = search needs
 returns-2 : tie.Need-returns-2
 returns-2 c =
     let b = c .before .before in
-    left-is (b .args .n) (b .args .shift) (b .args .q) (b .fits .n .fits) (b .pre .0 .0) (b .pre .0 .1) (c .before .if1 .left) _ (c .choose .ensures)
+    let l = left-is (b .args .n) (b .args .shift) (b .args .q) (b .fits .n .fits) (b .pre .0 .0) (b .pre .0 .1) (c .before .if1 .left) _ (c .choose .ensures) in
+    (l .0, (l .1, none-is (b .args .n) (b .args .shift) (b .args .q) (b .fits .n .fits) (b .pre .0 .0) (b .pre .0 .1) (c .before .if1 .left) (b .pre .1 .1)))
 
 pub left-over-spec : {M : Type 1} → statement M
 left-over-spec =

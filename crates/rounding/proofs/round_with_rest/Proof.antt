@@ -5,7 +5,7 @@ use native.Mathlib.Omega.{arith}
 use lib.Count.{leading-le, leadingZeros}
 use Rattle.rounding_spec.proofs.Keep.{kept}
 use Rattle.rounding_spec.proofs.Normalised.{round-zero, zeros-lt, kept-small, round-is}
-use Rattle.rounding_spec.proofs.LeftOver.{moved-pos, up-is, rest-is, nothing-left}
+use Rattle.rounding_spec.proofs.LeftOver.{moved-pos, up-is, rest-is, none-at, nothing-left, nothing-none}
 use Rattle.rounding.proofs.round_with_rest.Statement.{statement}
 use Rattle.rounding.proofs.round_with_rest.Tie as tie
 
@@ -16,7 +16,7 @@ returns : tie.Need-returns
 returns c =
     let b = c .before .before in
     let z = nothing-left (b .args .ties) (b .args .exp) in
-    rw (c .before .if1 .taken) (c .packed .ensures ∙ sym (round-zero _ _ _), (z .0, z .1))
+    rw (c .before .if1 .taken) (c .packed .ensures ∙ sym (round-zero _ _ _), (z .0, (z .1, nothing-none (b .args .ties) (b .args .exp))))
 
 cast-zeros : tie.Need-cast-zeros
 cast-zeros c = omega (arith, leading-le 64 (c .before .args .sig))
@@ -75,7 +75,10 @@ returns-2 c =
           ∙ sym (round-is (b .args .ties) (b .args .sig) (b .args .exp) _ (omega arith) (b .fits .sig .fits) place _ (k .kept .ensures) (b .args .sign)),
       (
         rest-is (b .args .ties) (b .args .sig) (b .args .exp) _ (omega arith) (b .fits .sig .fits) place _ (k .kept .ensures) _ (left .0),
-        left .1 ∙ up-is (b .args .ties) (b .args .sig) (b .args .exp) _ (omega arith) (b .fits .sig .fits) place _ (k .kept .ensures),
+        (
+          left .1 .0 ∙ up-is (b .args .ties) (b .args .sig) (b .args .exp) _ (omega arith) (b .fits .sig .fits) place _ (k .kept .ensures),
+          left .1 .1 ∙ none-at (b .args .ties) (b .args .sig) (b .args .exp) _ (omega arith) (b .fits .sig .fits) place _ (k .kept .ensures),
+        ),
       ),
     )
 

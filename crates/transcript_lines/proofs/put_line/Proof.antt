@@ -44,6 +44,15 @@ mul-t22 c = search needs
 element-copy-out-t25 : tie.Need-element-copy-out-t25
 element-copy-out-t25 c = search needs
 
+add-t26 : tie.Need-add-t26
+add-t26 c = search needs
+
+mul-t27 : tie.Need-mul-t27
+mul-t27 c = search needs
+
+element-copy-out-t30 : tie.Need-element-copy-out-t30
+element-copy-out-t30 c = search needs
+
 add-put-step : tie.Need-add-put-step
 add-put-step c = search needs
 
@@ -61,7 +70,7 @@ add-put-step-2 c = search needs
 
 put-step-requires : tie.Need-put-step-requires
 put-step-requires c κs =
-    let a = c .before .before .before .before .before .before .before .args in
+    let a = c .before .before .before .before .before .before .before .before .args in
     omega (arith, ap length (same-step (a .line + 1) (a .words .now) (lineSize * a .line)))
 
 same-length : tie.Need-same-length
@@ -86,6 +95,9 @@ put-line-spec =
     add-t21
     mul-t22
     element-copy-out-t25
+    add-t26
+    mul-t27
+    element-copy-out-t30
     add-put-step
     mul-put-step-2
     element-copy-out-put-step-2

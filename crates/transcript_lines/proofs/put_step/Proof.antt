@@ -34,6 +34,9 @@ array-read-put-rest c = search needs
 array-read-put-rest-2 : tie.Need-array-read-put-rest-2
 array-read-put-rest-2 c = search needs
 
+array-read-put-rest-3 : tie.Need-array-read-put-rest-3
+array-read-put-rest-3 c = search needs
+
 put-rest-requires : tie.Need-put-rest-requires
 put-rest-requires c κs =
     let s = c .before .before .before .before .before .before .before .before .before .before .before .before .before .before in
@@ -63,6 +66,7 @@ put-step-spec =
     put-patterns-requires
     array-read-put-rest
     array-read-put-rest-2
+    array-read-put-rest-3
     put-rest-requires
     same-length
     returns)

@@ -37,8 +37,14 @@ array-read-words-5 c = search needs
 slice-write-words-5 : tie.Need-slice-write-words-5
 slice-write-words-5 c = simp length-set (omega arith)
 
+array-read-words-6 : tie.Need-array-read-words-6
+array-read-words-6 c = search needs
+
+slice-write-words-6 : tie.Need-slice-write-words-6
+slice-write-words-6 c = simp length-set (omega arith)
+
 same-length : tie.Need-same-length
-same-length c = search needs
+same-length c = search needs depth 8
 
 returns : tie.Need-returns
 returns c =
@@ -60,5 +66,7 @@ copy-line-spec =
     slice-write-words-4
     array-read-words-5
     slice-write-words-5
+    array-read-words-6
+    slice-write-words-6
     same-length
     returns)

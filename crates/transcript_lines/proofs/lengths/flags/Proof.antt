@@ -1,4 +1,4 @@
-use Rattle.transcript_spec.proofs.FieldLaws.{byte-most, marks-count, no-flags, some-flags, flags-most}
+use Rattle.transcript_spec.proofs.FieldLaws.{byte-most, flag-letters-count, no-flags, some-flags, flags-most}
 use lib.ListN.{length}
 use mathlib.Core.Path.{ap}
 use native.Mathlib.Omega.{arith}
@@ -34,12 +34,12 @@ add-n-3 c =
 returns : tie.Need-returns
 returns c =
     let f = c .before .before .before .before .before .args .flags in
-    omega (arith, ap length (no-flags f (omega (arith, marks-count f))))
+    omega (arith, ap length (no-flags f (omega (arith, flag-letters-count f))))
 
 returns-2 : tie.Need-returns-2
 returns-2 c =
     let f = c .before .before .before .before .before .args .flags in
-    omega (arith, marks-count f, ap length (some-flags f (λ z. c .if1 .left (omega (arith, marks-count f, z)))), flags-most f)
+    omega (arith, flag-letters-count f, ap length (some-flags f (λ z. c .if1 .left (omega (arith, flag-letters-count f, z)))), flags-most f)
 
 pub flags-spec : {M : Type 1} → statement M
 flags-spec =

@@ -10,7 +10,7 @@ use Rattle.transcript_lines.proofs.lengths.steps.Statement.{statement}
 use Rattle.transcript_lines.proofs.lengths.steps.Tie as tie
 
 abbrev Inv-loop : tie.InvT-loop
-Inv-loop words lines n₀ k₀ n k = (k ≤ lines) × (n ≡ length (stepsText k 1 words)) × (n ≤ 56 * k)
+Inv-loop words lines n₀ k₀ n k = (k ≤ lines) × (n ≡ length (stepsText k 1 words)) × (n ≤ 58 * k)
 
 abbrev μ-loop : tie.MeasureT-loop
 μ-loop words lines n₀ k₀ n k = lines - k

@@ -1,0 +1,1 @@
+// Which lines of a sheet have which mark, rule by rule: definitions and theorems, no function.

@@ -6,6 +6,9 @@
  *
  * An array is lent for the length of a call, by a pointer and the number of its words. The arrays of one call must not
  * overlap. A pointer is aligned for uint32_t and not null, even where the number of words is 0.
+ *
+ * CHANGED since steps have marks: jirmeklo_add, jirmeklo_sub, jirmeklo_mul and jirmeklo_fma return a struct jirmeklo_step, and no longer
+ * a uint32_t; a sheet has lines of six words, which were five, and 78 words, which were 65.
  */
 #ifndef JIRMEKLO_H
 #define JIRMEKLO_H
@@ -24,7 +27,7 @@ struct jirmeklo_flags {
 };
 
 /* A step's result and its mark: 0, the result is the exact value; 1, finite operands were rounded or overflowed; 2, an operand was
- * infinite or NaN. (CHANGED with marks: the four steps gave the result alone before, as uint32_t. Programs that call them take .result.) */
+ * infinite or NaN. */
 struct jirmeklo_step {
     uint32_t result, mark;
 };
@@ -91,7 +94,7 @@ struct jirmeklo_reading jirmeklo_read(const uint32_t *total, size_t words);
 
 /* Writes the step sheet of an operation (1 sum, 2 difference, 3 product) into the first 78 words: up to 13 lines (one where the
  * first gives NaN) of six words, which are the step (1 add, 2 sub, 3 mul, 4 fma), three operands (an unused third is 0), the result and
- * its mark; then zeros. (CHANGED with marks: lines had five words before, and sheets 65.)
+ * its mark; then zeros.
  * Refusals: 10, another operation; 9, fewer than 78 words. */
 struct jirmeklo_filled jirmeklo_fill(uint32_t operation, uint32_t x, uint32_t y, uint32_t *words, size_t count);
 

@@ -1,9 +1,12 @@
 // Both halves of a sum. They come back in one word, which goes in a register; what is large here is compiled once for sums and differences.
 use choose::choose_exponent;
 use choose::choose_pattern;
+use choose::choose_sign;
 use pattern::classify;
+use pattern::is_finite;
 use pattern::is_infinite;
 use pattern::larger;
+use pattern::nan_of_two;
 use pattern::smaller;
 use pattern::zero_takes;
 use pattern_spec::Class;
@@ -18,6 +21,7 @@ ghost use Rattle.rounding_spec.specs.Format.{binary32};
 ghost use Rattle.rounding_spec.specs.Value.{finite, decode, isFinite};
 ghost use Rattle.pattern_spec.specs.Classes.{classOf};
 ghost use Rattle.pattern_spec.specs.Inner.{Operand, Below};
+ghost use Rattle.binary32_spec.specs.Steps.{addStep};
 ghost use Rattle.augmented_spec.specs.Pairs.{pairOf, exactSum};
 ghost use Rattle.augmented_spec.specs.Inner.{inOneWord, Apart, ShortRest};
 
@@ -77,13 +81,28 @@ fn finite_plus(s: bool, m: u64, e: u16, p: u32, q: u32) -> u64
     }
 }
 
-// An infinite or NaN sum needs no rounding, so that it is the step's.
+// An infinite or NaN sum needs no rounding.
 fn special(x: u32, y: u32) -> u64
     requires { ⌜ isFinite (exactSum binary32 x y) ≡ false ⌝ }
     ensures { λ r. ⌜ r ≡ inOneWord (x ∷ y ∷ []) (pairOf binary32 (exactSum binary32 x y)) ⌝ }
 {
-    let sum = binary32::add(x, y);
-    in_one_word(sum.result, sum.result)
+    let sum = unrounded(x, y);
+    in_one_word(sum, sum)
+}
+
+// An infinity beside a number or beside itself is the sum; else there is a NaN, or there are opposite infinities.
+fn unrounded(x: u32, y: u32) -> u32
+    requires { ⌜ isFinite (exactSum binary32 x y) ≡ false ⌝ }
+    ensures { λ r. ⌜ r ≡ addStep x y ⌝ }
+{
+    let beside = choose_sign(x == y, true, is_finite(y));
+    if choose_sign(is_infinite(x), beside, false) {
+        return x;
+    }
+    if choose_sign(is_infinite(y), is_finite(x), false) {
+        return y;
+    }
+    nan_of_two(x, y)
 }
 
 // Two operands so far apart that they are their own pair, but for the sign of a zero.

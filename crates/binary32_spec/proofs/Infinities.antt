@@ -81,7 +81,7 @@ fma-gives x y z u v w p q e = fma-step x y z ∙ ap (once (x ∷ y ∷ z ∷ [])
 abbrev AllGive : ℕ → ℕ → ℕ → Type 0
 AllGive x y r = (addStep x y ≡ r) × (subStep x y ≡ r) × (mulStep x y ≡ r)
 
-left-nan : (x y : ℕ) → decode binary32 x ≡ nan → AllGive x y (nanOf binary32 (x ∷ y ∷ []))
+pub left-nan : (x y : ℕ) → decode binary32 x ≡ nan → AllGive x y (nanOf binary32 (x ∷ y ∷ []))
 unfolding result round finer plus times
 left-nan x y e =
     let v = decode binary32 y in

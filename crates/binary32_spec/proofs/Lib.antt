@@ -7,6 +7,7 @@ pub mod Products
 pub mod Fused
 pub mod Jam
 pub mod Infinities
+pub mod Unrounded
 pub mod Decoded
 pub mod MarkTheorems
 pub mod Theorems

@@ -6,15 +6,15 @@ use Rattle.augmented_spec.proofs.Unrounded.{special-word}
 use Rattle.augmented_sum.proofs.special.Statement.{statement}
 use Rattle.augmented_sum.proofs.special.Tie as tie
 
-add-requires : tie.Need-add-requires
-add-requires c κs = search needs
+unrounded-requires : tie.Need-unrounded-requires
+unrounded-requires c κs = search needs
 
 in-one-word-requires : tie.Need-in-one-word-requires
 in-one-word-requires c κs = search needs
 
 returns : tie.Need-returns
 unfolding addValue
-returns c = c .in-one-word .ensures ∙ special-word _ _ (c .before .before .pre) _ (c .before .add .ensures .0 ∙ add-step _ _)
+returns c = c .in-one-word .ensures ∙ special-word _ _ (c .before .before .pre) _ (c .before .unrounded .ensures ∙ add-step _ _)
 
 pub special-spec : {M : Type 1} → statement M
-special-spec = tie.close (tie.spec add-requires in-one-word-requires returns)
+special-spec = tie.close (tie.spec unrounded-requires in-one-word-requires returns)

@@ -26,8 +26,8 @@ struct jirmeklo_flags {
     bool invalid, overflow, underflow, inexact;
 };
 
-/* A step's result and its mark: 0, the result is the exact value; 1, finite operands were rounded or overflowed; 2, an operand was
- * infinite or NaN. */
+/* A step's result and its mark: 0, the result is the exact value; 1, it is not, by rounding or by overflow; 2, there is an infinity or a
+ * NaN among the operands. */
 struct jirmeklo_step {
     uint32_t result, mark;
 };

@@ -1,7 +1,7 @@
 // The four rounding steps as definitions and theorems, and their agreement with the toolchain's own account of IEEE 754; what a step hands
 // back.
 
-// Marks (R2.8): the result is the exact value; finite operands were rounded or overflowed; an operand was infinite or NaN.
+// Marks (R2.8): nothing was lost; something was, by rounding or by overflow; there was an infinity or a NaN among the operands.
 pub const EXACT: u32 = 0;
 
 pub const ROUNDED: u32 = 1;

@@ -22,7 +22,7 @@ EntryHolds rounded l = l .mark ≡ 1
 EntryHolds special l = l .mark ≡ 2
 EntryHolds (exactWhere test) l = l .mark ≡ cond test 0 1
 
--- A claim for each line, in order. There is a line for each claim, and lines after the last claim all have mark 0.
+-- An entry for each line, in order. There is a line for each entry, and lines after the last entry all have mark 0.
 abbrev pub MarkTable : List Entry → List Line → Type 0
 MarkTable [] [] = Unit {0}
 MarkTable [] (l ∷ ls) = (l .mark ≡ 0) × MarkTable [] ls

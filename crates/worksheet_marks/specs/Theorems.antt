@@ -23,7 +23,7 @@ use Rattle.worksheet_spec.specs.Lines.{Line, value, minus, equal, isZeroPattern
 use Rattle.worksheet_spec.specs.Sheets.{Branch, whenNaN, whenInfinite, whenZero, whenTiny, whenMiddle, otherwise, branchOf, sheetOf}
 use Rattle.worksheet_marks.specs.Tables.{Entry, any, exact, rounded, special, exactWhere, EntryHolds, MarkTable, resultAt}
 
--- ---- sums. Above a claim stands the name that the rules give its line, and above the end the lines that can follow, which have mark 0.
+-- ---- sums. Above an entry stands the name that the rules give its line, and above the end the lines that can follow, which have mark 0.
 -- of all sums, and of all differences, whose y is flipped first: what is said of the two operands and of the sheet's lines
 abbrev pub OfSums : (ℕ → ℕ → List Line → Type 0) → Type 0
 OfSums Says =
@@ -33,7 +33,7 @@ OfSums Says =
 abbrev pub FiniteSumTable : List Line → Type 0
 FiniteSumTable ls =
     let b = resultAt 2 ls in
-    --     a                              v       b       z     d       e       zero finish
+    --         a                              v       b       z     d       e       zero finish
     MarkTable (exactWhere (isZeroPattern b) ∷ exact ∷ exact ∷ any ∷ exact ∷ exact ∷ []) ls
 
 abbrev pub FiniteSum : Type 0
@@ -44,7 +44,7 @@ FiniteSum = OfSums (λ (x y : ℕ) (ls : List Line). isFinite (value (addStep x 
 abbrev pub OverflowTable : List Line → Type 0
 OverflowTable ls =
     let b' = resultAt 10 ls in
-    --     a         v         b         z         d         e
+    --         a         v         b         z         d         e
     MarkTable (rounded ∷ special ∷ special ∷ special ∷ special ∷ special
     -- x'     y'      a'                              v'      b'      the edge
     ∷ exact ∷ exact ∷ exactWhere (isZeroPattern b') ∷ exact ∷ exact ∷ []) ls
@@ -58,7 +58,7 @@ abbrev pub SpecialSumTable : Value → List Line → Type 0
 SpecialSumTable nan ls = marks ls ≡ 2 ∷ []
 SpecialSumTable (finite s m) ls = ⊥
 SpecialSumTable (infinite s) ls =
-    --     a         v         b         z         d         e         x'        y'    a'        v'        b'
+    --         a         v         b         z         d         e         x'        y'    a'        v'        b'
     MarkTable (special ∷ special ∷ special ∷ special ∷ special ∷ special ∷ special ∷ any ∷ special ∷ special ∷ special ∷ []) ls
 
 abbrev pub SpecialSum : Type 0
@@ -129,7 +129,7 @@ abbrev pub SpecialProductTable : Value → List Line → Type 0
 SpecialProductTable nan ls = marks ls ≡ 2 ∷ []
 SpecialProductTable (finite s m) ls = ⊥
 SpecialProductTable (infinite s) ls =
-    --     a         h     a'        b'
+    --         a         h     a'        b'
     MarkTable (special ∷ any ∷ special ∷ special ∷ []) ls
 
 abbrev pub SpecialProduct : Type 0

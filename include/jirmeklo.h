@@ -1,14 +1,14 @@
 /* Jirmeklo: binary32 steps, augmented pairs, exact column totals and step sheets, each proved against its specification.
  *
+ * CHANGED since steps have marks: jirmeklo_add, jirmeklo_sub, jirmeklo_mul and jirmeklo_fma return a struct jirmeklo_step, and no longer
+ * a uint32_t; a sheet has lines of six words, which were five, and 78 words, which were 65.
+ *
  * A pattern is a binary32 number as its 32 bits. A call that is carried out answers 0, another the number of its refusal;
  * of several conditions the one that stands first is answered. A refused call leaves all that it was lent as it was.
  * Nothing is allocated, and nothing is kept between calls.
  *
  * An array is lent for the length of a call, by a pointer and the number of its words. The arrays of one call must not
  * overlap. A pointer is aligned for uint32_t and not null, even where the number of words is 0.
- *
- * CHANGED since steps have marks: jirmeklo_add, jirmeklo_sub, jirmeklo_mul and jirmeklo_fma return a struct jirmeklo_step, and no longer
- * a uint32_t; a sheet has lines of six words, which were five, and 78 words, which were 65.
  */
 #ifndef JIRMEKLO_H
 #define JIRMEKLO_H

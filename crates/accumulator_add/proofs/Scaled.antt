@@ -1,6 +1,6 @@
 -- Patterns and products as terms: their exact values.
 use mathlib.Core.Path.{_≡_, refl, sym, ap, _∙_}
-use mathlib.Core.Bool.{Bool, true, false, _&&_}
+use mathlib.Core.Bool.{Bool, true, false, and-true}
 use mathlib.Core.List.{List}
 use Prim.Native.Nat.{ℕ, _+_, _*_, _^_}
 use native.Mathlib.Nat.{mul-assoc}
@@ -31,13 +31,9 @@ one-value (infinite false) = refl
 one-value (finite true a) = refl
 one-value (finite false a) = refl
 
-with-one : (b : Bool) → b && true ≡ b
-with-one true = refl
-with-one false = refl
-
 pub as-product : (t : List ℕ) (x n : ℕ) (after : List ℕ) → AddsNumbered t (ofProduct x 0x3f80_0000) n after → AddsNumbered t (ofPattern x) n after
 unfolding adding afterAdding decode unsigned magnitude fields
 as-product t x n after h =
-    let f : finiteOperands (ofProduct x 0x3f80_0000) ≡ finiteOperands (ofPattern x) = with-one (isFinite (decode binary32 x)) in
+    let f : finiteOperands (ofProduct x 0x3f80_0000) ≡ finiteOperands (ofPattern x) = and-true (isFinite (decode binary32 x)) in
     let v : exactTerm (ofProduct x 0x3f80_0000) ≡ exactTerm (ofPattern x) = one-value (decode binary32 x) in
     rw (f, v) at h

@@ -10,7 +10,7 @@ use borrow.Author.Tests.{le-leb, leb-true, eqb-true, eqb-false, eq-eqb, ne-eqb}
 use lib.Dec.{eqb, leb, lit<}
 use lib.IntN.{ℤ, pos, negsuc, natAbs, subℕ, _+ℤ_}
 use lib.ListN.{length}
-use Rattle.pattern_spec.proofs.Truth.{both-of}
+use Rattle.pattern_spec.proofs.Truth.{both-of, refute}
 use Rattle.pattern_spec.specs.Answer.{Answer, refused, done}
 use Rattle.accumulator_spec.specs.Words.{Words}
 use Rattle.pattern_spec.specs.Exact.{whole}
@@ -107,10 +107,6 @@ fit-is t = (
   λ e. let f = fit-bounds t e in (f .few, f .small, f .sign, f .none, f .some),
   λ b. bounds-fit t (record { few = b .0; small = b .1; sign = b .2; none = b .3; some = b .4 }),
 )
-
-pub refute : (b : Bool) → (b ≡ true → ⊥) → b ≡ false
-refute true h = absurd (h refl)
-refute false h = refl
 
 pub lowest-unfit : LowestUnfit
 lowest-unfit t e =

@@ -1,15 +1,14 @@
 -- Terms of -0 and columns of them: which they are, and what such a column holds and reads; sign words by computation.
 use mathlib.Core.Path.{_≡_, refl, sym, ap, ap₂, _∙_}
-use mathlib.Core.Bool.{true≢false, Bool, true, false, _&&_, _||_, or-false}
+use mathlib.Core.Bool.{true≢false, Bool, true, _&&_, _||_, or-false}
 use mathlib.Core.List.{List, [], _∷_}
-use Prim.Native.Nat.{ℕ, zero, suc, _*_, _^_, _≤_, _<_}
+use Prim.Native.Nat.{ℕ, zero, suc, _*_, _^_, _<_}
 use native.Mathlib.Nat.{le-trans, le-of-eq, zero-mul, mul-zero, mul-pos}
 use native.Mathlib.Omega.{arith}
 use borrow.Author.Tests.{ne-eqb}
 use lib.Dec.{eqb}
 use lib.Ieee.{unlike, size}
 use lib.IntN.{pos, _+ℤ_}
-use lib.ListN.{length}
 use Rattle.rounding_spec.specs.Format.{binary32}
 use Rattle.rounding_spec.specs.Round.{keep, lastPlace}
 use Rattle.rounding_spec.specs.Value.{Value, nan, infinite, finite, fields, magnitude, unsigned, bits, decode, encode}
@@ -17,8 +16,8 @@ use Rattle.rounding_spec.proofs.Codec.{encode-decode}
 use Rattle.pattern_spec.specs.Exact.{times, finer}
 use Rattle.augmented_spec.specs.Pairs.{pairOf}
 use Rattle.accumulator_spec.specs.Words.{natural, integer, wordsOfNatural, wordsOfInteger}
-use Rattle.accumulator_spec.specs.Totals.{zeros, mostTerms, number, count, Term, ofPattern, exactTerm, isMinusZero, fit, adding, afterAdding, reading}
-use Rattle.accumulator_spec.specs.Columns.{column, AllFinite, AllMinusZero, columnSum, columnSign}
+use Rattle.accumulator_spec.specs.Totals.{zeros, number, Term, isMinusZero, fit, adding, afterAdding, reading}
+use Rattle.accumulator_spec.specs.Columns.{column, AllMinusZero, columnSum}
 use Rattle.accumulator_spec.specs.Carrying.{carrying, afterCarrying}
 use Rattle.accumulator_spec.specs.Joins.{joining, afterJoining}
 use Rattle.accumulator_spec.specs.SignTheorems.{PatternMinusZero, ProductMinusZero, ColumnSignIs, ColumnMinusZero, SignLandmarks}

@@ -6,13 +6,12 @@ use Prim.Native.Nat.{ℕ, zero, suc, _+_, _≤_}
 use native.Mathlib.Omega.{arith}
 use borrow.Author.Tests.{eqb-true, eq-eqb, ne-eqb}
 use lib.Dec.{eqb}
-use lib.IntN.{ℤ, pos, _+ℤ_}
-use lib.ListN.{length}
+use lib.IntN.{pos}
 use Rattle.pattern_spec.proofs.Truth.{both-of}
 use Rattle.rounding_spec.specs.Value.{Value, nan, infinite, finite}
-use Rattle.pattern_spec.specs.Exact.{whole, int}
+use Rattle.pattern_spec.specs.Exact.{whole}
 use Rattle.accumulator_spec.specs.Totals.{Term, exactTerm, isMinusZero, termSign, signOfBoth}
-use Rattle.accumulator_spec.specs.Columns.{AllMinusZero, columnSum, columnSign}
+use Rattle.accumulator_spec.specs.Columns.{AllMinusZero, columnSign}
 use Rattle.accumulator_spec.specs.SignTheorems.{SignOfBothIs}
 
 -- ---- of two

@@ -1,19 +1,16 @@
 -- A term of a fit total, by its class as the code has it: what is answered, and the words as they end.
-use mathlib.Core.Path.{_≡_, refl, sym, ap, _∙_}
+use mathlib.Core.Path.{_≡_, sym, ap, _∙_}
 use mathlib.Core.Bool.{Bool, true, false, cond, _&&_}
 use mathlib.Core.List.{List}
-use Prim.Native.Nat.{ℕ, zero, suc, _*_, _^_, _<_}
-use native.Mathlib.Nat.{zero-mul, mul-pos}
+use Prim.Native.Nat.{ℕ, suc, _*_, _^_, _<_}
 use native.Mathlib.Omega.{arith}
-use borrow.Author.Tests.{ne-eqb}
 use lib.Dec.{eqb}
-use lib.Pow.{pow-pos}
 use lib.IntN.{_+ℤ_}
 use lib.ListN.{length}
 use Rattle.pattern_spec.specs.Answer.{Answer, refused, done}
 use Rattle.rounding_spec.specs.Format.{binary32}
-use Rattle.rounding_spec.specs.Value.{Value, nan, infinite, finite, decode, isFinite}
-use Rattle.pattern_spec.specs.Exact.{whole, int, times, finer}
+use Rattle.rounding_spec.specs.Value.{Value, finite, decode, isFinite}
+use Rattle.pattern_spec.specs.Exact.{whole, int}
 use Rattle.pattern_spec.proofs.Finiteness.{finer-finite, times-finite}
 use Rattle.rounding_spec.proofs.Multiple.{digits-zero}
 use Rattle.accumulator_spec.specs.Totals.{totalSize, mostTerms, number, count, signWord, totalOf, fit}

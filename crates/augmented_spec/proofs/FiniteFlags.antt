@@ -6,9 +6,8 @@ use Prim.Native.Nat.{ℕ, _*_, _≤_, _<_}
 use lib.IntN.{ℤ, natAbs}
 use Rattle.rounding_spec.specs.declared.Ties.the-variants.{ToZero}
 use Rattle.rounding_spec.specs.Format.{Format, edge, signBit}
-use Rattle.rounding_spec.specs.Value.{Value, nan, infinite, finite, decode, isNaN, isFinite, isInfinite}
+use Rattle.rounding_spec.specs.Value.{Value, infinite, finite, decode, isNaN, isFinite, isInfinite}
 use Rattle.rounding_spec.proofs.RoundValue.{over-edge, zero-at-edge}
-use Rattle.pattern_spec.specs.Exact.{negate}
 use Rattle.pattern_spec.proofs.Classified.{decode-flip}
 use Rattle.augmented_spec.specs.declared.Pair.{Pair}
 use Rattle.augmented_spec.specs.Pairs.{pairOf, invalid, overflowed, flagsOf, answer}

@@ -28,6 +28,7 @@ use Rattle.pattern_spec.specs.Inner.{Operand, Below}
 use Rattle.pattern_spec.proofs.Classified.{class-value, class-operand}
 use Rattle.pattern_spec.proofs.Exacts.{Sum, near-exact}
 use Rattle.pattern_spec.proofs.Far.{far-below, far-sum}
+use Rattle.pattern_spec.proofs.Finiteness.{finer-finite, plus-finite}
 use Rattle.pattern_spec.proofs.Sums.{like?, like-eq, sum-same, sum-left, finer-sum}
 use Rattle.binary32_spec.specs.Steps.{result}
 use Rattle.augmented_spec.specs.Pairs.{zeroTakes, secondOf, pairOf, exactSum}
@@ -126,18 +127,7 @@ special-word operands (infinite s) h r e = rw e
 special-word operands (finite s N) h r e = absurd (let k : _≡_ {A = ℕ} 0 1 = ap (λ (b : Bool). cond b 0 1) h in omega arith)
 
 pub infinite-sum : (v w : Value) → isFinite v && isFinite w ≡ false → isFinite (finer binary32 (plus v w)) ≡ false
-unfolding plus finer
-infinite-sum nan w h = refl
-infinite-sum (infinite s) nan h = refl
-infinite-sum (infinite s) (infinite t) h = go (Bool·beq s t)
-  where
-    go : (b : Bool) → isFinite (finer binary32 (cond b (infinite s) nan)) ≡ false
-    go true = refl
-    go false = refl
-infinite-sum (infinite s) (finite t b) h = refl
-infinite-sum (finite s a) nan h = refl
-infinite-sum (finite s a) (infinite t) h = refl
-infinite-sum (finite s a) (finite t b) h = absurd (let k : _≡_ {A = ℕ} 0 1 = ap (λ (c : Bool). cond c 0 1) h in omega arith)
+infinite-sum v w h = finer-finite binary32 (plus v w) ∙ plus-finite v w ∙ h
 
 -- ---- operands by their class
 pub finite-class : (q : ℕ) (c : Class) (t : Bool) (n d : ℕ) → c ≡ classOf q → c ≡ Finite t n d → Operand n d × (decode binary32 q ≡ finite t (n * 2 ^ d))

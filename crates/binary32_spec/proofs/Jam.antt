@@ -12,9 +12,8 @@ use borrow.Author.Tests.{lt-ltb, le-ltb, lt-leb, le-leb, eq-eqb, ne-eqb}
 use lib.Dec.{ltb, leb, eqb}
 use lib.Pow.{pow-pos, pow-mono}
 use Rattle.rounding_spec.specs.declared.Ties.the-variants.{ToEven}
-use Rattle.rounding_spec.specs.Format.{binary32}
 use Rattle.rounding_spec.specs.Round.{rounded}
-use Rattle.rounding_spec.specs.Value.{Value, finite, encode, roundFinite, round}
+use Rattle.rounding_spec.specs.Value.{Value, finite, roundFinite, round}
 use Rattle.rounding_spec.proofs.Remainder.{shifted-back}
 use Rattle.rounding_spec.proofs.Sticky.{between-lost, odd}
 use Rattle.pattern_spec.specs.Exact.{plusFinite}

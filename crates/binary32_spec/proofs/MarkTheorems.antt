@@ -1,6 +1,6 @@
 -- What a mark means (`specs/MarkTheorems.antt`).
 use mathlib.Core.Path.{_≡_, refl, sym, ap, ap₂, _∙_, subst}
-use mathlib.Core.Logic.{_⊎_, _≢_, _↔_, inl, inr}
+use mathlib.Core.Logic.{_⊎_, _≢_, inl, inr}
 use mathlib.Core.Bool.{Bool, true, false, not, cond, _&&_, true≢false}
 use Prim.Native.Nat.{ℕ, _*_, _^_, _≤_, _<_}
 use native.Mathlib.Omega.{arith}
@@ -11,7 +11,7 @@ use lib.IntN.{ℤ, pos, natAbs, _+ℤ_, _-ℤ_, _*ℤ_, zero-*ℤ}
 use Rattle.rounding_spec.specs.declared.Ties.the-variants.{ToEven}
 use Rattle.rounding_spec.specs.Format.{binary32, limit}
 use Rattle.rounding_spec.specs.Round.{keep, lastPlace}
-use Rattle.rounding_spec.specs.Value.{Value, nan, infinite, finite, decode, isFinite, isInfinite, isZero, round, roundFinite}
+use Rattle.rounding_spec.specs.Value.{Value, nan, infinite, finite, decode, isFinite, isInfinite, isZero, round}
 use Rattle.rounding_spec.proofs.Rounded.{rounded-none}
 use Rattle.rounding_spec.proofs.RoundValue.{round-below}
 use Rattle.pattern_spec.specs.Classes.{bothFinite}
@@ -20,7 +20,7 @@ use Rattle.pattern_spec.specs.Exact.{negate, plus, times, finer, int, whole}
 use Rattle.pattern_spec.proofs.Finiteness.{number-of}
 use Rattle.pattern_spec.proofs.Integers.{plus-exact, times-exact, int-not, int-scale, int-size}
 use Rattle.pattern_spec.proofs.Theorems.{same-means}
-use Rattle.pattern_spec.proofs.Truth.{one-of, both-of}
+use Rattle.pattern_spec.proofs.Truth.{one-of, both-of, some-false}
 use Rattle.binary32_spec.specs.Steps.{addValue, subValue, mulValue, fmaValue, addStep, subStep, mulStep, fmaStep}
 use Rattle.binary32_spec.specs.Marks.{markBy, allFinite, addMark, subMark, mulMark, fmaMark}
 use Rattle.binary32_spec.specs.MarkTheorems.{Special, numberOf, wholeSum, wholeDifference, wholeProduct, wholeFused, IsExact, MarkMeans, AddMarkMeans, SubMarkMeans, MulMarkMeans}
@@ -194,10 +194,6 @@ module _ (f : Bool) (v : Value) (r : ℕ) (S : Type 0) (E : ℤ) (some : S → f
         not-finite (finite s a) i j = true≢false (sym i)
 
 -- ---- the four steps
-some-false : (i j : Bool) → (i ≡ false) ⊎ (j ≡ false) → i && j ≡ false
-some-false false j h = refl
-some-false true j h = elim h [ inl k ↦ absurd (true≢false k) | inr k ↦ k ]
-
 module _ (x y : ℕ) where
   abbrev u : Value
   u = decode binary32 x

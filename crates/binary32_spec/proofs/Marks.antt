@@ -1,9 +1,8 @@
 -- The mark of a step by its exact value: laws for the code.
 use mathlib.Core.Path.{_≡_, refl, sym, ap, ap₂, _∙_}
-use mathlib.Core.Logic.{_≢_, inl, inr}
-use mathlib.Core.Bool.{Bool, true, false, cond, Bool·beq, _&&_, _||_, true≢false}
-use mathlib.Core.List.{List, [], _∷_}
-use Prim.Native.Nat.{ℕ, _+_, _-_, _*_, _^_, _≤_, _<_}
+use mathlib.Core.Logic.{_≢_, inr}
+use mathlib.Core.Bool.{Bool, true, false, cond, _&&_, _||_, true≢false, and-true}
+use Prim.Native.Nat.{ℕ, _-_, _*_, _^_}
 use native.Mathlib.Decide.{decLe, ℕ-discrete}
 use native.Mathlib.Omega.{arith}
 use borrow.Author.Tests.{eq-eqb, ne-eqb}
@@ -12,19 +11,19 @@ use Rattle.rounding_spec.specs.declared.Ties.the-variants.{ToEven}
 use Rattle.rounding_spec.specs.Format.{binary32, limit}
 use Rattle.rounding_spec.specs.Round.{rounded, leftOver}
 use Rattle.rounding_spec.specs.Nearest.{dist}
-use Rattle.rounding_spec.specs.Theorems.{NoneNaN}
-use Rattle.rounding_spec.specs.Value.{Value, nan, infinite, finite, decode, isFinite, isNaN, encode, nanOf, round, roundFinite}
+use Rattle.rounding_spec.specs.Value.{Value, nan, infinite, finite, decode, isFinite, encode, round, roundFinite}
 use Rattle.rounding_spec.proofs.Codec.{decode-encode}
 use Rattle.rounding_spec.proofs.RoundValue.{round-fits, round-below, round-above}
 use Rattle.pattern_spec.specs.Comparisons.{same}
 use Rattle.pattern_spec.specs.Exact.{negate, plus, times, finer}
 use Rattle.pattern_spec.proofs.Finiteness.{negate-finite, finer-finite, plus-finite, times-finite}
+use Rattle.pattern_spec.proofs.Shown.{chosen-and}
 use Rattle.pattern_spec.proofs.Sums.{like-own}
+use Rattle.pattern_spec.proofs.Truth.{some-false}
 use Rattle.binary32_spec.specs.declared.Outcome.{Outcome}
-use Rattle.binary32_spec.specs.Steps.{addValue, subValue, mulValue, fmaValue, result, addStep, subStep, mulStep, fmaStep}
+use Rattle.binary32_spec.specs.Steps.{result, addStep, subStep, mulStep, fmaStep}
 use Rattle.binary32_spec.specs.Marks.{markBy, addMark, subMark, mulMark, fmaMark}
-use Rattle.binary32_spec.specs.Inner.{outcome, outcomeOf}
-use Rattle.binary32_spec.proofs.Result.{result-plain, result-nan}
+use Rattle.binary32_spec.specs.Inner.{outcome}
 
 -- ---- by the exact value alone
 pub special-mark : (v : Value) (r : ℕ) → isFinite v ≡ false → markBy (isFinite v) v r ≡ 2
@@ -42,22 +41,10 @@ nothing-left a N =
 no-distance : (a N : ℕ) → dist a N ≡ 0 → a ≡ N
 no-distance a N z = omega arith
 
-and-true : (b c : Bool) → c ≡ true → b && c ≡ b
-and-true true c e = e
-and-true false c e = refl
-
-chosen-and : (b c : Bool) → cond b c false ≡ b && c
-chosen-and true c = refl
-chosen-and false c = refl
-
-and-false : (b c : Bool) → c ≡ false → b && c ≡ false
-and-false true c e = e
-and-false false c e = refl
-
 -- numbers of one sign are the same where their magnitudes are
 pub same-sign : (s : Bool) (a b : ℕ) → same (finite s a) (finite s b) ≡ eqb a b
 unfolding same
-same-sign s a b = and-true (eqb a b) (Bool·beq s s || eqb a 0) (ap (λ (c : Bool). c || eqb a 0) (like-own s))
+same-sign s a b = ap (λ (c : Bool). eqb a b && (c || eqb a 0)) (like-own s) ∙ and-true (eqb a b)
 
 module _ (s : Bool) (N : ℕ) where
   abbrev after : Value
@@ -75,13 +62,13 @@ module _ (s : Bool) (N : ℕ) where
       elim (decLe (limit binary32) a) [
         | yes h ↦
             let e = round-above ToEven binary32 s N h in
-            ap (λ (v : Value). same (finer binary32 v) (finite s N)) e ∙ sym (and-false (eqb left 0) (isFinite after) (ap isFinite e))
+            ap (λ (v : Value). same (finer binary32 v) (finite s N)) e ∙ sym (some-false (eqb left 0) (isFinite after) (inr (ap isFinite e)))
         | no h ↦
             let e = round-below ToEven binary32 s N (omega arith) in
             ap (λ (v : Value). same (finer binary32 v) (finite s N)) e
             ∙ same-sign s (a * 2 ^ 149) N
             ∙ nothing-left (a * 2 ^ 149) N
-            ∙ sym (and-true (eqb left 0) (isFinite after) (ap isFinite e))
+            ∙ sym (ap (λ (c : Bool). eqb left 0 && c) (ap isFinite e) ∙ and-true (eqb left 0))
       ]
 
   -- by the rounded value

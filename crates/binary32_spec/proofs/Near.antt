@@ -4,20 +4,19 @@ use mathlib.Core.Path.{_≡_, refl, sym, ap, ap₂, _∙_}
 use mathlib.Core.Logic.{_⊎_, inl, inr}
 use mathlib.Core.Bool.{Bool, true, false, cond}
 use Prim.Native.Nat.{ℕ, _+_, _-_, _*_, _%_, _^_, _≤_, _<_, min}
-use native.Mathlib.Nat.{lt-of-lt-of-le, mod-eq-of-lt, eq-of-mul-eq-mul-right}
+use native.Mathlib.Nat.{eq-of-mul-eq-mul-right}
 use native.Mathlib.Decide.{ℕ-discrete}
 use native.Mathlib.Omega.{arith}
 use borrow.Author.Tests.{eq-eqb, ne-eqb}
 use lib.Dec.{eqb}
-use lib.Pow.{pow-pos, pow-mono, shl-lt}
+use lib.Pow.{pow-pos}
 use Rattle.rounding_spec.specs.declared.Ties.the-variants.{ToEven}
 use Rattle.rounding_spec.specs.Format.{binary32, infinity}
-use Rattle.rounding_spec.specs.Value.{Value, finite, decode, isFinite, signed, encode, bits, roundFinite, round}
+use Rattle.rounding_spec.specs.Value.{Value, finite, decode, signed, encode, bits, roundFinite, round}
 use Rattle.rounding_spec.specs.Inner.{packed}
 use Rattle.rounding_spec.proofs.Multiple.{joined}
 use Rattle.rounding_spec.proofs.Bits.{bits-at}
 use Rattle.pattern_spec.specs.Exact.{plusFinite, plus, finer}
-use Rattle.binary32_spec.specs.declared.Outcome.{Outcome}
 use Rattle.binary32_spec.specs.Inner.{outcome}
 use Rattle.binary32_spec.proofs.Marks.{same-sign, value-mark, same-outcome}
 use Rattle.pattern_spec.specs.Inner.{Operand}

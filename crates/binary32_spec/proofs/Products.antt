@@ -4,8 +4,7 @@ use mathlib.Core.Bool.{Bool, false}
 use mathlib.Core.List.{[], _∷_}
 use Prim.Native.Nat.{ℕ}
 use Rattle.rounding_spec.specs.Format.{binary32}
-use Rattle.rounding_spec.specs.Value.{Value, nan, infinite, finite, decode, isFinite, encode, nanOf, round}
-use Rattle.pattern_spec.specs.Exact.{times}
+use Rattle.rounding_spec.specs.Value.{Value, nan, infinite, finite, isFinite, encode, nanOf, round}
 use Rattle.binary32_spec.specs.declared.Outcome.{Outcome}
 use Rattle.binary32_spec.specs.Steps.{result, mulStep}
 use Rattle.binary32_spec.specs.Marks.{markBy, mulMark}

@@ -15,8 +15,7 @@ use Rattle.rounding_spec.specs.Theorems.{NoneNaN}
 use Rattle.rounding_spec.proofs.NaN.{none-nan}
 use Rattle.pattern_spec.specs.Exact.{negate, plus, times, finer, int}
 use Rattle.binary32_spec.specs.Steps.{addValue, subValue, mulValue, fmaValue, result, addStep, subStep, mulStep, fmaStep}
-use Rattle.binary32_spec.specs.Theorems.{RoundedOnce, AddFinite, SubFinite, MulFinite, FmaFinite, StepNaN, NaNResults, StepQuiet, StepNaNLandmarks, StepInvalid, StepInfinite, AddDecodes}
-use Rattle.binary32_spec.specs.Theorems.{SubDecodes, MulDecodes, FmaDecodes}
+use Rattle.binary32_spec.specs.Theorems.{RoundedOnce, AddFinite, SubFinite, MulFinite, FmaFinite, StepNaN, NaNResults, StepQuiet, StepNaNLandmarks, StepInvalid, StepInfinite}
 use Rattle.binary32_spec.specs.Theorems.{All}
 use Rattle.binary32_spec.specs.Agreement.{AddAgrees, SubAgrees, MulAgrees}
 use Rattle.binary32_spec.proofs.Agreement as agreement
@@ -24,7 +23,7 @@ pub use Rattle.binary32_spec.proofs.Decoded.{add-decodes, sub-decodes, 
 pub use Rattle.binary32_spec.proofs.MarkTheorems.{add-mark-means, sub-mark-means, mul-mark-means, fma-mark-means, zero-and-overflow, mark-landmarks}
 use Rattle.binary32_spec.proofs.Infinities as infinities
 use Rattle.pattern_spec.proofs.Integers as integers
-use Rattle.binary32_spec.proofs.Result.{result-nan, result-quiet, decode-result, add-fits, sub-fits, mul-fits, fma-fits, add-step, sub-step, mul-step, fma-step}
+use Rattle.binary32_spec.proofs.Result.{result-nan, result-quiet, add-fits, sub-fits, mul-fits, fma-fits, add-step, sub-step, mul-step, fma-step}
 
 -- ---- finite operands
 -- a sum in units of u, counted in 2 ^ -298 and rounded

@@ -1,7 +1,7 @@
 -- A sum that is infinite or NaN needs no rounding: it is an operand, or the operands' NaN.
 use mathlib.Core.Path.{_≡_, refl, sym, ap, _∙_}
 use mathlib.Core.Logic.{inl, inr}
-use mathlib.Core.Bool.{Bool, true, false, not, Bool·beq, cond, _&&_, true≢false}
+use mathlib.Core.Bool.{Bool, true, false, cond, _&&_, true≢false}
 use mathlib.Core.List.{[], _∷_}
 use Prim.Native.Nat.{ℕ, _*_, _<_}
 use borrow.Author.Tests.{eq-eqb, eqb-true}

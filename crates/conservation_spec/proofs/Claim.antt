@@ -29,7 +29,7 @@ use Rattle.accumulator_spec.proofs.Answers.{clearing-done}
 use Rattle.accumulator_spec.proofs.Columns.{cleared-is, cleared-fits}
 use Rattle.accumulator_spec.proofs.ReadTotal.{exact-number, exact-minus, read-fit, minus-read, plus-read}
 use Rattle.accumulator_spec.proofs.Signs.{sign-idl}
-use Rattle.conservation_spec.specs.Lists.{mostQuestions, Posed, sheetFor, operationFor, directFor, pairEnters, enters, oneSum, oneProduct}
+use Rattle.conservation_spec.specs.Lists.{Posed, sheetFor, operationFor, directFor, pairEnters, enters, oneSum, oneProduct}
 use Rattle.conservation_spec.specs.Lists.{Totals, Event, asks, reads, adds, afterEvents, book, bookSign, questions, enteringSums, enteringProducts}
 use Rattle.conservation_spec.specs.Claim.{BothHold, Met}
 use Rattle.conservation_spec.specs.Theorems.{Allowed, cleared, Conserved, EntersExactly}

@@ -7,6 +7,7 @@ use Prim.Native.Nat.{ℕ, _+_, _*_, _^_, _<_}
 use native.Mathlib.Omega.{arith}
 use lib.IntN.{ℤ, _+ℤ_, +ℤ-idr}
 use lib.ListN.{length}
+use Rattle.pattern_spec.proofs.Finiteness.{number-of}
 use Rattle.pattern_spec.proofs.Truth.{both-of}
 use Rattle.pattern_spec.specs.Answer.{Answer, refused, done, isDone}
 use Rattle.rounding_spec.specs.Format.{binary32}
@@ -25,7 +26,7 @@ use Rattle.accumulator_spec.proofs.Landmarks.{pattern-term}
 use Rattle.conservation_spec.specs.Lists.{Posed, sheetFor, operationFor, directFor, pairEnters, enters, footTerms, setTerms}
 use Rattle.conservation_spec.specs.Lists.{exactOfPatterns, signOfPatterns, oneSum, oneProduct}
 use Rattle.conservation_spec.specs.Theorems.{EntersFinite}
-use Rattle.conservation_spec.proofs.Operands.{number-of, operands, result-is, terms-sum, terms-finite}
+use Rattle.conservation_spec.proofs.Operands.{operands, result-is, terms-sum, terms-finite}
 use Rattle.conservation_spec.proofs.Signs.{set-sign, foot-sign}
 
 pub not-true : (b : Bool) → not b ≡ true → b ≡ false
@@ -53,23 +54,23 @@ module _ (x y : ℕ) (width : y < 2 ^ 32) where
   by-sum : (o : Operation) → o ≢ product → isFinite (decode binary32 (directPair o binary32 x y .first)) ≡ true → Halves o x y (directPair o binary32 x y)
   by-sum o n e =
       let m = operands o x y width e in
-      let h = every-finite o x y (m .0 .sign) (m .0 .magnitude) (m .1 .sign) (m .1 .magnitude) width (m .0 .is) (m .1 .is) in
+      let h = every-finite o x y (m .0 .0) (m .0 .1) (m .1 .0) (m .1 .1) width (m .0 .2) (m .1 .2) in
       let f = number-of (decode binary32 (directPair o binary32 x y .first)) e in
-      let g = sum-adds-up o binary32 _ _ _ n h (f .sign) (f .magnitude) (f .is) in
-      two-halves o x y (directPair o binary32 x y) _ (f .sign) (f .magnitude) (g .0) (g .1) (f .is) (g .2) (g .3)
-      (result-is x y (m .0 .sign) (m .0 .magnitude) (m .1 .sign) (m .1 .magnitude) width (m .0 .is) (m .1 .is) o)
-      (foot-sign o x y (m .0 .sign) (m .0 .magnitude) (m .1 .sign) (m .1 .magnitude) (m .0 .is) (m .1 .is) _ h (f .sign) (f .magnitude) (g .0) (g .1) (f .is) (g .2) (g .3))
+      let g = sum-adds-up o binary32 _ _ _ n h (f .0) (f .1) (f .2) in
+      two-halves o x y (directPair o binary32 x y) _ (f .0) (f .1) (g .0) (g .1) (f .2) (g .2) (g .3)
+      (result-is x y (m .0 .0) (m .0 .1) (m .1 .0) (m .1 .1) width (m .0 .2) (m .1 .2) o)
+      (foot-sign o x y (m .0 .0) (m .0 .1) (m .1 .0) (m .1 .1) (m .0 .2) (m .1 .2) _ h (f .0) (f .1) (g .0) (g .1) (f .2) (g .2) (g .3))
 
   by-product : isFinite (decode binary32 (directPair product binary32 x y .first)) ≡ true → directPair product binary32 x y .flags .inexact ≡ false
       → Halves product x y (directPair product binary32 x y)
   by-product e i =
       let m = operands product x y width e in
-      let h = every-finite product x y (m .0 .sign) (m .0 .magnitude) (m .1 .sign) (m .1 .magnitude) width (m .0 .is) (m .1 .is) in
+      let h = every-finite product x y (m .0 .0) (m .0 .1) (m .1 .0) (m .1 .1) width (m .0 .2) (m .1 .2) in
       let f = number-of (decode binary32 (directPair product binary32 x y .first)) e in
-      let g = product-adds-up binary32 _ _ _ h (f .sign) (f .magnitude) (f .is) in
-      two-halves product x y (directPair product binary32 x y) _ (f .sign) (f .magnitude) (g .0) (g .1) (f .is) (g .2) (g .4 i)
-      (result-is x y (m .0 .sign) (m .0 .magnitude) (m .1 .sign) (m .1 .magnitude) width (m .0 .is) (m .1 .is) product)
-      (foot-sign product x y (m .0 .sign) (m .0 .magnitude) (m .1 .sign) (m .1 .magnitude) (m .0 .is) (m .1 .is) _ h (f .sign) (f .magnitude) (g .0) (g .1) (f .is) (g .2) (g .4 i))
+      let g = product-adds-up binary32 _ _ _ h (f .0) (f .1) (f .2) in
+      two-halves product x y (directPair product binary32 x y) _ (f .0) (f .1) (g .0) (g .1) (f .2) (g .2) (g .4 i)
+      (result-is x y (m .0 .0) (m .0 .1) (m .1 .0) (m .1 .1) width (m .0 .2) (m .1 .2) product)
+      (foot-sign product x y (m .0 .0) (m .0 .1) (m .1 .0) (m .1 .1) (m .0 .2) (m .1 .2) _ h (f .0) (f .1) (g .0) (g .1) (f .2) (g .2) (g .4 i))
 
   halves : (o : Operation) → isFinite (decode binary32 (directPair o binary32 x y .first)) ≡ true → directPair o binary32 x y .flags .inexact ≡ false → Halves o x y (directPair o binary32 x y)
   halves sum e i = by-sum sum (λ (q : sum ≡ product). apart q) e
@@ -115,7 +116,7 @@ enters-finite q width e =
     let f = both-of (bothFinite (directFor q .first) (directFor q .second)) (not (directFor q .flags .inexact)) (p .1) in
     let g = both-of (isFinite (decode binary32 (directFor q .first))) (isFinite (decode binary32 (directFor q .second))) (f .0) in
     let m = operands (operationFor q) (q .x) (q .y) width (g .0) in
-    ap₂ _&&_ (ap isFinite (m .0 .is)) (ap isFinite (m .1 .is))
+    ap₂ _&&_ (ap isFinite (m .0 .2)) (ap isFinite (m .1 .2))
 
 pub entering : (q : Posed) → q .y < 2 ^ 32 → enters q ≡ true → Entering q
 unfolding enters
@@ -128,14 +129,14 @@ entering q width e =
     let h = halves (q .x) (q .y) width (operationFor q) (g .0) i in
     let is : footTerms (sheetFor q) ≡ ofPattern (directFor q .first) ∷ ofPattern (directFor q .second) ∷ [] =
     foot-is (sheetFor q) (directFor q) (p .0) (λ n r k. subst (HasDirectPair (q .operation) (q .x) (q .y)) k (filled-pair (q .operation) (q .x) (q .y) (q .words))) in
-    let s = m .0 .sign in let a = m .0 .magnitude in let t = m .1 .sign in let b = m .1 .magnitude in
+    let s = m .0 .0 in let a = m .0 .1 in let t = m .1 .0 in let b = m .1 .1 in
     record {
       footFinite = subst AllFinite (sym is) (h .finite);
       footAdds = ap columnSum is ∙ h .adds;
       footSign = ap columnSign is ∙ h .sign;
       footCount = ap length is ∙ foot-count (operationFor q);
-      setFinite = terms-finite (q .x) (q .y) s a t b width (m .0 .is) (m .1 .is) (operationFor q);
-      setAdds = terms-sum (q .x) (q .y) s a t b width (m .0 .is) (m .1 .is) (operationFor q) ∙ sym (result-is (q .x) (q .y) s a t b width (m .0 .is) (m .1 .is) (operationFor q));
-      setSign = set-sign (q .x) (q .y) s a t b (m .0 .is) (m .1 .is) width (operationFor q);
+      setFinite = terms-finite (q .x) (q .y) s a t b width (m .0 .2) (m .1 .2) (operationFor q);
+      setAdds = terms-sum (q .x) (q .y) s a t b width (m .0 .2) (m .1 .2) (operationFor q) ∙ sym (result-is (q .x) (q .y) s a t b width (m .0 .2) (m .1 .2) (operationFor q));
+      setSign = set-sign (q .x) (q .y) s a t b (m .0 .2) (m .1 .2) width (operationFor q);
       setCount = set-count (operationFor q) (q .x) (q .y);
     }

@@ -1,23 +1,23 @@
 -- A finite pair has finite operands, and the exact result of an operation is the sum of the terms that are set.
 use mathlib.Core.Path.{_≡_, refl, sym, ap, ap₂, _∙_}
-use mathlib.Core.Bool.{true≢false, Bool, true, false, not, cond, _&&_}
+use mathlib.Core.Bool.{true≢false, Bool, true, false, not, _&&_}
 use mathlib.Core.List.{[], _∷_}
 use Prim.Native.Nat.{ℕ, _*_, _^_, _<_}
 use native.Mathlib.Omega.{arith}
-use lib.Dec.{eqb, lit<}
-use lib.Ieee.{unlike}
+use lib.Dec.{lit<}
 use lib.IntN.{ℤ, pos, _+ℤ_, _*ℤ_, +ℤ-idr}
 use Rattle.pattern_spec.proofs.Truth.{both-of}
 use Rattle.rounding_spec.specs.Format.{binary32}
 use Rattle.rounding_spec.specs.Value.{Value, nan, infinite, finite, decode, isFinite, round, RN0}
-use Rattle.pattern_spec.specs.Exact.{int, whole, negate, times}
+use Rattle.pattern_spec.specs.Exact.{int, whole, negate}
 use Rattle.pattern_spec.specs.Classes.{flip}
+use Rattle.pattern_spec.proofs.Finiteness.{number-of, negate-finite, times-finite}
 use Rattle.pattern_spec.proofs.Integers.{plus-exact, int-not, int-scale}
 use Rattle.pattern_spec.proofs.Sums.{sum-scale}
 use Rattle.pattern_spec.proofs.Theorems.{flip-negates}
 use Rattle.augmented_spec.specs.Pairs.{pairOf}
 use Rattle.augmented_spec.specs.Direct.{Operation, sum, difference, product, directPair, exactResult}
-use Rattle.augmented_spec.specs.Theorems.{secondOperand}
+use Rattle.augmented_spec.specs.Theorems.{secondOperand, FinitePattern}
 use Rattle.augmented_spec.proofs.Read.{exactFor, first, first-read}
 use Rattle.augmented_spec.proofs.Unrounded.{infinite-sum}
 use Rattle.accumulator_spec.specs.Totals.{ofPattern, ofProduct, exactTerm}
@@ -32,24 +32,10 @@ rounded-finite nan e = e
 rounded-finite (infinite s) e = e
 rounded-finite (finite s a) e = refl
 
-nan-or-infinite : (c r : Bool) → isFinite (cond c nan (infinite r)) ≡ false
-nan-or-infinite true r = refl
-nan-or-infinite false r = refl
-
-special-product : (v w : Value) → isFinite v && isFinite w ≡ false → isFinite (times v w) ≡ false
-unfolding times
-special-product nan w h = refl
-special-product (infinite s) nan h = refl
-special-product (infinite s) (infinite t) h = refl
-special-product (infinite s) (finite t b) h = nan-or-infinite (eqb b 0) (unlike s t)
-special-product (finite s a) nan h = refl
-special-product (finite s a) (infinite t) h = nan-or-infinite (eqb a 0) (unlike s t)
-special-product (finite s a) (finite t b) h = absurd (true≢false h)
-
 special-result : (o : Operation) (x y : ℕ) → isFinite (decode binary32 x) && isFinite (decode binary32 (secondOperand o binary32 y)) ≡ false → isFinite (exactFor o binary32 x y) ≡ false
 special-result sum x y h = infinite-sum (decode binary32 x) (decode binary32 y) h
 special-result difference x y h = infinite-sum (decode binary32 x) (decode binary32 (flip binary32 y)) h
-special-result product x y h = special-product (decode binary32 x) (decode binary32 y) h
+special-result product x y h = times-finite (decode binary32 x) (decode binary32 y) ∙ h
 
 operands-finite : (o : Operation) (x y : ℕ) → isFinite (decode binary32 (directPair o binary32 x y .first)) ≡ true
     → isFinite (decode binary32 x) && isFinite (decode binary32 (secondOperand o binary32 y)) ≡ true
@@ -63,30 +49,13 @@ operands-finite o x y e = go (isFinite (decode binary32 x) && isFinite (decode b
     go true h = refl
     go false h = absurd (true≢false (sym exact-finite ∙ h refl))
 
--- a finite value by its sign and magnitude
-pub record Number (v : Value) : Type 0 where
-  pub sign : Bool
-  pub magnitude : ℕ
-  pub is : v ≡ finite sign magnitude
-
-pub number-of : (v : Value) → isFinite v ≡ true → Number v
-number-of nan e = absurd (true≢false (sym e))
-number-of (infinite s) e = absurd (true≢false (sym e))
-number-of (finite s a) e = record { sign = s; magnitude = a; is = refl }
-
-negated : (v : Value) → isFinite (negate v) ≡ true → isFinite v ≡ true
-unfolding negate
-negated nan e = e
-negated (infinite s) e = e
-negated (finite s a) e = refl
-
 taken-back : (o : Operation) (y : ℕ) → y < 2 ^ 32 → isFinite (decode binary32 (secondOperand o binary32 y)) ≡ true → isFinite (decode binary32 y) ≡ true
 taken-back sum y w e = e
-taken-back difference y w e = negated (decode binary32 y) (sym (ap isFinite (flip-negates binary32 y w)) ∙ e)
+taken-back difference y w e = sym (ap isFinite (flip-negates binary32 y w) ∙ negate-finite (decode binary32 y)) ∙ e
 taken-back product y w e = e
 
 -- the operands of a pair whose first is finite
-pub operands : (o : Operation) (x y : ℕ) → y < 2 ^ 32 → isFinite (decode binary32 (directPair o binary32 x y .first)) ≡ true → Number (decode binary32 x) × Number (decode binary32 y)
+pub operands : (o : Operation) (x y : ℕ) → y < 2 ^ 32 → isFinite (decode binary32 (directPair o binary32 x y .first)) ≡ true → FinitePattern binary32 x × FinitePattern binary32 y
 operands o x y w e =
     let p = both-of (isFinite (decode binary32 x)) (isFinite (decode binary32 (secondOperand o binary32 y))) (operands-finite o x y e) in
     (number-of (decode binary32 x) (p .0), number-of (decode binary32 y) (taken-back o y w (p .1)))

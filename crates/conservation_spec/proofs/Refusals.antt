@@ -1,5 +1,5 @@
 -- The refusals of `replay`, as they are stated, and that they change nothing.
-use mathlib.Core.Path.{_≡_, refl, sym, ap, _∙_}
+use mathlib.Core.Path.{_≡_, refl, sym}
 use mathlib.Core.Logic.{_⊎_, _≢_, inl, inr}
 use mathlib.Core.Bool.{Bool, true, false, _&&_}
 use mathlib.Core.List.{List, [], _∷_}
@@ -9,6 +9,7 @@ use borrow.Author.Tests.{eq-eqb, ne-eqb, le-leb}
 use lib.Dec.{eqb}
 use lib.ListN.{length, getD}
 use Rattle.pattern_spec.specs.Answer.{refused, done}
+use Rattle.pattern_spec.proofs.Truth.{refute}
 use Rattle.accumulator_spec.specs.Totals.{zeros, isCleared}
 use Rattle.accumulator_spec.proofs.Zeros.{cleared-zeros}
 use Rattle.conservation_spec.specs.Lists.{mostQuestions}
@@ -17,12 +18,8 @@ use Rattle.conservation_spec.specs.Theorems.{ReplayBy, ReplayRefused, Re
 use Rattle.conservation_spec.proofs.Misfits.{within-at, unequal, too-many, first-not-cleared, other-not-cleared, past-words, nothing-wrong}
 
 -- ---- the conditions as truth values
-by-cases : (b : Bool) → (b ≡ true → ⊥) → b ≡ false
-by-cases true n = absurd (n refl)
-by-cases false n = refl
-
 not-cleared : (t : List ℕ) → t ≢ zeros → isCleared t ≡ false
-not-cleared t n = by-cases (isCleared t) (λ (e : isCleared t ≡ true). n (cleared-zeros t .0 e))
+not-cleared t n = refute (isCleared t) (λ (e : isCleared t ≡ true). n (cleared-zeros t .0 e))
 
 all-within : (ns : List ℕ) (most : ℕ) → ((i : ℕ) → getD ns i 0 ≤ most) → allWithin ns most ≡ true
 unfolding allWithin
@@ -35,7 +32,7 @@ inside-or-zero (n ∷ ns) zero h = omega arith
 inside-or-zero (n ∷ ns) (suc i) h = let k = inside-or-zero ns i h in omega arith
 
 not-within : (ns : List ℕ) (most i : ℕ) → most < getD ns i 0 → allWithin ns most ≡ false
-not-within ns most i h = by-cases (allWithin ns most) (λ (e : allWithin ns most ≡ true). let k = within-at ns most i e (inside-or-zero ns i (omega arith)) in omega arith)
+not-within ns most i h = refute (allWithin ns most) (λ (e : allWithin ns most ≡ true). let k = within-at ns most i e (inside-or-zero ns i (omega arith)) in omega arith)
 
 module _ (q : Asking) (l : Lent) where
   abbrev n : ℕ

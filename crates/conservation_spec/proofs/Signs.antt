@@ -9,7 +9,7 @@ use borrow.Author.Tests.{ne-eqb, eqb-true}
 use lib.Dec.{eqb}
 use lib.Ieee.{unlike}
 use lib.IntN.{ℤ, pos, _+ℤ_, _*ℤ_, negℤ-+ℤ}
-use Rattle.pattern_spec.proofs.Truth.{both-of}
+use Rattle.pattern_spec.proofs.Truth.{both-of, alike}
 use Rattle.rounding_spec.specs.declared.Ties.the-variants.{ToZero}
 use Rattle.rounding_spec.specs.Format.{binary32, limit}
 use Rattle.rounding_spec.specs.Value.{Value, nan, infinite, finite, decode, roundFinite}
@@ -40,11 +40,6 @@ both-words false false = refl
 one-word : (p : Bool) → signOfBoth (word p) 0 ≡ word p
 one-word true = refl
 one-word false = refl
-
-alike : (p q : Bool) → (p ≡ true → q ≡ true) → (q ≡ true → p ≡ true) → p ≡ q
-alike true q f g = sym (f refl)
-alike false true f g = g refl
-alike false false f g = refl
 
 -- ---- of a pattern as a term
 pattern-sign : (x : ℕ) (s : Bool) (a : ℕ) → decode binary32 x ≡ finite s a → termSign (ofPattern x) ≡ word (s && eqb a 0)

@@ -1,5 +1,6 @@
 -- The theorems of `specs/Theorems.antt`.
 use mathlib.Core.Path.{_≡_, refl, sym, ap, ap₂, _∙_, subst}
+use mathlib.Core.Logic.{inr}
 use mathlib.Core.Bool.{Bool, true, false, cond, _&&_}
 use Prim.Native.Nat.{ℕ, suc, _+_, _-_, _*_, _^_, _≤_, _<_}
 use native.Mathlib.Nat.{zero-add}
@@ -26,7 +27,7 @@ use Rattle.augmented_spec.specs.Pairs.{rest, addsUp}
 use Rattle.pattern_spec.specs.Comparisons.{same, lessMagnitude}
 use Rattle.errorfree_spec.specs.Constants.{psiValue}
 use Rattle.errorfree_spec.specs.Theorems.{SumError, ProductError, Fast2Sum, FusedRest, PsiPredecessor, Recomposition, Binary32Roomy, All}
-use Rattle.errorfree_spec.proofs.NoNumber.{not-both, none-zero, number-of, both-of, sum-none, finer-none, negate-none, add-none}
+use Rattle.errorfree_spec.proofs.NoNumber.{not-both, none-zero, number-of, some-false, both-of, sum-none, finer-none, negate-none, add-none}
 use Rattle.errorfree_spec.proofs.Signed.{Is, rel-dist}
 use Rattle.errorfree_spec.proofs.Steps.{toEven, toZero, even-at, fine-of, mul-finite, mul-positive}
 use Rattle.errorfree_spec.proofs.ProductSplit.{whole, whole-error, product-split}
@@ -118,12 +119,8 @@ addend-finite F v w b e = by (isFinite b) refl
     by false f =
         let u = plus v (negate (finer F w)) in
         let n = negate (finer F b) in
-        let z = none-zero (plus u n) (sum-none u n (never (isFinite u) (isFinite n) (negate-none (finer F b) (finer-none F b f)))) in
+        let z = none-zero (plus u n) (sum-none u n (some-false (isFinite u) (isFinite n) (inr (negate-none (finer F b) (finer-none F b f))))) in
         not-both (sym e ∙ z)
-      where
-        never : (i j : Bool) → j ≡ false → i && j ≡ false
-        never true j h = h
-        never false j h = refl
 
 pub recomposition : Recomposition
 unfolding Fits round

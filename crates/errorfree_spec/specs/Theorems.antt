@@ -1,15 +1,14 @@
 -- What is proved of error-free transformations. `All`, at the end, lists the statements, and `proofs/Theorems.antt`
 -- has their proofs. They speak of any format, two of them of any `Roomy` one (Constants), as binary32 is.
 use mathlib.Core.Path.{_≡_}
-use mathlib.Core.Bool.{Bool, true, false, Bool·beq, cond}
+use mathlib.Core.Bool.{Bool, true, false, cond}
 use Prim.Native.Nat.{ℕ, suc, _+_, _*_, _^_, _≤_, _<_}
-use lib.Dec.{ltb}
 use Rattle.rounding_spec.specs.declared.Ties.{Ties}
 use Rattle.rounding_spec.specs.Format.{Format, binary32, low}
 use Rattle.rounding_spec.specs.Round.{leftOver}
 use Rattle.rounding_spec.specs.Nearest.{dist, Rep}
-use Rattle.rounding_spec.specs.Value.{Value, nan, infinite, finite, Fits, isFinite, RNe, RN0}
-use Rattle.pattern_spec.specs.Exact.{negate, plus, times, finer, int}
+use Rattle.rounding_spec.specs.Value.{Value, finite, Fits, isFinite, RNe, RN0}
+use Rattle.pattern_spec.specs.Exact.{negate, plus, times, finer}
 use Rattle.binary32_spec.specs.Steps.{addValue, subValue, mulValue, fmaValue}
 use Rattle.augmented_spec.specs.Pairs.{addsUp}
 use Rattle.pattern_spec.specs.Comparisons.{same, lessMagnitude}

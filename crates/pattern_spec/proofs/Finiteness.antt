@@ -6,7 +6,7 @@ use lib.Dec.{eqb}
 use lib.Ieee.{unlike}
 use Rattle.rounding_spec.specs.Format.{Format}
 use Rattle.rounding_spec.specs.Value.{Value, nan, infinite, finite, isFinite}
-use Rattle.pattern_spec.specs.Exact.{negate, plusFinite, plus, times, finer}
+use Rattle.pattern_spec.specs.Exact.{negate, plus, times, finer}
 use Rattle.pattern_spec.proofs.Sums.{sum-finite}
 
 -- a finite value has a sign and a magnitude

@@ -96,7 +96,3 @@ chosen-or false b = refl
 pub chosen-and : (a b : Bool) → cond a b false ≡ a && b
 chosen-and true b = refl
 chosen-and false b = refl
-
-pub never : (a : Bool) → a || false ≡ a
-never true = refl
-never false = refl

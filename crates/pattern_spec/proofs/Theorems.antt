@@ -1,6 +1,6 @@
 -- The theorems of `specs/Theorems.antt`.
 use mathlib.Core.Path.{refl}
-use Rattle.pattern_spec.specs.Theorems.{ClassDecodes, ClassBounded, LargerFirst, FlipBits, FlipNegates, PlusExact, TimesExact, SameMeans, LessMeans, AnswerNumbers, All}
+use Rattle.pattern_spec.specs.Theorems.{ClassDecodes, ClassBounded, LargerFirst, FlipBits, FlipNegates, PlusExact, TimesExact, AnswerNumbers, All}
 use Rattle.pattern_spec.proofs.Classified as classified
 use Rattle.pattern_spec.proofs.Ordered as ordered
 use Rattle.pattern_spec.proofs.Integers as integers

@@ -7,16 +7,17 @@ use mathlib.Core.List.{List, [], _∷_}
 use native.Mathlib.Omega.{arith}
 use lib.ListN.{length, getD, take, drop, length-drop}
 use lib.Seq.{getD-take, getD-drop, length-take-le}
+use Rattle.pattern_spec.proofs.Truth.{both-of}
 use Rattle.question_spec.specs.Questions.{isDigit, allDigits, firstPattern, secondPattern}
 use Rattle.question_spec.specs.Theorems.{InPattern, Hexadecimal}
-use Rattle.question_spec.proofs.OneDigit.{and-true, digit-range, in-range}
+use Rattle.question_spec.proofs.OneDigit.{digit-range, in-range}
 
 -- all bytes of a list are digits, and each one is
 each-digit : (l : List ℕ) → allDigits l ≡ true → (i : ℕ) → i < length l → Hexadecimal (getD l i 0)
 unfolding allDigits
 each-digit [] is i h = absurd (omega arith)
-each-digit (c ∷ cs) is zero h = digit-range c (and-true (isDigit c) (allDigits cs) is .0)
-each-digit (c ∷ cs) is (suc i) h = each-digit cs (and-true (isDigit c) (allDigits cs) is .1) i (omega arith)
+each-digit (c ∷ cs) is zero h = digit-range c (both-of (isDigit c) (allDigits cs) is .0)
+each-digit (c ∷ cs) is (suc i) h = each-digit cs (both-of (isDigit c) (allDigits cs) is .1) i (omega arith)
 
 every-digit : (l : List ℕ) → ((i : ℕ) → i < length l → Hexadecimal (getD l i 0)) → allDigits l ≡ true
 unfolding allDigits
@@ -47,7 +48,7 @@ module _ (line : List ℕ) (full : length line ≡ 21) where
   -- digits in both patterns, place by place
   pub digits-at : (allDigits (firstPattern line) && allDigits (secondPattern line)) ≡ true → (i : ℕ) → InPattern i → Hexadecimal (getD line i 0)
   digits-at is i =
-      let both = and-true (allDigits (firstPattern line)) (allDigits (secondPattern line)) is in
+      let both = both-of (allDigits (firstPattern line)) (allDigits (secondPattern line)) is in
       ⊎-elim (λ w. each-of-eight line 4 (omega arith) (both .0) i (w .0) (omega (arith, w .1))) (λ w. each-of-eight line 13 (omega arith) (both .1) i (w .0) (omega (arith, w .1)))
 
   pub digits-everywhere : ((i : ℕ) → InPattern i → Hexadecimal (getD line i 0)) → (allDigits (firstPattern line) && allDigits (secondPattern line)) ≡ true

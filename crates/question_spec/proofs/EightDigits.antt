@@ -6,8 +6,9 @@ use mathlib.Core.List.{List, [], _∷_}
 use native.Mathlib.Omega.{arith}
 use lib.ListN.{length, getD, drop-of-length-le}
 use lib.Seq.{drop-cons}
+use Rattle.pattern_spec.proofs.Truth.{both-of}
 use Rattle.question_spec.specs.Questions.{isDigit, digitValue, allDigits, patternFrom, patternText}
-use Rattle.question_spec.proofs.OneDigit.{and-true, digit-low, byte-back, value-back, digit-is}
+use Rattle.question_spec.proofs.OneDigit.{digit-low, byte-back, value-back, digit-is}
 
 -- the number of eight digits
 abbrev joined : ℕ → ℕ → ℕ → ℕ → ℕ → ℕ → ℕ → ℕ → ℕ
@@ -24,14 +25,14 @@ module _ (a b c d e f g h : ℕ) where
       × (isDigit e ≡ true) × (isDigit f ≡ true) × (isDigit g ≡ true) × (isDigit h ≡ true)
   unfolding allDigits
   all-eight is =
-      let pa = and-true (isDigit a) (allDigits (b ∷ c ∷ d ∷ e ∷ f ∷ g ∷ h ∷ [])) is in
-      let pb = and-true (isDigit b) (allDigits (c ∷ d ∷ e ∷ f ∷ g ∷ h ∷ [])) (pa .1) in
-      let pc = and-true (isDigit c) (allDigits (d ∷ e ∷ f ∷ g ∷ h ∷ [])) (pb .1) in
-      let pd = and-true (isDigit d) (allDigits (e ∷ f ∷ g ∷ h ∷ [])) (pc .1) in
-      let pe = and-true (isDigit e) (allDigits (f ∷ g ∷ h ∷ [])) (pd .1) in
-      let pf = and-true (isDigit f) (allDigits (g ∷ h ∷ [])) (pe .1) in
-      let pg = and-true (isDigit g) (allDigits (h ∷ [])) (pf .1) in
-      let ph = and-true (isDigit h) (allDigits []) (pg .1) in
+      let pa = both-of (isDigit a) (allDigits (b ∷ c ∷ d ∷ e ∷ f ∷ g ∷ h ∷ [])) is in
+      let pb = both-of (isDigit b) (allDigits (c ∷ d ∷ e ∷ f ∷ g ∷ h ∷ [])) (pa .1) in
+      let pc = both-of (isDigit c) (allDigits (d ∷ e ∷ f ∷ g ∷ h ∷ [])) (pb .1) in
+      let pd = both-of (isDigit d) (allDigits (e ∷ f ∷ g ∷ h ∷ [])) (pc .1) in
+      let pe = both-of (isDigit e) (allDigits (f ∷ g ∷ h ∷ [])) (pd .1) in
+      let pf = both-of (isDigit f) (allDigits (g ∷ h ∷ [])) (pe .1) in
+      let pg = both-of (isDigit g) (allDigits (h ∷ [])) (pf .1) in
+      let ph = both-of (isDigit h) (allDigits []) (pg .1) in
       (pa .0, pb .0, pc .0, pd .0, pe .0, pf .0, pg .0, ph .0)
 
   eight-back : (n : ℕ) → n ≡ patternFrom 0 (a ∷ b ∷ c ∷ d ∷ e ∷ f ∷ g ∷ h ∷ []) → allDigits (a ∷ b ∷ c ∷ d ∷ e ∷ f ∷ g ∷ h ∷ []) ≡ true

@@ -7,17 +7,14 @@ use mathlib.Core.Bool.{Bool, true, false, _&&_, _||_}
 use native.Mathlib.Omega.{arith}
 use borrow.Author.Tests.{leb-true, le-leb, lt-leb, ltb-true, ltb-false, lt-ltb, le-ltb}
 use lib.Dec.{leb, ltb}
+use Rattle.pattern_spec.proofs.Truth.{both-of}
 use Rattle.question_spec.specs.Questions.{isDigit, digitValue, digit}
 use Rattle.question_spec.specs.Theorems.{Hexadecimal}
 
-pub and-true : (a b : Bool) → (a && b) ≡ true → (a ≡ true) × (b ≡ true)
-and-true true b is = (refl, is)
-and-true false b is = let z : _≡_ {A = ℕ} 0 1 = cc in absurd (omega arith)
-
 or-and : (a b d e : Bool) → ((a && b) || (d && e)) ≡ true → ((a ≡ true) × (b ≡ true)) ⊎ ((d ≡ true) × (e ≡ true))
 or-and true true d e is = inl (refl, refl)
-or-and true false d e is = inr (and-true d e is)
-or-and false b d e is = inr (and-true d e is)
+or-and true false d e is = inr (both-of d e is)
+or-and false b d e is = inr (both-of d e is)
 
 -- 0-9 or A-F
 pub digit-range : (c : ℕ) → isDigit c ≡ true → Hexadecimal c

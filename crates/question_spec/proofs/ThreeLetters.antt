@@ -9,9 +9,9 @@ use borrow.Author.Tests.{eqb-true}
 use lib.Dec.{eqb, lit<}
 use lib.ListN.{length, getD, take, drop-of-length-le}
 use lib.Seq.{drop-cons, getD-take, length-take-le}
+use Rattle.pattern_spec.proofs.Truth.{both-of}
 use Rattle.augmented_spec.specs.Direct.{Operation, sum, difference, product, isOperation, operationNumber}
 use Rattle.question_spec.specs.Questions.{operationLetters, operationLettersByNumber, starts, lettersOperation}
-use Rattle.question_spec.proofs.OneDigit.{and-true}
 
 as-three : (l : List ℕ) → length l ≡ 3 → getD l 0 0 ∷ getD l 1 0 ∷ getD l 2 0 ∷ [] ≡ l
 as-three l e =
@@ -43,8 +43,8 @@ module _ (line : List ℕ) where
 
   started : 3 ≤ length line → (three : List ℕ) → length three ≡ 3 → starts line three ≡ true → take 3 line ≡ three
   started long three full is =
-      let p = and-true (eqb (getD line 0 0) (getD three 0 0)) (eqb (getD line 1 0) (getD three 1 0) && eqb (getD line 2 0) (getD three 2 0)) is in
-      let q = and-true (eqb (getD line 1 0) (getD three 1 0)) (eqb (getD line 2 0) (getD three 2 0)) (p .1) in
+      let p = both-of (eqb (getD line 0 0) (getD three 0 0)) (eqb (getD line 1 0) (getD three 1 0) && eqb (getD line 2 0) (getD three 2 0)) is in
+      let q = both-of (eqb (getD line 1 0) (getD three 1 0)) (eqb (getD line 2 0) (getD three 2 0)) (p .1) in
       cc (
         as-three (take 3 line) (length-take-le 3 line long),
         as-three three full,

@@ -11,6 +11,7 @@ use lib.Dec.{eqb, leb}
 use lib.ListN.{length, getD, take, drop, take-append-drop, length-drop}
 use lib.Seq.{drop-cons, drop-drop, take-all, length-take-le}
 use Rattle.pattern_spec.specs.Answer.{refused}
+use Rattle.pattern_spec.proofs.Truth.{both-of}
 use Rattle.augmented_spec.specs.Direct.{sum, difference, product, isOperation, operationNumber}
 use Rattle.question_spec.specs.Ascii.{tab}
 use Rattle.question_spec.specs.Questions.{
@@ -27,7 +28,6 @@ use Rattle.question_spec.specs.Questions.{
   patternText,
   questionText,
 }
-use Rattle.question_spec.proofs.OneDigit.{and-true}
 use Rattle.question_spec.proofs.EightDigits.{text-back, text-digits, text-value}
 use Rattle.question_spec.proofs.ThreeLetters.{known}
 
@@ -76,7 +76,7 @@ module _ (line : List ℕ) (o x y : ℕ) where
       (allDigits (firstPattern line) && allDigits (secondPattern line)) (lettersOperation line) (patternFrom 0 (firstPattern line)) (patternFrom 0 (secondPattern line)) o x y e in
       let full = eqb-true (length line) questionSize (p .0) in
       let tabs = both (eqb (getD line 3 0) tab) (eqb (getD line 12 0) tab) (p .2) in
-      let digits = and-true (allDigits (firstPattern line)) (allDigits (secondPattern line)) (p .3) in
+      let digits = both-of (allDigits (firstPattern line)) (allDigits (secondPattern line)) (p .3) in
       let word = known line (omega arith) o (p .4) (λ z. eqb-false (lettersOperation line) 0 (p .1) (p .4 ∙ z)) in
       let first = text-back (firstPattern line) x (eight 4 full (omega arith)) (digits .0) (p .5) in
       let second = text-back (secondPattern line) y (eight 13 full (omega arith)) (digits .1) (p .6) in (
@@ -90,7 +90,7 @@ module _ (line : List ℕ) (o x y : ℕ) where
 -- the number of an operation is one of the three
 one-of : (o : ℕ) → isOperation o ≡ true → (o ≡ operationNumber sum) ⊎ ((o ≡ operationNumber difference) ⊎ (o ≡ operationNumber product))
 one-of o known =
-    let low = and-true (leb (operationNumber sum) o) (leb o (operationNumber product)) known in
+    let low = both-of (leb (operationNumber sum) o) (leb o (operationNumber product)) known in
     let h = leb-true (operationNumber sum) o (low .0) in
     let k = leb-true o (operationNumber product) (low .1) in
     elim (decLe o (operationNumber sum)) [

@@ -1,20 +1,16 @@
 -- Whether a run goes on with the room that it has, and whether another byte is taken.
 use mathlib.Core.Path.{_≡_, refl, sym, _∙_}
 use mathlib.Core.Logic.{_⊎_, inl, inr}
-use mathlib.Core.Bool.{Bool, true, false, _&&_}
+use mathlib.Core.Bool.{Bool, true, false}
 use Prim.Native.Nat.{ℕ, _≤_, _<_}
 use native.Mathlib.Omega.{arith}
 use borrow.Author.Tests.{le-leb, lt-leb, lt-ltb, le-ltb, ltb-false, leb-true, leb-false, ltb-true}
 use lib.Dec.{leb, ltb}
-use Rattle.pattern_spec.proofs.Truth.{both-of}
+use Rattle.pattern_spec.proofs.Truth.{one-of, both-of}
 use Rattle.transcript_spec.specs.Texts.{lineRoom}
 use Rattle.sheet_spec.specs.Positions.{goesOn}
 use Rattle.sheet_spec.specs.declared.Position.{Position}
 use Rattle.sheet_line.specs.Inner.{readyFor, takesMore}
-
-and-false : (a b : Bool) → a && b ≡ false → (a ≡ false) ⊎ (b ≡ false)
-and-false true b e = inr e
-and-false false b e = inl refl
 
 pub no-room : (p : Position) (room need : ℕ) → room < need → false ≡ readyFor p room need
 unfolding readyFor
@@ -31,7 +27,7 @@ module _ (p : Position) (room need : ℕ) (r : Bool) (is : r ≡ readyFor p room
 
   pub not-ready : r ≡ false → (room < need) ⊎ (goesOn p ≡ false)
   unfolding readyFor
-  not-ready e = elim (and-false (leb need room) (goesOn p) (sym is ∙ e)) [ inl a ↦ inl (leb-false need room a) | inr a ↦ inr a ]
+  not-ready e = elim (one-of (leb need room) (goesOn p) (sym is ∙ e)) [ inl a ↦ inl (leb-false need room a) | inr a ↦ inr a ]
 
 -- ---- whether another byte is taken
 pub no-byte : (left : ℕ) (p : Position) (room : ℕ) → left ≡ 0 → false ≡ takesMore left p room
@@ -53,7 +49,7 @@ module _ (left : ℕ) (p : Position) (room : ℕ) (r : Bool) (is : r ≡ takesMo
   pub none-left : r ≡ false → (left ≡ 0) ⊎ ((room < lineRoom) ⊎ (goesOn p ≡ false))
   unfolding takesMore
   none-left e =
-      elim (and-false (ltb 0 left) (readyFor p room lineRoom) (sym is ∙ e)) [
+      elim (one-of (ltb 0 left) (readyFor p room lineRoom) (sym is ∙ e)) [
         | inl a ↦ inl (let k : left ≤ 0 = ltb-false 0 left a in omega arith)
         | inr a ↦ inr (not-ready p room lineRoom false (sym a) refl)
       ]

@@ -1,11 +1,11 @@
 -- Counts of a run, and the state that they stand for after each kind of byte.
-use mathlib.Core.Path.{_≡_, refl, sym, ap, _∙_}
+use mathlib.Core.Path.{_≡_, refl, ap}
 use mathlib.Core.Logic.{_⊎_, inl, inr}
-use mathlib.Core.Bool.{true≢false, Bool, true, false, not, _&&_, _||_}
+use mathlib.Core.Bool.{Bool, true, false, not, _&&_, _||_, or-true}
 use mathlib.Core.List.{List, []}
 use Prim.Native.Nat.{ℕ, suc, _≤_, _<_}
 use native.Mathlib.Omega.{arith}
-use borrow.Author.Tests.{le-leb, lt-leb, lt-ltb, le-ltb, leb-true, ltb-true, eq-eqb, ne-eqb, eqb-true, not-true, not-false}
+use borrow.Author.Tests.{le-leb, lt-leb, lt-ltb, le-ltb, leb-true, ltb-true, eq-eqb, ne-eqb, eqb-true, not-true}
 use lib.Dec.{eqb, leb, ltb}
 use lib.ListN.{take}
 use Rattle.pattern_spec.proofs.Truth.{both-of}
@@ -22,10 +22,6 @@ use Rattle.sheet_spec.specs.declared.Position.{Position}
 either-true : (a b : Bool) → a || b ≡ true → (a ≡ true) ⊎ (b ≡ true)
 either-true true b e = inl refl
 either-true false b e = inr e
-
-or-true : (a : Bool) → a || true ≡ true
-or-true true = refl
-or-true false = refl
 
 -- what is known of the counts then
 pub record Counts (p : Position) : Type 0 where

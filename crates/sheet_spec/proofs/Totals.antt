@@ -1,6 +1,6 @@
 -- The program's total accepts every term of its lines.
 use mathlib.Core.Path.{_≡_, refl, sym, ap, _∙_, subst}
-use mathlib.Core.Bool.{true≢false, Bool, true, false, cond, _&&_}
+use mathlib.Core.Bool.{Bool, true, false, cond}
 use mathlib.Core.List.{List, [], _∷_, _++_}
 use Prim.Native.Nat.{ℕ, _*_, _≤_}
 use native.Mathlib.Nat.{le-refl, le-trans, le-of-eq}
@@ -8,6 +8,7 @@ use native.Mathlib.Omega.{arith}
 use lib.ListN.{length, length-append}
 use Rattle.pattern_spec.specs.Answer.{Answer, refused, done, isDone}
 use Rattle.pattern_spec.specs.Classes.{bothFinite}
+use Rattle.pattern_spec.proofs.Truth.{both-of}
 use Rattle.rounding_spec.specs.Format.{binary32}
 use Rattle.rounding_spec.specs.Value.{decode, isFinite}
 use Rattle.augmented_spec.specs.declared.Pair.{Pair}
@@ -24,17 +25,13 @@ use Rattle.sheet_spec.specs.Printed.{blank, halfTerms, pairTerms, lineTe
 use Rattle.sheet_spec.specs.Theorems.{NeverRefused, LineTerms, termsOf, TotalTakesAll}
 
 -- ---- the terms of a line: none, or two that are finite
-both : (a b : Bool) → (a && b) ≡ true → (a ≡ true) × (b ≡ true)
-both true b e = (refl, e)
-both false b e = absurd (true≢false (sym e))
-
 half-terms : (first second : ℕ) → AllFinite (halfTerms first second) × (length (halfTerms first second) ≤ 2)
 unfolding AllFinite
 half-terms first second = go (bothFinite first second) refl
   where
     go : (b : Bool) → bothFinite first second ≡ b
         → AllFinite (cond b (ofPattern first ∷ ofPattern second ∷ []) []) × (length (cond b (ofPattern first ∷ ofPattern second ∷ []) []) ≤ 2)
-    go true e = let f = both (isFinite (decode binary32 first)) (isFinite (decode binary32 second)) e in ((f .0, (f .1, tt)), omega arith)
+    go true e = let f = both-of (isFinite (decode binary32 first)) (isFinite (decode binary32 second)) e in ((f .0, (f .1, tt)), omega arith)
     go false e = (tt, omega arith)
 
 pair-terms : (f : Answer FilledSheet) → AllFinite (pairTerms f) × (length (pairTerms f) ≤ 2)

@@ -8,13 +8,13 @@ use native.Mathlib.Omega.{arith}
 use borrow.Author.Tests.{le-leb}
 use lib.ListN.{length, drop, replicate, length-append}
 use lib.Seq.{set-append-seam, append-snoc}
-use Rattle.pattern_spec.specs.Answer.{Answer, refused}
+use Rattle.pattern_spec.specs.Answer.{refused}
 use Rattle.rounding_spec.specs.Format.{binary32}
 use Rattle.augmented_spec.specs.declared.Flags.{Flags}
 use Rattle.augmented_spec.specs.Direct.{Operation, directPair, isOperation, operationOf}
 use Rattle.worksheet_spec.specs.Lines.{lineSize, mostLines, sheetSize, Line}
 use Rattle.worksheet_spec.specs.Sheets.{sheetOf}
-use Rattle.worksheet_spec.specs.Filling.{FilledSheet, lineWords, linesWords, sheetWords, filled, sheetAnswer, filling, afterFilling, HasDirectPair, Fills}
+use Rattle.worksheet_spec.specs.Filling.{lineWords, linesWords, sheetWords, filled, sheetAnswer, filling, HasDirectPair, Fills}
 use Rattle.worksheet_spec.proofs.Filling.{fills, filled-words}
 use Rattle.worksheet_spec.proofs.Theorems.{line-count, filling-refused, filled-pair}
 use Rattle.worksheet_lines.specs.Inner.{rowsWith, Follows, flat}

@@ -15,6 +15,7 @@ use Rattle.pattern_spec.specs.Exact.{negate, plus, times, finer}
 use Rattle.binary32_spec.specs.Steps.{addStep, subStep, mulStep, fmaStep}
 use Rattle.binary32_spec.specs.Marks.{markBy, allFinite, addMark, subMark, mulMark, fmaMark}
 use Rattle.pattern_spec.specs.Classes.{bothFinite}
+use Rattle.pattern_spec.proofs.Truth.{alike}
 use Rattle.binary32_spec.specs.MarkTheorems.{Special}
 use Rattle.binary32_spec.proofs.Theorems.{add-mark-means, sub-mark-means, mul-mark-means, fma-mark-means, zero-and-overflow}
 use Rattle.errorfree_spec.proofs.AddsUp.{is-finer, is-zero, zero-is}
@@ -26,12 +27,6 @@ use Rattle.worksheet_spec.specs.Lines.{value}
 pub told : (b : Bool) → T b → b ≡ true
 told true h = refl
 told false h = absurd h
-
-agree : (c d : Bool) → (c ≡ true → d ≡ true) → (d ≡ true → c ≡ true) → c ≡ d
-agree true true h k = refl
-agree false false h k = refl
-agree true false h k = sym (h refl)
-agree false true h k = k refl
 
 -- ---- values as differences
 pub is-number : (r : Bool) (v : Value) (p n : ℕ) → Is r v p n → isFinite v ≡ true
@@ -103,7 +98,7 @@ tested f w x h r p n P N wi xi c k l =
     let z = finer binary32 (value x) in
     let zi : Is r z (P * U) (N * U) = is-finer binary32 r (value x) P N xi in
     by-test f w x c h
-    (agree (same z w) c (λ t. l (same-eq r z w (P * U) (N * U) p n zi wi (subst T (sym t) tt))) (λ t. told (same z w) (eq-same r z w (P * U) (N * U) p n zi wi (k t))))
+    (alike (same z w) c (λ t. l (same-eq r z w (P * U) (N * U) p n zi wi (subst T (sym t) tt))) (λ t. told (same z w) (eq-same r z w (P * U) (N * U) p n zi wi (k t))))
 
 -- the exact value is a whole number of u
 whole : (f : Bool) (w : Value) (x : ℕ) → f ≡ true → (r : Bool) (p n P N : ℕ) → Is r w (p * U) (n * U) → Is r (value x) P N

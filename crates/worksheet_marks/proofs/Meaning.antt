@@ -1,12 +1,12 @@
 -- What a table says.
-use mathlib.Core.Path.{_≡_, refl, sym, ap, ap₂, _∙_}
+use mathlib.Core.Path.{_≡_, refl, ap, ap₂, _∙_}
 use mathlib.Core.Bool.{Bool, cond}
 use mathlib.Core.List.{List, [], _∷_, _++_}
-use Prim.Native.Nat.{ℕ, zero, suc, _≤_}
+use Prim.Native.Nat.{ℕ, _≤_}
 use native.Mathlib.Omega.{arith}
 use lib.ListN.{length, replicate}
 use Rattle.worksheet_spec.specs.Lines.{Line, marks}
-use Rattle.worksheet_marks.specs.Tables.{Entry, EntryHolds, MarkTable, resultAt}
+use Rattle.worksheet_marks.specs.Tables.{Entry, EntryHolds, MarkTable}
 use Rattle.worksheet_marks.specs.Theorems.{EntryMeans, TableMeans, ResultAtIs}
 
 pub entry-means : EntryMeans

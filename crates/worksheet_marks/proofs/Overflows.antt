@@ -1,7 +1,7 @@
 -- The lines of a sum's sheet, where finite operands overflow.
 use mathlib.Core.Path.{_≡_, refl, sym, ap, ap₂, _∙_, subst}
 use mathlib.Core.Logic.{inl, inr}
-use mathlib.Core.Bool.{Bool, true, false, _&&_, and-false}
+use mathlib.Core.Bool.{Bool, true, false}
 use mathlib.Core.List.{List, [], _∷_, _++_}
 use Prim.Native.Nat.{ℕ, _+_, _-_, _*_, _^_, _≤_, _<_}
 use native.Mathlib.Nat.{le-trans, le-of-eq, lt-of-le-of-lt}
@@ -22,7 +22,7 @@ use Rattle.pattern_spec.specs.Classes.{bothFinite}
 use Rattle.binary32_spec.proofs.Theorems.{add-decodes, sub-decodes}
 use Rattle.errorfree_spec.proofs.FastTwoSum.{add-finite}
 use Rattle.errorfree_spec.proofs.Halved.{y-big}
-use Rattle.errorfree_spec.proofs.NoNumber.{not-both, sub-left}
+use Rattle.errorfree_spec.proofs.NoNumber.{not-both, some-false, sub-left}
 use Rattle.errorfree_spec.proofs.Steps.{toEven, even-at, over-of}
 use Rattle.worksheet_spec.specs.Constants.{psi, two, half}
 use Rattle.worksheet_spec.specs.Lines.{Line, line, add, value, isZeroPattern}
@@ -40,10 +40,10 @@ use Rattle.worksheet_marks.proofs.Sums.{a-mark, v-exact, b-exact}
 
 -- ---- infinite and NaN operands
 pub first-none : (x y : ℕ) → isFinite (value x) ≡ false → bothFinite x y ≡ false
-first-none x y h = ap (λ (c : Bool). c && isFinite (value y)) h
+first-none x y h = some-false (isFinite (value x)) (isFinite (value y)) (inl h)
 
 pub second-none : (x y : ℕ) → isFinite (value y) ≡ false → bothFinite x y ≡ false
-second-none x y h = ap (λ (c : Bool). isFinite (value x) && c) h ∙ and-false (isFinite (value x))
+second-none x y h = some-false (isFinite (value x)) (isFinite (value y)) (inr h)
 
 pub infinite-of : (v : Value) → isInfinite v ≡ true → (s : Bool) × (v ≡ infinite s)
 infinite-of nan h = not-both (sym h)

@@ -1,7 +1,7 @@
 -- The ways of a sum.
 use Prim.Native.Nat.{ℕ}
 use mathlib.Core.Path.{_≡_, refl, _∙_}
-use mathlib.Core.Bool.{Bool, true, false, _&&_}
+use mathlib.Core.Bool.{Bool, true, false, and-false}
 use Rattle.rounding_spec.specs.Value.{isNaN, isInfinite}
 use Rattle.binary32_spec.specs.Steps.{addStep, subStep, mulStep}
 use Rattle.errorfree_spec.proofs.NoNumber.{none-zero}
@@ -14,10 +14,6 @@ use Rattle.worksheet_table.specs.Programs.{sheetAlong, passes}
 use Rattle.worksheet_table.specs.Table.{sumNaN, sumChanged, sumChangedZero, sumKept, sumKeptZero, sumInfinite, sumEdge}
 use Rattle.worksheet_table.proofs.Told.{Told}
 use Rattle.worksheet_table.proofs.Alone.{nan-alone, infinite-alone, finite-by}
-
-and-false : (i : Bool) → i && false ≡ false
-and-false true = refl
-and-false false = refl
 
 module _ (x y : ℕ) where
   abbrev pub a : ℕ

@@ -1,5 +1,4 @@
 use borrow.Author.Needs.{needs}
-use mathlib.Core.Path.{_∙_}
 use borrow.Author.Tests.{lt-ltb, le-ltb}
 use Rattle.accumulator_fit.proofs.within.Statement.{statement}
 use Rattle.accumulator_fit.proofs.within.Tie as tie

@@ -1,6 +1,6 @@
 use borrow.Author.Needs.{needs}
-use mathlib.Core.Path.{_≡_, sym, ap, _∙_}
-use mathlib.Core.Bool.{Bool}
+use mathlib.Core.Path.{_≡_, ap, _∙_}
+use mathlib.Core.Bool.{Bool, or-false}
 use Prim.Native.Nat.{ℕ, _*_, _^_}
 use native.Mathlib.Omega.{arith}
 use Rattle.rounding_spec.specs.declared.Ties.the-variants.{ToZero}
@@ -8,7 +8,6 @@ use Rattle.rounding_spec.specs.Format.{binary32}
 use Rattle.rounding_spec.specs.Value.{finite, decode, encode, round, roundFinite, isInfinite}
 use Rattle.rounding_spec.proofs.Codec.{decode-encode}
 use Rattle.rounding_spec.proofs.RoundValue.{round-fits}
-use Rattle.pattern_spec.proofs.Shown.{never}
 use Rattle.augmented_spec.specs.Pairs.{pairOf}
 use Rattle.augmented_spec.proofs.Second.{first-finite}
 use Rattle.augmented_spec.proofs.Rests.{product-short, short-loses-nothing, product-small}
@@ -42,7 +41,7 @@ returns-2 c =
     let N = b .args .sig * 2 ^ b .args .exp in
     let short = product-short (b .args .sig) (b .args .exp) (b .pre) (let l = g .if1 .left in omega arith) in
     let over = c .is-infinite .ensures ∙ ap (λ (p : ℕ). isInfinite (decode binary32 p)) (c .before .round .ensures) ∙ first-shows (b .args .sign) N in
-    rw (short-loses-nothing (b .args .sign) (b .args .sig) (b .args .exp) short, ← over, never (c .is-infinite .result))
+    rw (short-loses-nothing (b .args .sign) (b .args .sig) (b .args .exp) short, ← over, or-false (c .is-infinite .result))
 
 pub flags-of-number-spec : {M : Type 1} → statement M
 flags-of-number-spec =

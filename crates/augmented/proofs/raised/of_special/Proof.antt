@@ -1,5 +1,5 @@
 use borrow.Author.Needs.{needs}
-use Rattle.pattern_spec.proofs.Shown.{never}
+use mathlib.Core.Bool.{or-false}
 use Rattle.augmented.proofs.raised.of_special.Statement.{statement}
 use Rattle.augmented.proofs.raised.of_special.Tie as tie
 
@@ -10,7 +10,7 @@ invalid-requires : tie.Need-invalid-requires
 invalid-requires c κs = search needs
 
 returns : tie.Need-returns
-returns c = rw (← c .before .overflowed .ensures, ← c .invalid .ensures, never (c .before .overflowed .result))
+returns c = rw (← c .before .overflowed .ensures, ← c .invalid .ensures, or-false (c .before .overflowed .result))
 
 pub of-special-spec : {M : Type 1} → statement M
 of-special-spec = tie.close (tie.spec overflowed-requires invalid-requires returns)

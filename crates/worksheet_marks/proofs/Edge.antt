@@ -7,7 +7,7 @@ use native.Mathlib.Nat.{mul-right-comm}
 use native.Mathlib.Omega.{arith}
 use lib.Ieee.{unlike}
 use Rattle.rounding_spec.specs.Format.{binary32, limit}
-use Rattle.rounding_spec.specs.Value.{finite}
+use Rattle.rounding_spec.specs.Value.{finite, isFinite}
 use Rattle.pattern_spec.specs.Comparisons.{same}
 use Rattle.binary32_spec.specs.Steps.{mulValue, mulStep}
 use Rattle.binary32_spec.specs.Marks.{mulMark}
@@ -19,7 +19,7 @@ use Rattle.worksheet_spec.specs.Constants.{kappa, minusTwo}
 use Rattle.worksheet_spec.specs.Lines.{line, multiply, before, ends, value}
 use Rattle.worksheet_spec.specs.Sheets.{atEdge, edgeFinish}
 use Rattle.worksheet_spec.proofs.Entries.{_&_}
-use Rattle.worksheet_spec.proofs.Blocks.{test-is}
+use Rattle.worksheet_spec.proofs.Blocks.{test-is, no-test}
 use Rattle.worksheet_spec.proofs.Constants.{kappa-value, minus-two-value}
 use Rattle.worksheet_spec.proofs.SumSteps.{same-number, edge-number}
 use Rattle.worksheet_marks.specs.Tables.{MarkTable}
@@ -47,6 +47,11 @@ second-exact b t e =
     step : (t : Bool) → mulValue binary32 (factors.minusTwo binary32) (finite t (edgeRest binary32)) ≡ finite (unlike true t) (2 * edgeRest binary32)
     step false = minus-is binary32 (omega arith) true
     step true = minus-is binary32 (omega arith) false
+
+-- they are not there where a' is no number
+pub edge-none : (a a' b' : ℕ) → isFinite (value a') ≡ false → edgeFinish a a' b' .lines ≡ []
+unfolding edgeFinish
+edge-none a a' b' h = rw (no-test a a' b' h) refl
 
 pub edge-table : (a a' b' : ℕ) → MarkTable [] (edgeFinish a a' b' .lines)
 unfolding edgeFinish

@@ -29,7 +29,7 @@ behind [] t = refl
 behind (l ∷ ls) t = ap₂ (λ (m : ℕ) (ms : List ℕ). m ∷ ms) (t .0) (behind ls (t .1))
 
 pub table-means : TableMeans
-table-means = (enough, at, behind)
+table-means = (enough, at, behind, λ es ls t. t)
 
 pub result-at-is : ResultAtIs
 result-at-is [] l later = refl

@@ -3,6 +3,7 @@ use Prim.Native.Nat.{ℕ, zero, suc}
 use mathlib.Core.Path.{_≡_}
 use mathlib.Core.Bool.{Bool, cond}
 use mathlib.Core.List.{List, [], _∷_}
+use lib.ListN.{length}
 use Rattle.worksheet_spec.specs.Lines.{Line}
 
 -- Of a line: nothing; that its result is the exact value; that it was rounded or overflowed; that an operand was infinite or NaN; that it
@@ -28,6 +29,10 @@ MarkTable [] [] = Unit {0}
 MarkTable [] (l ∷ ls) = (l .mark ≡ 0) × MarkTable [] ls
 MarkTable (c ∷ cs) [] = ⊥
 MarkTable (c ∷ cs) (l ∷ ls) = EntryHolds c l × MarkTable cs ls
+
+-- the same, and no line after the last entry
+abbrev pub WholeTable : List Entry → List Line → Type 0
+WholeTable cs ls = MarkTable cs ls × (length ls ≡ length cs)
 
 -- the result of the line that has n lines before it; 0 where there is none
 abbrev pub resultAt : ℕ → List Line → ℕ

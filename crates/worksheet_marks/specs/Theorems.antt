@@ -21,7 +21,7 @@ use Rattle.augmented_spec.specs.Direct.{sum, difference, product}
 use Rattle.worksheet_spec.specs.Constants.{psi, half}
 use Rattle.worksheet_spec.specs.Lines.{Line, value, minus, equal, isZeroPattern, marks}
 use Rattle.worksheet_spec.specs.Sheets.{Branch, whenNaN, whenInfinite, whenZero, whenTiny, whenMiddle, otherwise, branchOf, sheetOf}
-use Rattle.worksheet_marks.specs.Tables.{Entry, any, exact, rounded, special, exactWhere, EntryHolds, MarkTable, resultAt}
+use Rattle.worksheet_marks.specs.Tables.{Entry, any, exact, rounded, special, exactWhere, EntryHolds, MarkTable, WholeTable, resultAt}
 
 -- ---- sums. Above an entry stands the name that the rules give its line, and above the end the lines that can follow, which have mark 0.
 -- of all sums, and of all differences, whose y is flipped first: what is said of the two operands and of the sheet's lines
@@ -53,13 +53,14 @@ abbrev pub OverflowingSum : Type 0
 OverflowingSum =
     OfSums (λ (x y : ℕ) (ls : List Line). bothFinite x y ≡ true → isInfinite (value (addStep x y)) ≡ true → OverflowTable ls)
 
--- an operand is infinite or NaN: a is NaN, and no line follows (R5.23), or infinite, and then y' alone may be of a number
+-- an operand is infinite or NaN: a is NaN, and no line follows (R5.23), or infinite, and then y' alone may be of a number, and the edge has
+-- no lines
 abbrev pub SpecialSumTable : Value → List Line → Type 0
 SpecialSumTable nan ls = marks ls ≡ 2 ∷ []
 SpecialSumTable (finite s m) ls = ⊥
 SpecialSumTable (infinite s) ls =
-    --         a         v         b         z         d         e         x'        y'    a'        v'        b'
-    MarkTable (special ∷ special ∷ special ∷ special ∷ special ∷ special ∷ special ∷ any ∷ special ∷ special ∷ special ∷ []) ls
+    --          a         v         b         z         d         e         x'        y'    a'        v'        b'
+    WholeTable (special ∷ special ∷ special ∷ special ∷ special ∷ special ∷ special ∷ any ∷ special ∷ special ∷ special ∷ []) ls
 
 abbrev pub SpecialSum : Type 0
 SpecialSum = OfSums (λ (x y : ℕ) (ls : List Line). bothFinite x y ≡ false → SpecialSumTable (value (addStep x y)) ls)
@@ -124,13 +125,14 @@ abbrev pub OverflowingProduct : Type 0
 OverflowingProduct =
     (x y : ℕ) → bothFinite x y ≡ true → isInfinite (value (mulStep x y)) ≡ true → OverflowProductTable (sheetOf product x y .lines)
 
--- an operand is infinite or NaN: a is NaN, and no line follows (R5.23), or infinite, and then h alone may be of a number
+-- an operand is infinite or NaN: a is NaN, and no line follows (R5.23), or infinite, and then h alone may be of a number, and the edge has
+-- no lines
 abbrev pub SpecialProductTable : Value → List Line → Type 0
 SpecialProductTable nan ls = marks ls ≡ 2 ∷ []
 SpecialProductTable (finite s m) ls = ⊥
 SpecialProductTable (infinite s) ls =
-    --         a         h     a'        b'
-    MarkTable (special ∷ any ∷ special ∷ special ∷ []) ls
+    --          a         h     a'        b'
+    WholeTable (special ∷ any ∷ special ∷ special ∷ []) ls
 
 abbrev pub SpecialProduct : Type 0
 SpecialProduct = (x y : ℕ) → bothFinite x y ≡ false → SpecialProductTable (value (mulStep x y)) (sheetOf product x y .lines)
@@ -181,13 +183,15 @@ EntryMeans =
     → (EntryHolds exact l → l .mark ≡ 0) × (EntryHolds rounded l → l .mark ≡ 1) × (EntryHolds special l → l .mark ≡ 2)
     × ((test : Bool) → EntryHolds (exactWhere test) l → (test ≡ true → l .mark ≡ 0) × (test ≡ false → l .mark ≡ 1))
 
--- what a table says: there is a line for each entry, which holds of it; lines behind the last entry have the mark 0
+-- what a table says: there is a line for each entry, which holds of it; lines behind the last entry have the mark 0, and a whole table has
+-- none
 abbrev pub TableMeans : Type 0
 TableMeans =
     ((es : List Entry) (ls : List Line) → MarkTable es ls → length es ≤ length ls)
     × ((es : List Entry) (e : Entry) (more : List Entry) (earlier : List Line) (l : Line) (later : List Line)
     → length es ≡ length earlier → MarkTable (es ++ (e ∷ more)) (earlier ++ (l ∷ later)) → EntryHolds e l × MarkTable more later)
     × ((ls : List Line) → MarkTable [] ls → marks ls ≡ replicate (length ls) 0)
+    × ((es : List Entry) (ls : List Line) → WholeTable es ls → MarkTable es ls × (length ls ≡ length es))
 
 -- which result a test looks at
 abbrev pub ResultAtIs : Type 0

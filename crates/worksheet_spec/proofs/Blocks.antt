@@ -167,7 +167,7 @@ module _ (a a' b' : ℕ) where
         )
 
   -- a' is none
-  no-test : isFinite (value a') ≡ false → atEdge a' b' ≡ false
+  pub no-test : isFinite (value a') ≡ false → atEdge a' b' ≡ false
   unfolding atEdge
   no-test h = by (leb (signBit binary32) a')
     where

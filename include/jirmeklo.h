@@ -49,6 +49,13 @@ struct jirmeklo_filled {
     struct jirmeklo_flags flags;
 };
 
+/* What is the matter with a candidate's lines: the refusal, and for 14 and 15 the line that it is about, counted from 1; else 0 and 0, and
+ * whether they reach the pair. right is false where the refusal is not 0. */
+struct jirmeklo_marked {
+    uint32_t refusal, line;
+    bool right;
+};
+
 /* Steps: one rounding to nearest, ties to even. fma is x * y + z. The first NaN operand is handed on, as it is but for bit 22, which is set
  * (sub does not flip it); where no operand is NaN, a NaN result is 7FC00000. +0 and -0 are one value, so that an exact zero has the mark 0;
  * a value that is rounded to zero has 1. No refusal. */
@@ -97,6 +104,15 @@ struct jirmeklo_reading jirmeklo_read(const uint32_t *total, size_t words);
  * its mark; then zeros.
  * Refusals: 10, another operation; 9, fewer than 78 words. */
 struct jirmeklo_filled jirmeklo_fill(uint32_t operation, uint32_t x, uint32_t y, uint32_t *words, size_t count);
+
+/* Marks the lines by which a candidate worked out an operation's pair (1 sum, 2 difference, 3 product of x and y), six words a line as in
+ * a sheet; they are looked at only. The results of the last two lines are the pair that is claimed. right says that it is the pair of
+ * jirmeklo_sum, jirmeklo_difference or jirmeklo_product in every bit. An operand may be x, y, the result of an earlier line, 00000000,
+ * 80000000, a constant of the sheets (3F7FFFFF, 40000000, C0000000, 3F000000, 3FFFFFFF, 4B800000, 57800000, 33800000, 00000001, 80000001),
+ * or one of these with its sign flipped. A model sheet with two more lines, which add 80000000 to its first and to its second, is right.
+ * Refusals: 10, another operation; 13, words that are no multiple of six, fewer than 12 or more than 600; then line by line 14, an unknown
+ * step, an operand that is none of these, or an unused third that is not 0; 15, a result or a mark that is not the step's. */
+struct jirmeklo_marked jirmeklo_mark(uint32_t operation, uint32_t x, uint32_t y, const uint32_t *lines, size_t words);
 
 /* Fills the sheets of a list of questions, one after the other, the ith into the first counts[i] of the words. Where its
  * pair is finite and exact, adds the pair to the first total, and what was asked to the second: both then hold one number,

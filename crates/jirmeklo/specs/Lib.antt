@@ -1,3 +1,4 @@
 pub mod Totals
 pub mod Sheets
+pub mod Marks
 pub mod Theorems

@@ -1,4 +1,5 @@
-// The library's functions for programs in C and other languages: steps and pairs here, totals and sheets in files of their own.
+// The library's functions for programs in C and other languages: steps and pairs here, totals, sheets and marking in files of their own.
+mod marks;
 mod sheets;
 mod totals;
 

@@ -1,12 +1,12 @@
 // What the lines of sums and products share.
 use crate::Foot;
 use crate::Rows;
-use crate::constants::KAPPA;
-use crate::constants::MINUS_TWO;
-use crate::constants::PLUS_ZERO;
-use crate::constants::PSI;
-use crate::constants::TWO;
 use pattern::flipped;
+use worksheet_spec::KAPPA;
+use worksheet_spec::MINUS_TWO;
+use worksheet_spec::PLUS_ZERO;
+use worksheet_spec::PSI;
+use worksheet_spec::TWO;
 ghost use mathlib.Core.List.{List};
 ghost use Prim.Native.Nat.{ℕ, _+_, _<_, _≤_};
 ghost use Rattle.worksheet_spec.specs.Lines.{mostLines, ends};

@@ -1,6 +1,5 @@
 // Lines of a sheet, in rows of their own. Each result, with its mark, is a rounding step's.
 pub mod blocks;
-pub mod constants;
 
 use worksheet_spec::ADD;
 use worksheet_spec::FUSED;

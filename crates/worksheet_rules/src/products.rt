@@ -4,12 +4,12 @@ use worksheet_choices::Branch;
 use worksheet_lines::Foot;
 use worksheet_lines::Rows;
 use worksheet_lines::blocks;
-use worksheet_lines::constants::HALF;
-use worksheet_lines::constants::PLUS_ZERO;
-use worksheet_lines::constants::SMALLEST;
-use worksheet_lines::constants::TWO_TO_24;
-use worksheet_lines::constants::TWO_TO_48;
-use worksheet_lines::constants::TWO_TO_MINUS_24;
+use worksheet_spec::HALF;
+use worksheet_spec::PLUS_ZERO;
+use worksheet_spec::SMALLEST;
+use worksheet_spec::TWO_TO_24;
+use worksheet_spec::TWO_TO_48;
+use worksheet_spec::TWO_TO_MINUS_24;
 ghost use Rattle.worksheet_spec.specs.Sheets.{infiniteProduct, tinyProduct, scaledDown, middleProduct, otherProduct, productSheet};
 ghost use Rattle.worksheet_lines.specs.Inner.{Follows};
 

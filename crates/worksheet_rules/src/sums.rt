@@ -2,7 +2,7 @@
 use worksheet_lines::Foot;
 use worksheet_lines::Rows;
 use worksheet_lines::blocks;
-use worksheet_lines::constants::HALF;
+use worksheet_spec::HALF;
 ghost use Rattle.worksheet_spec.specs.Sheets.{halvedSum, sumFrom, sumInOrder, sumSheet};
 ghost use Rattle.worksheet_lines.specs.Inner.{Follows};
 

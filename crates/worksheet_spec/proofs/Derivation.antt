@@ -5,10 +5,10 @@ use mathlib.Core.Bool.{Bool, true, false, cond}
 use mathlib.Core.List.{List, [], _∷_, _++_}
 use Prim.Native.Nat.{ℕ}
 use Rattle.binary32_spec.specs.Steps.{subStep, mulStep}
-use Rattle.worksheet_spec.specs.Constants.{psi, two, minusTwo, half, kappa, twoTo24, twoTo48, twoToMinus24, plusZero, smallest}
+use Rattle.worksheet_spec.specs.Constants.{psi, two, minusTwo, half, kappa, twoTo24, twoTo48, twoToMinus24, plusZero, factors, smallest}
 use Rattle.worksheet_spec.specs.Lines.{add, subtract, multiply, Line, line, fusedLine, Sheet, before, ends, minus, equal, isZeroPattern}
 use Rattle.worksheet_spec.specs.Sheets.{recomposition, zeroFinish, recomposedFinished, atEdge, edgeFinish}
-use Rattle.worksheet_spec.specs.Theorems.{Among, Member, factors, Known, results}
+use Rattle.worksheet_spec.specs.Theorems.{Among, Member, Known, results}
 
 -- ---- members
 pub here : (p : ℕ) (ks : List ℕ) → Among p (p ∷ ks)

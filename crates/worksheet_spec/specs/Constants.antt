@@ -1,5 +1,6 @@
 -- The constants of the step sheet, by pattern (R5.1). `ConstantPatterns` of Theorems says which numbers they are.
 use Prim.Native.Nat.{ℕ}
+use mathlib.Core.List.{List, [], _∷_}
 
 -- ---- factors: in a multiplication the constant is the first operand (R5.2)
 abbrev pub psi : ℕ
@@ -28,6 +29,10 @@ twoToMinus24 = 0x3380_0000
 
 abbrev pub plusZero : ℕ
 plusZero = 0x0000_0000
+
+-- all of them
+abbrev pub factors : List ℕ
+factors = psi ∷ two ∷ minusTwo ∷ half ∷ kappa ∷ twoTo24 ∷ twoTo48 ∷ twoToMinus24 ∷ plusZero ∷ []
 
 -- ---- u, which stands with a sign as the second operand of a subtraction (R5.8): -u is its flip
 abbrev pub smallest : ℕ

@@ -12,7 +12,7 @@ use Rattle.binary32_spec.specs.Steps.{addStep, subStep, mulStep, fmaStep}
 use Rattle.binary32_spec.specs.Marks.{addMark, subMark, mulMark, fmaMark}
 use Rattle.augmented_spec.specs.Direct.{Operation, sum, difference, product, directPair, operationNumber}
 use Rattle.pattern_spec.specs.Comparisons.{lessMagnitude}
-use Rattle.worksheet_spec.specs.Constants.{psi, two, minusTwo, half, kappa, twoTo24, twoTo48, twoToMinus24, plusZero, smallest}
+use Rattle.worksheet_spec.specs.Constants.{psi, two, minusTwo, half, kappa, twoTo24, twoTo48, twoToMinus24, plusZero, factors, smallest}
 use Rattle.worksheet_spec.specs.Constants.{twoTo127, twoTo102, twoToMinus102, twoToMinus126}
 use Rattle.worksheet_spec.specs.Lines.{lineSize, mostLines, sheetSize, Step, add, subtract, multiply, fused, stepNumber}
 use Rattle.worksheet_spec.specs.Lines.{Line, line, fusedLine, Gives, before, ends, value, minus, equal, isZeroPattern}
@@ -67,9 +67,6 @@ Among p (k ∷ ks) = (p ≡ k) ⊎ (p ≡ minus k) ⊎ Among p ks
 unfoldable pub Member : ℕ → List ℕ → Type 0
 Member p [] = ⊥
 Member p (k ∷ ks) = (p ≡ k) ⊎ Member p ks
-
-abbrev pub factors : List ℕ
-factors = psi ∷ two ∷ minusTwo ∷ half ∷ kappa ∷ twoTo24 ∷ twoTo48 ∷ twoToMinus24 ∷ plusZero ∷ []
 
 -- Operands are among what is known, ks, but for the constants: factors stand first (R5.2), and u, with a sign, is taken away (R5.8).
 abbrev pub Drawn : List ℕ → Step → ℕ → ℕ → ℕ → Type 0

@@ -1,0 +1,5 @@
+pub mod Lookup
+pub mod Claims
+pub mod Counts
+pub mod InOrder
+pub mod Answered

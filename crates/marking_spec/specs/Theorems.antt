@@ -1,0 +1,114 @@
+-- What is proved of marking. A name of type `Type 0` is a statement; `proofs/Theorems.antt` has its proof.
+use mathlib.Core.Path.{_≡_}
+use mathlib.Core.Logic.{_⊎_, _↔_}
+use mathlib.Core.Bool.{true, false}
+use mathlib.Core.List.{List, [], _∷_, _++_}
+use Prim.Native.Nat.{ℕ, suc, _*_, _%_, _≤_, _<_}
+use lib.ListN.{length}
+use Rattle.rounding_spec.specs.Format.{binary32}
+use Rattle.binary32_spec.specs.Steps.{addStep, subStep, mulStep, fmaStep}
+use Rattle.binary32_spec.specs.Marks.{addMark, subMark, mulMark, fmaMark}
+use Rattle.augmented_spec.specs.Direct.{Operation, sum, difference, product, directPair, operationNumber}
+use Rattle.worksheet_spec.specs.Lines.{lineSize, Step, add, subtract, multiply, fused, stepNumber, Line, line}
+use Rattle.worksheet_spec.specs.Sheets.{sheetOf}
+use Rattle.worksheet_spec.specs.Filling.{linesWords}
+use Rattle.worksheet_spec.specs.Theorems.{Among}
+use Rattle.marking_spec.specs.declared.Claim.{Claim}
+use Rattle.marking_spec.specs.Marking.{claims, claimedResults, constants, minusZero, among, known, allowed, isTrue}
+use Rattle.marking_spec.specs.Marking.{fewestMarked, mostMarked, Marked, refusedAt, judged, marking}
+
+-- ---- how many lines are marked, and the constants that may stand on them (R5.1, R8.18, R13.2)
+abbrev pub MarkingSizes : Type 0
+MarkingSizes = (fewestMarked ≡ 2) × (mostMarked ≡ 100)
+
+abbrev pub MarkingConstants : Type 0
+MarkingConstants =
+    (constants
+    ≡ 0x3f7f_ffff ∷ 0x4000_0000 ∷ 0xc000_0000 ∷ 0x3f00_0000 ∷ 0x3fff_ffff ∷ 0x4b80_0000 ∷ 0x5780_0000 ∷ 0x3380_0000
+    ∷ 0x0000_0000 ∷ 0x0000_0001 ∷ 0x8000_0001 ∷ [])
+    × (minusZero ≡ 0x8000_0000)
+
+-- ---- a candidate's lines are words: whole lines, from 2 to 100 of them (R8.18)
+abbrev pub Markable : ℕ → Type 0
+Markable words = (words % 6 ≡ 0) × (12 ≤ words) × (words ≤ 600)
+
+abbrev pub claimsWords : List Claim → List ℕ
+claimsWords [] = []
+claimsWords (l ∷ ls) = l .step ∷ l .x ∷ l .y ∷ l .z ∷ l .result ∷ l .mark ∷ claimsWords ls
+
+-- no word of whole lines is passed over or counted twice
+abbrev pub ClaimsMeans : Type 0
+ClaimsMeans = (words : List ℕ) → length words % 6 ≡ 0 → (claimsWords (claims words) ≡ words) × (6 * length (claims words) ≡ length words)
+
+-- ---- operands (R13.2), each with its sign or the other: x and y, constants and 80000000, results of earlier lines
+abbrev pub Known : ℕ → ℕ → List Claim → ℕ → Type 0
+Known x y earlier p = Among p (x ∷ y ∷ []) ⊎ (Among p (0x8000_0000 ∷ constants) ⊎ Among p (claimedResults earlier))
+
+abbrev pub KnownMeans : Type 0
+KnownMeans = (x y p : ℕ) (earlier : List Claim) → (among p (known x y earlier) ≡ true) ↔ Known x y earlier p
+
+-- a step that there is, operands that are known, and an unused third that is 0
+abbrev pub Third : ℕ → ℕ → List Claim → Step → ℕ → Type 0
+Third x y earlier add z = z ≡ 0
+Third x y earlier subtract z = z ≡ 0
+Third x y earlier multiply z = z ≡ 0
+Third x y earlier fused z = Known x y earlier z
+
+abbrev pub AllowedMeans : Type 0
+AllowedMeans =
+    (x y : ℕ) (earlier : List Claim) (l : Claim)
+    → (allowed (known x y earlier) l ≡ true)
+    ↔ ((o : Step) × (l .step ≡ stepNumber o) × Known x y earlier (l .x) × Known x y earlier (l .y) × Third x y earlier o (l .z))
+
+-- ---- true lines (R13.3), by the step's number
+abbrev pub TrueMeans : Type 0
+TrueMeans =
+    (l : Claim)
+    → (l .step ≡ 1 → (isTrue l ≡ true) ↔ ((l .result ≡ addStep (l .x) (l .y)) × (l .mark ≡ addMark (l .x) (l .y))))
+    × (l .step ≡ 2 → (isTrue l ≡ true) ↔ ((l .result ≡ subStep (l .x) (l .y)) × (l .mark ≡ subMark (l .x) (l .y))))
+    × (l .step ≡ 3 → (isTrue l ≡ true) ↔ ((l .result ≡ mulStep (l .x) (l .y)) × (l .mark ≡ mulMark (l .x) (l .y))))
+    × (l .step ≡ 4 → (isTrue l ≡ true) ↔ ((l .result ≡ fmaStep (l .x) (l .y) (l .z)) × (l .mark ≡ fmaMark (l .x) (l .y) (l .z))))
+
+-- ---- what the answer says (R8.18, R13.5)
+-- lines behind earlier ones, none of which meets a refusal
+unfoldable pub Fit : ℕ → ℕ → List Claim → List Claim → Type 0
+Fit x y earlier [] = Unit {0}
+Fit x y earlier (l ∷ later) = (allowed (known x y earlier) l ≡ true) × (isTrue l ≡ true) × Fit x y (earlier ++ (l ∷ [])) later
+
+-- line n, counted from 1, is the first at fault, and its fault is P
+abbrev pub FirstFault : ℕ → ℕ → List Claim → ℕ → (List Claim → Claim → Type 0) → Type 0
+FirstFault x y ls n P =
+    (earlier : List Claim) × (l : Claim) × (later : List Claim)
+    × (ls ≡ earlier ++ (l ∷ later)) × (n ≡ suc (length earlier)) × Fit x y [] earlier × P earlier l
+
+-- the last two results are the direct pair
+abbrev pub ClaimsPair : Operation → ℕ → ℕ → List Claim → Type 0
+ClaimsPair o x y ls =
+    let p = directPair o binary32 x y in
+    (earlier : List Claim) × (k : Claim) × (l : Claim)
+    × (ls ≡ earlier ++ (k ∷ l ∷ [])) × (k .result ≡ p .first) × (l .result ≡ p .second)
+
+abbrev pub Says : ℕ → ℕ → ℕ → List ℕ → Marked → Type 0
+Says n x y words (refusedAt refusal at) =
+    ((refusal ≡ 10) × (at ≡ 0) × ((n ≡ 0) ⊎ (3 < n)))
+    ⊎ (((refusal ≡ 13) × (at ≡ 0) × (1 ≤ n) × (n ≤ 3) × (¬ Markable (length words)))
+    ⊎ (((refusal ≡ 14) × (1 ≤ n) × (n ≤ 3) × Markable (length words)
+    × FirstFault x y (claims words) at (λ earlier l. allowed (known x y earlier) l ≡ false))
+    ⊎ ((refusal ≡ 15) × (1 ≤ n) × (n ≤ 3) × Markable (length words)
+    × FirstFault x y (claims words) at (λ earlier l. (allowed (known x y earlier) l ≡ true) × (isTrue l ≡ false)))))
+Says n x y words (judged right) =
+    (o : Operation) × (n ≡ operationNumber o) × Markable (length words) × Fit x y [] (claims words)
+    × ((right ≡ true) ↔ ClaimsPair o x y (claims words))
+
+-- an answer is given exactly where what it says holds
+abbrev pub MarkingMeans : Type 0
+MarkingMeans = (n x y : ℕ) (words : List ℕ) (answer : Marked) → (marking n x y words ≡ answer) ↔ Says n x y words answer
+
+-- ---- a model sheet, and two lines that add 80000000 to its first and to its second, is right (R13.6)
+abbrev pub addedMinusZero : ℕ → Line
+addedMinusZero p = line add p 0x8000_0000 p
+
+abbrev pub ModelSheetRight : Type 0
+ModelSheetRight =
+    (o : Operation) (x y : ℕ) → let s = sheetOf o x y in
+    marking (operationNumber o) x y (linesWords (s .lines ++ (addedMinusZero (s .first) ∷ addedMinusZero (s .second) ∷ []))) ≡ judged true

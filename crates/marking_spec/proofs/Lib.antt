@@ -3,3 +3,5 @@ pub mod Claims
 pub mod Counts
 pub mod InOrder
 pub mod Answered
+pub mod Members
+pub mod Said

@@ -9,6 +9,7 @@ use lib.Seq.{drop-cons, take-add, length-take-le}
 use Rattle.worksheet_spec.specs.Lines.{lineSize}
 use Rattle.marking_spec.specs.declared.Claim.{Claim}
 use Rattle.marking_spec.specs.Marking.{claims}
+use Rattle.marking_spec.specs.Theorems.{claimsWords}
 
 -- the line that begins at a word
 abbrev pub claimAt : List ℕ → ℕ → Claim
@@ -61,6 +62,16 @@ claims-count k (a ∷ b ∷ c ∷ []) h = absurd (omega arith)
 claims-count k (a ∷ b ∷ c ∷ d ∷ []) h = absurd (omega arith)
 claims-count k (a ∷ b ∷ c ∷ d ∷ e ∷ []) h = absurd (omega arith)
 claims-count k (a ∷ b ∷ c ∷ d ∷ e ∷ f ∷ ws) h = omega (arith, claims-count (k - 1) ws (omega arith))
+
+pub words-of : (k : ℕ) (ws : List ℕ) → length ws ≡ lineSize * k → claimsWords (claims ws) ≡ ws
+unfolding claims
+words-of k [] h = refl
+words-of k (a ∷ []) h = absurd (omega arith)
+words-of k (a ∷ b ∷ []) h = absurd (omega arith)
+words-of k (a ∷ b ∷ c ∷ []) h = absurd (omega arith)
+words-of k (a ∷ b ∷ c ∷ d ∷ []) h = absurd (omega arith)
+words-of k (a ∷ b ∷ c ∷ d ∷ e ∷ []) h = absurd (omega arith)
+words-of k (a ∷ b ∷ c ∷ d ∷ e ∷ f ∷ ws) h = ap (λ (vs : List ℕ). a ∷ b ∷ c ∷ d ∷ e ∷ f ∷ vs) (words-of (k - 1) ws (omega arith))
 
 first-line : (ws : List ℕ) (l : Claim) (ls : List Claim) → claims ws ≡ l ∷ ls → claims (take lineSize ws) ≡ l ∷ []
 unfolding claims

@@ -5,3 +5,7 @@ pub mod InOrder
 pub mod Answered
 pub mod Members
 pub mod Said
+pub mod MinusZero
+pub mod ModelSheet
+pub mod Computed
+pub mod Theorems

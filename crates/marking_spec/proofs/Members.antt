@@ -125,10 +125,10 @@ allowed-means x y earlier l = (
     third-means x y earlier (stepOf (l .step)) (l .z) .0 (a .3),
   ),
   λ h. let o = h .0 in
-  let n = h .1 in
-  parts-allowed x y earlier l (ap isStep n ∙ step-of o .0) (known-means x y (l .x) earlier .1 (h .2)) (known-means x y (l .y) earlier .1 (h .3))
-  (ap (λ (i : ℕ). thirdAllowed (known x y earlier) (stepOf i) (l .z)) n ∙ ap (λ (i : Step). thirdAllowed (known x y earlier) i (l .z)) (step-of o .1)
-  ∙ third-means x y earlier o (l .z) .1 (h .4)),
+      let n = h .1 in
+      parts-allowed x y earlier l (ap isStep n ∙ step-of o .0) (known-means x y (l .x) earlier .1 (h .2)) (known-means x y (l .y) earlier .1 (h .3))
+      (ap (λ (i : ℕ). thirdAllowed (known x y earlier) (stepOf i) (l .z)) n ∙ ap (λ (i : Step). thirdAllowed (known x y earlier) i (l .z)) (step-of o .1)
+      ∙ third-means x y earlier o (l .z) .1 (h .4)),
 )
 
 -- ---- lines that are true

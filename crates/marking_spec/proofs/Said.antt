@@ -16,7 +16,7 @@ use Rattle.augmented_spec.specs.Direct.{Operation, sum, difference, product, di
 use Rattle.worksheet_spec.specs.Lines.{lineSize}
 use Rattle.marking_spec.specs.declared.Claim.{Claim}
 use Rattle.marking_spec.specs.Marking.{claims, known, allowed, isTrue, claimed, Marked, refusedAt, judged, isRight, inOrder, isMarkable, marking}
-use Rattle.marking_spec.specs.Theorems.{Markable, Fit, FirstFault, ClaimsPair, Says, MarkingMeans}
+use Rattle.marking_spec.specs.Theorems.{Markable, Fit, FirstFault, ClaimsPair, Says, MarkingMeans, RightExactly}
 use Rattle.marking_spec.proofs.Claims.{claims-count}
 use Rattle.marking_spec.proofs.Counts.{markable, is-markable}
 use Rattle.marking_spec.proofs.InOrder.{all-passed, fails-operands, fails-truth, passes, claimed-ends}
@@ -73,11 +73,11 @@ module _ (x y : ℕ) where
     led : (ls : List Claim) (answer : Marked) → LinesSay ls answer → inOrder o x y [] ls ≡ answer
     led ls (refusedAt refusal at) h = elim h [
       | inl g ↦
-        let f = g .1 in
-        ap (inOrder o x y []) (f .3) ∙ reaches [] (f .0) (f .1 ∷ f .2) (f .5) ∙ fails-operands o x y (f .0) (f .1) (f .2) (f .6) ∙ ap₂ refusedAt (sym (g .0)) (sym (f .4))
+          let f = g .1 in
+          ap (inOrder o x y []) (f .3) ∙ reaches [] (f .0) (f .1 ∷ f .2) (f .5) ∙ fails-operands o x y (f .0) (f .1) (f .2) (f .6) ∙ ap₂ refusedAt (sym (g .0)) (sym (f .4))
       | inr g ↦
-        let f = g .1 in
-        ap (inOrder o x y []) (f .3) ∙ reaches [] (f .0) (f .1 ∷ f .2) (f .5) ∙ fails-truth o x y (f .0) (f .1) (f .2) (f .6 .0) (f .6 .1) ∙ ap₂ refusedAt (sym (g .0)) (sym (f .4))
+          let f = g .1 in
+          ap (inOrder o x y []) (f .3) ∙ reaches [] (f .0) (f .1 ∷ f .2) (f .5) ∙ fails-truth o x y (f .0) (f .1) (f .2) (f .6 .0) (f .6 .1) ∙ ap₂ refusedAt (sym (g .0)) (sym (f .4))
     ]
     led ls (judged right) h = ap (inOrder o x y []) (sym (append-nil ls)) ∙ reaches [] ls [] (h .0) ∙ all-passed o x y ls ∙ ap judged (h .1)
 
@@ -96,8 +96,8 @@ module _ (o : Operation) (x y : ℕ) (ls : List Claim) where
   right-means h =
       let p = directPair o binary32 x y in (
         λ r. let e = ends-in-two ls h in
-        let q = both-equal _ _ _ _ .0 (sym (ap (claimed (p .first) (p .second)) (e .3) ∙ claimed-ends (p .first) (p .second) (e .0) (e .1) (e .2)) ∙ r) in
-        (e .0, e .1, e .2, e .3, q .0, q .1),
+            let q = both-equal _ _ _ _ .0 (sym (ap (claimed (p .first) (p .second)) (e .3) ∙ claimed-ends (p .first) (p .second) (e .0) (e .1) (e .2)) ∙ r) in
+            (e .0, e .1, e .2, e .3, q .0, q .1),
         λ e. ap (claimed (p .first) (p .second)) (e .3) ∙ claimed-ends (p .first) (p .second) (e .0) (e .1) (e .2) ∙ both-equal _ _ _ _ .1 (e .4, e .5),
       )
 
@@ -172,3 +172,12 @@ module _ (n x y : ℕ) (words : List ℕ) where
 
 pub marking-means : MarkingMeans
 marking-means n x y words answer = (λ e. subst (Says n x y words) e (said n x y words), answered n x y words answer)
+
+-- lines that meet no refusal are judged by their pair
+pub right-exactly : RightExactly
+right-exactly o x y words m f =
+    let n = number-of o in
+    let is : LinesSay x y (operationOf (operationNumber o)) (claims words) (judged (isRight o x y (claims words))) = (f, ap (λ (a : Operation). isRight a x y (claims words)) (n .2)) in
+    let e = by-lines (operationNumber o) x y words (n .0) (n .1) m (judged (isRight o x y (claims words))) is in
+    let means = right-means o x y (claims words) (enough (operationNumber o) x y words m) in
+    (λ p. e ∙ ap judged (means .1 p), λ q. e ∙ ap judged (refute (isRight o x y (claims words)) (λ r. q (means .0 r))))

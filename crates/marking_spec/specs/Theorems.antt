@@ -104,6 +104,13 @@ Says n x y words (judged right) =
 abbrev pub MarkingMeans : Type 0
 MarkingMeans = (n x y : ℕ) (words : List ℕ) (answer : Marked) → (marking n x y words ≡ answer) ↔ Says n x y words answer
 
+-- in particular lines that meet no refusal are right where the last two results are the direct pair in every bit, and not right otherwise
+abbrev pub RightExactly : Type 0
+RightExactly =
+    (o : Operation) (x y : ℕ) (words : List ℕ) → Markable (length words) → Fit x y [] (claims words)
+    → (ClaimsPair o x y (claims words) → marking (operationNumber o) x y words ≡ judged true)
+    × (¬ ClaimsPair o x y (claims words) → marking (operationNumber o) x y words ≡ judged false)
+
 -- ---- a model sheet, and two lines that add 80000000 to its first and to its second, is right (R13.6)
 abbrev pub addedMinusZero : ℕ → Line
 addedMinusZero p = line add p 0x8000_0000 p
@@ -112,3 +119,38 @@ abbrev pub ModelSheetRight : Type 0
 ModelSheetRight =
     (o : Operation) (x y : ℕ) → let s = sheetOf o x y in
     marking (operationNumber o) x y (linesWords (s .lines ++ (addedMinusZero (s .first) ∷ addedMinusZero (s .second) ∷ []))) ≡ judged true
+
+-- ---- examples: p + (-0) on a line
+abbrev pub plusMinusZero : ℕ → ℕ → List ℕ → List ℕ
+plusMinusZero p mark words = 1 ∷ p ∷ 0x8000_0000 ∷ 0 ∷ p ∷ mark ∷ words
+
+-- 1 + 2^-24 is its own pair: two lines that show its halves are right, and not in each other's place. The difference of 1 and 1 is +0 twice,
+-- and -0 twice is not right.
+abbrev pub MarkedExamples : Type 0
+MarkedExamples =
+    (marking 1 0x3f80_0000 0x3380_0000 (plusMinusZero 0x3f80_0000 0 (plusMinusZero 0x3380_0000 0 [])) ≡ judged true)
+    × (marking 1 0x3f80_0000 0x3380_0000 (plusMinusZero 0x3380_0000 0 (plusMinusZero 0x3f80_0000 0 [])) ≡ judged false)
+    × (marking 2 0x3f80_0000 0x3f80_0000 (plusMinusZero 0x0000_0000 0 (plusMinusZero 0x0000_0000 0 [])) ≡ judged true)
+    × (marking 2 0x3f80_0000 0x3f80_0000 (plusMinusZero 0x8000_0000 0 (plusMinusZero 0x8000_0000 0 [])) ≡ judged false)
+    -- operations 0 and 4, before anything else; eleven words; one line
+    × (marking 0 0 0 [] ≡ refusedAt 10 0) × (marking 4 0 0 (plusMinusZero 0 0 (plusMinusZero 0 0 [])) ≡ refusedAt 10 0)
+    × (marking 1 0 0 (plusMinusZero 0 0 (1 ∷ 0 ∷ 0 ∷ 0 ∷ 0 ∷ [])) ≡ refusedAt 13 0) × (marking 1 0 0 (plusMinusZero 0 0 []) ≡ refusedAt 13 0)
+    -- step 5; an unused third that is not 0, on a line that is false too; 40000001, which is no constant; a line's own result
+    × (marking 1 0 0 (plusMinusZero 0 0 (5 ∷ 0 ∷ 0 ∷ 0 ∷ 0 ∷ 0 ∷ [])) ≡ refusedAt 14 2)
+    × (marking 1 0 0 (1 ∷ 0 ∷ 0 ∷ 1 ∷ 1 ∷ 1 ∷ plusMinusZero 0 0 []) ≡ refusedAt 14 1)
+    × (marking 1 0 0 (plusMinusZero 0 0 (plusMinusZero 0x4000_0001 0 [])) ≡ refusedAt 14 2)
+    × (marking 1 0 0 (plusMinusZero 0x3f80_0000 0 (plusMinusZero 0 0 [])) ≡ refusedAt 14 1)
+    -- a result and a mark that are false, on the first line at fault of two
+    × (marking 1 0 0 (1 ∷ 0 ∷ 0 ∷ 0 ∷ 1 ∷ 0 ∷ 5 ∷ 0 ∷ 0 ∷ 0 ∷ 0 ∷ 0 ∷ []) ≡ refusedAt 15 1)
+    × (marking 1 0 0 (plusMinusZero 0 0 (plusMinusZero 0 1 [])) ≡ refusedAt 15 2)
+    -- 2 times 3F800001, of which the flipped result is taken from 2 in a fused step with the factor 1/2 and x: 1/2 times x less 2x
+    × (marking 3 0x3f80_0001 0x3f80_0000
+    (3 ∷ 0x4000_0000 ∷ 0x3f80_0001 ∷ 0 ∷ 0x4000_0001 ∷ 0 ∷ 4 ∷ 0x3f00_0000 ∷ 0x3f80_0001 ∷ 0xc000_0001 ∷ 0xbfc0_0002 ∷ 1
+    ∷ plusMinusZero 0x3f80_0001 0 (plusMinusZero 0x0000_0000 0 []))
+    ≡ judged true)
+
+-- ---- all of them: `proofs/Theorems.antt` proves this
+abbrev pub All : Type 0
+All =
+    MarkingSizes × MarkingConstants × ClaimsMeans × KnownMeans × AllowedMeans × TrueMeans × MarkingMeans × RightExactly × ModelSheetRight
+    × MarkedExamples

@@ -71,7 +71,7 @@ filled-pair o x y words = go (isOperation o) (ltb (length words) sheetSize) refl
     go true false e h k = subst (HasDirectPair o x y) (sym (fills o x y words e (k tt) ∙ answer-is (operationOf o) x y)) refl
 
 -- ---- the words
-words-length : (ls : List Line) → length (linesWords ls) ≡ lineSize * length ls
+pub words-length : (ls : List Line) → length (linesWords ls) ≡ lineSize * length ls
 unfolding linesWords
 words-length [] = refl
 words-length (l ∷ ls) = length-append (lineWords l) (linesWords ls) ∙ omega (arith, words-length ls)

@@ -44,25 +44,6 @@ model-sheet-right = model.model-sheet-right
 pub marked-examples : MarkedExamples
 marked-examples = computed.marked-examples
 
-pub allowed-means : AllowedMeans
-allowed-means = members.allowed-means
-
-pub true-means : TrueMeans
-true-means = members.true-means
-
-pub marking-means : MarkingMeans
-marking-means = answers.marking-means
-
-pub right-exactly : RightExactly
-right-exactly = answers.right-exactly
-
-pub model-sheet-right : ModelSheetRight
-model-sheet-right = model.model-sheet-right
-
-pub marked-examples : MarkedExamples
-unfolding marking addStep addMark mulStep mulMark fmaStep fmaMark
-marked-examples = (refl, refl, refl, refl, refl, refl, refl, refl, refl, refl, refl, refl, refl, refl, refl)
-
 pub all : All
 all = (
   marking-sizes,

@@ -4,7 +4,7 @@
 use Prim.Native.Nat.{ℕ, _≤_, _<_}
 use mathlib.Core.Path.{_≡_}
 use mathlib.Core.Logic.{_⊎_, _≢_}
-use mathlib.Core.Bool.{true, false}
+use mathlib.Core.Bool.{Bool, true, false}
 use mathlib.Core.List.{List}
 use lib.ListN.{length}
 use Rattle.rounding_spec.specs.Format.{binary32}
@@ -18,10 +18,14 @@ use Rattle.worksheet_spec.specs.Sheets.{sheetOf}
 use Rattle.worksheet_spec.specs.Theorems.{SheetWritten}
 use Rattle.conservation_spec.specs.Replay.{Asking, Lent}
 use Rattle.conservation_spec.specs.Theorems.{ReplayBy, AllAsked}
+use Rattle.marking_spec.specs.Marking.{refusedAt, judged, marking}
+use Rattle.marking_spec.specs.Theorems.{Says}
+use Rattle.jirmeklo.specs.declared.marks.FlatMarked.{FlatMarked}
 use Rattle.jirmeklo.specs.declared.sheets.FlatFilled.{FlatFilled}
 use Rattle.jirmeklo.specs.declared.totals.FlatReading.{FlatReading}
 use Rattle.jirmeklo.specs.Totals.{readingNumbers, ClearsNumbered}
 use Rattle.jirmeklo.specs.Sheets.{FillsNumbered, ReplaysNumbered}
+use Rattle.jirmeklo.specs.Marks.{markedNumbers}
 
 -- ---- totals
 -- R8.9: 5, or 0 where it is carried out
@@ -66,6 +70,14 @@ ReplayNumbers =
     (q : Asking) (before after : Lent) (r : ℕ) → ReplaysNumbered q before r after
     → ReplayBy q before (λ m. (r ≡ m) × (after ≡ before)) ((r ≡ 0) × AllAsked q before after)
 
+-- ---- marking
+-- R8.18, R13.5: the refusal's number, its line or 0, and not right; or 0 twice, and whether the lines are right
+abbrev pub MarkNumbers : Type 0
+MarkNumbers =
+    (n x y : ℕ) (words : List ℕ) (r : FlatMarked) → r ≡ markedNumbers (marking n x y words)
+    → ((refusal at : ℕ) → Says n x y words (refusedAt refusal at) → (r .refusal ≡ refusal) × (r .line ≡ at) × (r .right ≡ false))
+    × ((right : Bool) → Says n x y words (judged right) → (r .refusal ≡ 0) × (r .line ≡ 0) × (r .right ≡ right))
+
 -- ---- all of them: `proofs/Theorems.antt` proves this
 abbrev pub All : Type 0
-All = ClearNumbers × ReadNumbers × FillNumbers × ReplayNumbers
+All = ClearNumbers × ReadNumbers × FillNumbers × ReplayNumbers × MarkNumbers

@@ -11,15 +11,11 @@ use Rattle.conservation_spec.specs.Replay.{replaying}
 use Rattle.conservation_spec.specs.Theorems.{AllAsked}
 use Rattle.conservation_spec.proofs.Refusals.{replay-by, replay-unchanged}
 use Rattle.conservation_spec.proofs.Contract.{all-asked}
-use Rattle.marking_spec.specs.Marking.{Marked, refusedAt, judged, marking}
-use Rattle.marking_spec.proofs.Theorems.{marking-means}
-use Rattle.jirmeklo.specs.declared.marks.FlatMarked.{FlatMarked}
 use Rattle.jirmeklo.specs.declared.sheets.FlatFilled.{FlatFilled}
 use Rattle.jirmeklo.specs.declared.totals.FlatReading.{FlatReading}
 use Rattle.jirmeklo.specs.Totals.{noReading, readingNumbers}
 use Rattle.jirmeklo.specs.Sheets.{noSheet, filledNumbers}
-use Rattle.jirmeklo.specs.Marks.{markedNumbers}
-use Rattle.jirmeklo.specs.Theorems.{ClearNumbers, NoPairRead, ReadNumbers, NoSheetFilled, FillNumbers, ReplayNumbers, MarkNumbers, All}
+use Rattle.jirmeklo.specs.Theorems.{ClearNumbers, NoPairRead, ReadNumbers, NoSheetFilled, FillNumbers, ReplayNumbers, All}
 
 pub clear-numbers : ClearNumbers
 clear-numbers before after n h = cleared-as refusalOf before n after (h .0) (h .1)
@@ -65,21 +61,5 @@ replay-numbers q before after r h =
     (λ m e. (h .answered ∙ ap refusalOf e, h .left ∙ replay-unchanged q before m e))
     (λ e. let a = h .answered ∙ ap refusalOf e in (a, all-asked q before after e (h .left) (rw a at (h .conserves))))
 
--- ---- marking
-pub mark-numbers : MarkNumbers
-mark-numbers n x y words r h =
-    let fields : (a : Marked) → marking n x y words ≡ a → r ≡ markedNumbers a = λ a e. h ∙ ap markedNumbers e in (
-      λ refusal at s. let e = fields (refusedAt refusal at) (marking-means n x y words (refusedAt refusal at) .1 s) in (
-        ap (λ (m : FlatMarked). m .refusal) e,
-        ap (λ (m : FlatMarked). m .line) e,
-        ap (λ (m : FlatMarked). m .right) e,
-      ),
-      λ right s. let e = fields (judged right) (marking-means n x y words (judged right) .1 s) in (
-        ap (λ (m : FlatMarked). m .refusal) e,
-        ap (λ (m : FlatMarked). m .line) e,
-        ap (λ (m : FlatMarked). m .right) e,
-      ),
-    )
-
 pub all : All
-all = (clear-numbers, read-numbers, fill-numbers, replay-numbers, mark-numbers)
+all = (clear-numbers, read-numbers, fill-numbers, replay-numbers)

@@ -1,4 +1,3 @@
 pub mod Totals
 pub mod Sheets
-pub mod Marks
 pub mod Theorems

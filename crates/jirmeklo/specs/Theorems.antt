@@ -1,10 +1,11 @@
 -- What is proved of the numbers that the exported calls answer: each field of them, and what becomes of the lent words (R8). The calls that
 -- add to a total promise `AddsNumbered`, the one that joins two `JoinsNumbered`, and the one that carries an old one over
--- `CarriesNumbered`: accumulator_spec has their statements, `AddsNumberedMeans`, `JoinsNumberedMeans` and `CarriesNumberedMeans`.
+-- `CarriesNumbered`: accumulator_spec has their statements, `AddsNumberedMeans`, `JoinsNumberedMeans` and `CarriesNumberedMeans`. What the
+-- numbers of the one that marks lines say is `NumbersMean` of marking_spec.
 use Prim.Native.Nat.{ℕ, _≤_, _<_}
 use mathlib.Core.Path.{_≡_}
 use mathlib.Core.Logic.{_⊎_, _≢_}
-use mathlib.Core.Bool.{Bool, true, false}
+use mathlib.Core.Bool.{true, false}
 use mathlib.Core.List.{List}
 use lib.ListN.{length}
 use Rattle.rounding_spec.specs.Format.{binary32}
@@ -18,14 +19,10 @@ use Rattle.worksheet_spec.specs.Sheets.{sheetOf}
 use Rattle.worksheet_spec.specs.Theorems.{SheetWritten}
 use Rattle.conservation_spec.specs.Replay.{Asking, Lent}
 use Rattle.conservation_spec.specs.Theorems.{ReplayBy, AllAsked}
-use Rattle.marking_spec.specs.Marking.{refusedAt, judged, marking}
-use Rattle.marking_spec.specs.Theorems.{Says}
-use Rattle.jirmeklo.specs.declared.marks.FlatMarked.{FlatMarked}
 use Rattle.jirmeklo.specs.declared.sheets.FlatFilled.{FlatFilled}
 use Rattle.jirmeklo.specs.declared.totals.FlatReading.{FlatReading}
 use Rattle.jirmeklo.specs.Totals.{readingNumbers, ClearsNumbered}
 use Rattle.jirmeklo.specs.Sheets.{FillsNumbered, ReplaysNumbered}
-use Rattle.jirmeklo.specs.Marks.{markedNumbers}
 
 -- ---- totals
 -- R8.9: 5, or 0 where it is carried out
@@ -70,14 +67,6 @@ ReplayNumbers =
     (q : Asking) (before after : Lent) (r : ℕ) → ReplaysNumbered q before r after
     → ReplayBy q before (λ m. (r ≡ m) × (after ≡ before)) ((r ≡ 0) × AllAsked q before after)
 
--- ---- marking
--- R8.18, R13.5: the refusal's number, its line or 0, and not right; or 0 twice, and whether the lines are right
-abbrev pub MarkNumbers : Type 0
-MarkNumbers =
-    (n x y : ℕ) (words : List ℕ) (r : FlatMarked) → r ≡ markedNumbers (marking n x y words)
-    → ((refusal at : ℕ) → Says n x y words (refusedAt refusal at) → (r .refusal ≡ refusal) × (r .line ≡ at) × (r .right ≡ false))
-    × ((right : Bool) → Says n x y words (judged right) → (r .refusal ≡ 0) × (r .line ≡ 0) × (r .right ≡ right))
-
 -- ---- all of them: `proofs/Theorems.antt` proves this
 abbrev pub All : Type 0
-All = ClearNumbers × ReadNumbers × FillNumbers × ReplayNumbers × MarkNumbers
+All = ClearNumbers × ReadNumbers × FillNumbers × ReplayNumbers

@@ -1,5 +1,4 @@
-// The library's functions for programs in C and other languages: steps and pairs here, totals, sheets and marking in files of their own.
-mod marks;
+// The library's functions for programs in C and other languages: steps and pairs here, totals and sheets in files of their own.
 mod sheets;
 mod totals;
 

@@ -1,9 +1,11 @@
-// Step sheets, and lists of questions over two totals, for programs in C. Lent words are a pointer and a count.
+// Step sheets, a candidate's lines, and lists of questions over two totals, for programs in C. Lent words are a pointer and a count.
 use augmented::Flags;
 use conservation::Replayed;
+use marking_spec::MarkedNumbers;
 use worksheet::Filled;
 ghost use mathlib.Core.Path.{_≡_};
 ghost use Rattle.pattern_spec.specs.Answer.{refusalOf};
+ghost use Rattle.marking_spec.specs.Marking.{marking, markedNumbers};
 ghost use Rattle.conservation.specs.Answers.{answerReplayed};
 ghost use Rattle.jirmeklo.specs.Sheets.{noSheet, FillsNumbered, ReplaysNumbered};
 
@@ -53,6 +55,14 @@ fn refused(refusal: u32) -> FlatFilled
             inexact: false,
         },
     }
+}
+
+#[no_mangle]
+pub extern "C" fn jirmeklo_mark(operation: u32, x: u32, y: u32, lines: &[u32]) -> MarkedNumbers
+    ensures { λ r. ⌜ r ≡ markedNumbers (marking operation x y (now (lines .entry))) ⌝ }
+    ensures { λ _. ⌜ now (lines .exit) ≡ now (lines .entry) ⌝ }
+{
+    marking::numbers::mark(operation, x, y, lines)
 }
 
 #[no_mangle]

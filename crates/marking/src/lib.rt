@@ -1,4 +1,6 @@
 // Marks the lines by which a candidate reached a pair: first each line in its order, then the pair that they claim.
+pub mod numbers;
+
 use augmented_spec::DIFFERENCE;
 use augmented_spec::PRODUCT;
 use augmented_spec::Pair;
@@ -31,6 +33,7 @@ pub enum Marked {
 
 pub fn mark(operation: u32, x: u32, y: u32, lines: &[u32]) -> Marked
     ensures { λ r. ⌜ answerMarked r ≡ marking operation x y (now (lines .entry)) ⌝ }
+    ensures { λ _. ⌜ now (lines .exit) ≡ now (lines .entry) ⌝ }
 {
     if operation < SUM {
         return Marked::Operation;

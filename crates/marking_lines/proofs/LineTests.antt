@@ -6,9 +6,9 @@ use Prim.Native.Nat.{ℕ, _≤_, _<_}
 use native.Mathlib.Omega.{arith}
 use borrow.Author.Tests.{le-leb, lt-leb, eq-eqb, ne-eqb, eqb-false}
 use lib.Dec.{eqb}
-use Rattle.worksheet_spec.specs.Lines.{resultOf, markOf}
+use Rattle.worksheet_spec.specs.Lines.{markOf}
 use Rattle.marking_spec.specs.declared.Claim.{Claim}
-use Rattle.marking_spec.specs.Marking.{stepOf, among, thirdAllowed, allowed, isTrue}
+use Rattle.marking_spec.specs.Marking.{stepOf, stepResult, among, thirdAllowed, allowed, isTrue}
 
 module _ (ks : List ℕ) (l : Claim) where
   pub below-steps : l .step < 1 → false ≡ allowed ks l
@@ -47,7 +47,7 @@ module _ (ks : List ℕ) (l : Claim) where
               absurd (omega (arith, eqb-false (l .step) 1 is, eqb-false (l .step) 2 js, eqb-false (l .step) 3 ks'))
 
 -- ---- a true line
-module _ (l : Claim) {r m : ℕ} (result-is : r ≡ resultOf (stepOf (l .step)) (l .x) (l .y) (l .z)) (mark-is : m ≡ markOf (stepOf (l .step)) (l .x) (l .y) (l .z)) where
+module _ (l : Claim) {r m : ℕ} (result-is : r ≡ stepResult (stepOf (l .step)) (l .x) (l .y) (l .z)) (mark-is : m ≡ markOf (stepOf (l .step)) (l .x) (l .y) (l .z)) where
   pub false-result : (l .result ≡ r → ⊥) → false ≡ isTrue l
   unfolding isTrue
   false-result n = rw (← result-is, ne-eqb (l .result) r n)

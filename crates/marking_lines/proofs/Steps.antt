@@ -4,11 +4,11 @@ use Prim.Native.Nat.{ℕ}
 use borrow.Author.Tests.{ne-eqb}
 use Rattle.binary32_spec.specs.Steps.{addStep, subStep, mulStep, fmaStep}
 use Rattle.binary32_spec.specs.Marks.{addMark, subMark, mulMark, fmaMark}
-use Rattle.worksheet_spec.specs.Lines.{resultOf, markOf}
-use Rattle.marking_spec.specs.Marking.{stepOf}
+use Rattle.worksheet_spec.specs.Lines.{markOf}
+use Rattle.marking_spec.specs.Marking.{stepOf, stepResult}
 
 abbrev pub Numbered : (n x y z r m : ℕ) → Type 0
-Numbered n x y z r m = (r ≡ resultOf (stepOf n) x y z) × (m ≡ markOf (stepOf n) x y z)
+Numbered n x y z r m = (r ≡ stepResult (stepOf n) x y z) × (m ≡ markOf (stepOf n) x y z)
 
 module _ (n x y z r m : ℕ) where
   pub step-add : n ≡ 1 → r ≡ addStep x y → m ≡ addMark x y → Numbered n x y z r m

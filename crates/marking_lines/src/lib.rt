@@ -8,8 +8,8 @@ use worksheet_spec::FUSED;
 use worksheet_spec::MULTIPLY;
 use worksheet_spec::SUBTRACT;
 ghost use mathlib.Core.Path.{_≡_};
-ghost use Rattle.worksheet_spec.specs.Lines.{resultOf, markOf};
-ghost use Rattle.marking_spec.specs.Marking.{claims, stepOf, known, allowed, isTrue};
+ghost use Rattle.worksheet_spec.specs.Lines.{markOf};
+ghost use Rattle.marking_spec.specs.Marking.{claims, stepOf, stepResult, known, allowed, isTrue};
 
 pub fn allowed(x: u32, y: u32, earlier: &[u32], line: Claim) -> bool
     ensures { λ r. ⌜ r ≡ allowed (known x y (claims (now (earlier .entry)))) line ⌝ }
@@ -43,7 +43,7 @@ pub fn is_true(line: Claim) -> bool
 }
 
 fn step(number: u32, x: u32, y: u32, z: u32) -> Outcome
-    ensures { λ r. ⌜ (r .result ≡ resultOf (stepOf number) x y z) × (r .mark ≡ markOf (stepOf number) x y z) ⌝ }
+    ensures { λ r. ⌜ (r .result ≡ stepResult (stepOf number) x y z) × (r .mark ≡ markOf (stepOf number) x y z) ⌝ }
 {
     match number {
         ADD => binary32::add(x, y),

@@ -9,4 +9,4 @@ use Rattle.marking_spec.specs.Theorems.{MarkedExamples}
 
 pub marked-examples : MarkedExamples
 unfolding marking addStep addMark mulStep mulMark fmaStep fmaMark keep lastPlace size
-marked-examples = (refl, refl, refl, refl, refl, refl, refl, refl, refl, refl, refl, refl, refl, refl, refl)
+marked-examples = (refl, refl, refl, refl, refl, refl, refl, refl, refl, refl, refl, refl, refl, refl, refl, refl)

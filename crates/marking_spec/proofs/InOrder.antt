@@ -12,7 +12,7 @@ use Rattle.augmented_spec.specs.Direct.{Operation, directPair}
 use Rattle.rounding_spec.specs.Format.{binary32}
 use Rattle.worksheet_spec.specs.Lines.{lineSize}
 use Rattle.marking_spec.specs.declared.Claim.{Claim}
-use Rattle.marking_spec.specs.Marking.{claims, known, allowed, isTrue, claimed, Marked, refusedAt, judged, isRight, inOrder}
+use Rattle.marking_spec.specs.Marking.{claims, known, allowed, isTrue, lastTwoAre, Marked, refusedAt, judged, isRight, inOrder}
 use Rattle.marking_spec.proofs.Claims.{claims-at, claims-split, claims-next, claims-count, claims-short}
 
 module _ (o : Operation) (x y : ℕ) where
@@ -67,8 +67,8 @@ module _ (o : Operation) (x y : ℕ) where
           ∙ ap (λ (ls : List Claim). inOrder o x y ls behind) (sym (claims-next ws at k whole l inside is))
 
 -- ---- the claimed pair
-pub claimed-ends : (first second : ℕ) (ls : List Claim) (k l : Claim) → claimed first second (ls ++ (k ∷ l ∷ [])) ≡ eqb (k .result) first && eqb (l .result) second
-unfolding claimed
+pub claimed-ends : (first second : ℕ) (ls : List Claim) (k l : Claim) → lastTwoAre first second (ls ++ (k ∷ l ∷ [])) ≡ eqb (k .result) first && eqb (l .result) second
+unfolding lastTwoAre
 claimed-ends first second [] k l = refl
 claimed-ends first second (i ∷ []) k l = refl
 claimed-ends first second (i ∷ j ∷ []) k l = refl
@@ -90,5 +90,5 @@ module _ (o : Operation) (x y : ℕ) (ws : List ℕ) (at last k : ℕ) (whole : 
   pub right-is : isRight o x y (claims ws) ≡ eqb (i .result) (directPair o binary32 x y .first) && eqb (j .result) (directPair o binary32 x y .second)
   unfolding isRight
   right-is =
-      ap (claimed (directPair o binary32 x y .first) (directPair o binary32 x y .second)) lines-are
+      ap (lastTwoAre (directPair o binary32 x y .first) (directPair o binary32 x y .second)) lines-are
       ∙ claimed-ends (directPair o binary32 x y .first) (directPair o binary32 x y .second) (claims (take at ws)) i j

@@ -7,5 +7,6 @@ pub mod Members
 pub mod Said
 pub mod MinusZero
 pub mod ModelSheet
+pub mod FilledSheet
 pub mod Computed
 pub mod Theorems

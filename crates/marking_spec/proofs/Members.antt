@@ -12,7 +12,7 @@ use Rattle.worksheet_spec.specs.Lines.{Step, add, subtract, multiply, fused, st
 use Rattle.worksheet_spec.specs.Theorems.{Among}
 use Rattle.marking_spec.specs.declared.Claim.{Claim}
 use Rattle.marking_spec.specs.Marking.{claimedResults, isStep, stepOf, constants, minusZero, among, known, thirdAllowed, allowed, isTrue}
-use Rattle.marking_spec.specs.Theorems.{Known, KnownMeans, Third, AllowedMeans, TrueMeans}
+use Rattle.marking_spec.specs.Theorems.{IsResult, MayStand, KnownMeans, Third, AllowedMeans, TrueMeans}
 use Rattle.marking_spec.proofs.Lookup.{either, among-append}
 
 -- ---- members of lists
@@ -45,6 +45,24 @@ true-among p (k ∷ ks) h =
       ]
     ]
 
+-- ---- results of lines
+result-of : (ls : List Claim) (p : ℕ) → Among p (claimedResults ls) → IsResult ls p
+unfolding Among
+result-of [] p h = absurd h
+result-of (l ∷ ls) p h =
+    elim h [
+      | inl e ↦ ([], l, ls, refl, inl e)
+      | inr g ↦ elim g [
+        | inl e ↦ ([], l, ls, refl, inr e)
+        | inr i ↦ let r = result-of ls p i in (l ∷ r .0, r .1, r .2, ap (λ (ks : List Claim). l ∷ ks) (r .3), r .4)
+      ]
+    ]
+
+of-result : (before : List Claim) (l : Claim) (after : List Claim) (p : ℕ) → (p ≡ l .result) ⊎ (p ≡ minus (l .result)) → Among p (claimedResults (before ++ (l ∷ after)))
+unfolding Among
+of-result [] l after p h = elim h [ inl e ↦ inl e | inr e ↦ inr (inl e) ]
+of-result (k ∷ before) l after p h = inr (inr (of-result before l after p h))
+
 -- ---- what is known
 module _ (x y p : ℕ) (earlier : List Claim) where
   abbrev asked : List ℕ
@@ -59,15 +77,15 @@ module _ (x y p : ℕ) (earlier : List Claim) where
   parts : among p (known x y earlier) ≡ among p asked || (among p fixed || among p found)
   parts = among-append p asked (fixed ++ found) ∙ ap (λ (b : Bool). among p asked || b) (among-append p fixed found)
 
-  pub known-means : (among p (known x y earlier) ≡ true) ↔ Known x y earlier p
+  pub known-means : (among p (known x y earlier) ≡ true) ↔ MayStand x y earlier p
   known-means = (
     λ e. elim (either-of (among p asked) (among p fixed || among p found) (sym parts ∙ e)) [
       | inl h ↦ inl (among-true p asked h)
-      | inr h ↦ elim (either-of (among p fixed) (among p found) h) [ inl i ↦ inr (inl (among-true p fixed i)) | inr i ↦ inr (inr (among-true p found i)) ]
+      | inr h ↦ elim (either-of (among p fixed) (among p found) h) [ inl i ↦ inr (inl (among-true p fixed i)) | inr i ↦ inr (inr (result-of earlier p (among-true p found i))) ]
     ],
     λ h. parts ∙ one-true (among p asked) (among p fixed || among p found) (elim h [
       | inl i ↦ inl (true-among p asked i)
-      | inr i ↦ inr (one-true (among p fixed) (among p found) (elim i [ inl j ↦ inl (true-among p fixed j) | inr j ↦ inr (true-among p found j) ]))
+      | inr i ↦ inr (one-true (among p fixed) (among p found) (elim i [ inl j ↦ inl (true-among p fixed j) | inr j ↦ inr (true-among p found (rw (j .3) (of-result (j .0) (j .1) (j .2) p (j .4)))) ]))
     ]),
   )
 

@@ -10,11 +10,12 @@ use mathlib.Core.Logic.{inl, inr}
 use lib.Dec.{ltb}
 use Rattle.rounding_spec.specs.Format.{binary32, infinity}
 use Rattle.rounding_spec.specs.declared.Ties.the-variants.{ToEven}
-use Rattle.rounding_spec.specs.Value.{Value, nan, infinite, finite, Fits, decode, encode, signed, round}
-use Rattle.rounding_spec.proofs.NaN.{quieted-is}
-use Rattle.pattern_spec.specs.Exact.{plusFinite, plus, finer}
+use Rattle.rounding_spec.specs.Value.{Value, nan, infinite, finite, Fits, isNaN, decode, encode, signed, round}
+use Rattle.rounding_spec.proofs.NaN.{quieted-is, nan-swap}
+use Rattle.pattern_spec.specs.Exact.{plus, finer}
+use Rattle.pattern_spec.proofs.Exchanged.{plus-comm}
 use Rattle.binary32_spec.specs.Steps.{addValue, result, addStep}
-use Rattle.binary32_spec.proofs.Result.{result-number, decode-result, result-quiet, result-width, add-step}
+use Rattle.binary32_spec.proofs.Result.{result-number, decode-result, result-quiet, result-width, result-same, add-step}
 use Rattle.binary32_spec.proofs.Theorems.{step-nan, step-infinite}
 use Rattle.errorfree_spec.proofs.Steps.{round-whole}
 use Rattle.augmented_spec.specs.Direct.{Operation, directPair}
@@ -39,6 +40,10 @@ encoded : (s : Bool) → signed binary32 s (infinity binary32) ≡ encode binary
 unfolding encode
 encoded s = refl
 
+add-value-comm : (u v : Value) → addValue binary32 v u ≡ addValue binary32 u v
+unfolding addValue
+add-value-comm u v = ap (λ (w : Value). round ToEven binary32 (finer binary32 w)) (plus-comm u v)
+
 -- of a value v of the format, whose pattern goes by some operands
 module _ (operands : List ℕ) where
   stays : (v : Value) → Fits binary32 v → let p = result binary32 operands v in addStep p minusZero ≡ p
@@ -57,10 +62,27 @@ module _ (operands : List ℕ) where
       add-step p minusZero ∙ ap (result binary32 (p ∷ minusZero ∷ [])) (ap₂ (addValue binary32) is minus-zero-value ∙ add-value s a h)
       ∙ result-number binary32 (p ∷ minusZero ∷ []) (finite s a) refl ∙ sym (result-number binary32 operands (finite s a) refl)
 
--- of both halves of a pair
-module _ (o : Operation) (x y : ℕ) where
-  pub first-stays : addStep (directPair o binary32 x y .first) minusZero ≡ directPair o binary32 x y .first
-  first-stays = rw (first-pattern o binary32 x y) (stays (x ∷ secondOperand o binary32 y ∷ []) (first o binary32 x y) (first-fits o binary32 x y))
+-- ---- in the other order
+exchanged : (p : ℕ) → addStep minusZero p ≡ addStep p minusZero
+exchanged p =
+    let v = decode binary32 p in
+    add-step minusZero p ∙ ap (result binary32 (minusZero ∷ p ∷ [])) (add-value-comm v (decode binary32 minusZero))
+    ∙ result-same binary32 (minusZero ∷ p ∷ []) (p ∷ minusZero ∷ []) (nan-swap binary32 minusZero p (ap isNaN minus-zero-value)) (addValue binary32 v (decode binary32 minusZero))
+    ∙ sym (add-step p minusZero)
 
-  pub second-stays : addStep (directPair o binary32 x y .second) minusZero ≡ directPair o binary32 x y .second
-  second-stays = rw (second-pattern o binary32 x y) (stays (x ∷ secondOperand o binary32 y ∷ []) (second o binary32 x y) (second-fits o binary32 x y))
+-- ---- both halves of a pair, in either order
+abbrev pub Stays : ℕ → Type 0
+Stays p = (addStep p minusZero ≡ p) × (addStep minusZero p ≡ p)
+
+module _ (o : Operation) (x y : ℕ) where
+  pub first-stays : Stays (directPair o binary32 x y .first)
+  first-stays =
+      let e : addStep (directPair o binary32 x y .first) minusZero ≡ directPair o binary32 x y .first =
+      rw (first-pattern o binary32 x y) (stays (x ∷ secondOperand o binary32 y ∷ []) (first o binary32 x y) (first-fits o binary32 x y)) in
+      (e, exchanged (directPair o binary32 x y .first) ∙ e)
+
+  pub second-stays : Stays (directPair o binary32 x y .second)
+  second-stays =
+      let e : addStep (directPair o binary32 x y .second) minusZero ≡ directPair o binary32 x y .second =
+      rw (second-pattern o binary32 x y) (stays (x ∷ secondOperand o binary32 y ∷ []) (second o binary32 x y) (second-fits o binary32 x y)) in
+      (e, exchanged (directPair o binary32 x y .second) ∙ e)

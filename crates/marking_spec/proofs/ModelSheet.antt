@@ -20,11 +20,11 @@ use Rattle.worksheet_spec.proofs.Derivation.{here, there, left, right}
 use Rattle.worksheet_spec.proofs.Filling.{words-length}
 use Rattle.worksheet_spec.proofs.Theorems.{each-line, derived, line-count, foot-is-pair}
 use Rattle.marking_spec.specs.declared.Claim.{Claim}
-use Rattle.marking_spec.specs.Marking.{claims, claimedResults, constants, minusZero, known, thirdAllowed, stepOf, allowed, isTrue, judged, marking}
+use Rattle.marking_spec.specs.Marking.{claims, claimedResults, constants, minusZero, among, known, thirdAllowed, stepOf, allowed, isTrue, judged, marking}
 use Rattle.marking_spec.specs.Theorems.{Markable, Fit, addedMinusZero}
 use Rattle.marking_spec.proofs.Members.{true-among, step-of, parts-allowed, both-equal}
 use Rattle.marking_spec.proofs.Said.{fit-none, fit-one, fit-append, marking-means}
-use Rattle.marking_spec.proofs.MinusZero.{first-stays, second-stays}
+use Rattle.marking_spec.proofs.MinusZero.{Stays, first-stays, second-stays}
 
 -- ---- a sheet's lines as a candidate's
 abbrev claimOf : Line → Claim
@@ -133,15 +133,26 @@ fit-lines x y (l ∷ ls) ks earlier sub d e =
     )
 
 -- ---- the two lines more
-added-true : (p : ℕ) → addStep p minusZero ≡ p → isTrue (claimOf (addedMinusZero p)) ≡ true
-added-true p e = given-true add p minusZero 0 p (addMark p minusZero) (sym e, refl, refl)
+added-true : (i : Bool) (p : ℕ) → Stays p → isTrue (claimOf (addedMinusZero i p)) ≡ true
+added-true true p e = given-true add p minusZero 0 p (addMark p minusZero) (sym (e .0), refl, refl)
+added-true false p e = given-true add minusZero p 0 p (addMark minusZero p) (sym (e .1), refl, refl)
 
-added-allowed : (x y : ℕ) (earlier : List Claim) (p : ℕ) → Among p (claimedResults earlier) → allowed (known x y earlier) (claimOf (addedMinusZero p)) ≡ true
-added-allowed x y earlier p h =
-    parts-allowed x y earlier (claimOf (addedMinusZero p)) refl (true-among p (known x y earlier) (result-known x y earlier p h))
-    (true-among minusZero (known x y earlier) (minus-zero-known x y earlier)) refl
+added-allowed : (x y : ℕ) (earlier : List Claim) (i : Bool) (p : ℕ) → Among p (claimedResults earlier) → allowed (known x y earlier) (claimOf (addedMinusZero i p)) ≡ true
+added-allowed x y earlier i p h =
+    let found = true-among p (known x y earlier) (result-known x y earlier p h) in
+    let fixed = true-among minusZero (known x y earlier) (minus-zero-known x y earlier) in
+    go i found fixed
+  where
+    go : (i : Bool) → among p (known x y earlier) ≡ true → among minusZero (known x y earlier) ≡ true → allowed (known x y earlier) (claimOf (addedMinusZero i p)) ≡ true
+    go true f g = parts-allowed x y earlier (claimOf (addedMinusZero true p)) refl f g refl
+    go false f g = parts-allowed x y earlier (claimOf (addedMinusZero false p)) refl g f refl
 
-module _ (o : Operation) (x y : ℕ) where
+-- their results
+added-result : (i : Bool) (p : ℕ) → claimOf (addedMinusZero i p) .result ≡ p
+added-result true p = refl
+added-result false p = refl
+
+module _ (o : Operation) (x y : ℕ) (i j : Bool) where
   abbrev lines : List Line
   lines = sheetOf o x y .lines
 
@@ -149,10 +160,10 @@ module _ (o : Operation) (x y : ℕ) where
   body = claimsOf lines
 
   abbrev more : List Line
-  more = addedMinusZero (sheetOf o x y .first) ∷ addedMinusZero (sheetOf o x y .second) ∷ []
+  more = addedMinusZero i (sheetOf o x y .first) ∷ addedMinusZero j (sheetOf o x y .second) ∷ []
 
   abbrev one : Claim
-  one = claimOf (addedMinusZero (sheetOf o x y .first))
+  one = claimOf (addedMinusZero i (sheetOf o x y .first))
 
   first-known : Among (sheetOf o x y .first) (claimedResults body)
   first-known = subst (Among (sheetOf o x y .first)) (sym (results-of lines)) (derived o x y .1)
@@ -162,21 +173,15 @@ module _ (o : Operation) (x y : ℕ) where
       subst (Among (sheetOf o x y .second)) (sym (results-append body (one ∷ [])))
       (left (sheetOf o x y .second) (claimedResults body) (one .result ∷ []) (subst (Among (sheetOf o x y .second)) (sym (results-of lines)) (derived o x y .2)))
 
-  first-stays-here : addStep (sheetOf o x y .first) minusZero ≡ sheetOf o x y .first
-  first-stays-here = rw (foot-is-pair o x y .0) (first-stays o x y)
-
-  second-stays-here : addStep (sheetOf o x y .second) minusZero ≡ sheetOf o x y .second
-  second-stays-here = rw (foot-is-pair o x y .1) (second-stays o x y)
-
   fit-body : Fit x y [] body
   fit-body = fit-lines x y lines (x ∷ y ∷ []) [] (λ p h. left p (x ∷ y ∷ []) (minusZero ∷ constants ++ []) h) (derived o x y .0) (each-line o x y)
 
   fit-more : Fit x y body (claimsOf more)
   unfolding Fit
   fit-more = (
-    added-allowed x y body (sheetOf o x y .first) first-known,
-    added-true (sheetOf o x y .first) first-stays-here,
-    (added-allowed x y (body ++ (one ∷ [])) (sheetOf o x y .second) second-known, added-true (sheetOf o x y .second) second-stays-here, tt),
+    added-allowed x y body i (sheetOf o x y .first) first-known,
+    added-true i (sheetOf o x y .first) (rw (foot-is-pair o x y .0) (first-stays o x y)),
+    (added-allowed x y (body ++ (one ∷ [])) j (sheetOf o x y .second) second-known, added-true j (sheetOf o x y .second) (rw (foot-is-pair o x y .1) (second-stays o x y)), tt),
   )
 
   all-claims : claims (linesWords (lines ++ more)) ≡ body ++ claimsOf more
@@ -197,5 +202,15 @@ module _ (o : Operation) (x y : ℕ) where
         refl,
         counted,
         rw all-claims (fit-append x y [] body (claimsOf more) fit-body fit-more),
-        (λ e. (body, one, claimOf (addedMinusZero (sheetOf o x y .second)), all-claims, foot-is-pair o x y .0, foot-is-pair o x y .1), λ h. refl),
+        (
+          λ e. (
+            body,
+            one,
+            claimOf (addedMinusZero j (sheetOf o x y .second)),
+            all-claims,
+            added-result i (sheetOf o x y .first) ∙ foot-is-pair o x y .0,
+            added-result j (sheetOf o x y .second) ∙ foot-is-pair o x y .1,
+          ),
+          λ h. refl,
+        ),
       )

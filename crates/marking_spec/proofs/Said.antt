@@ -15,7 +15,7 @@ use Rattle.pattern_spec.proofs.Truth.{both-of, refute, alike}
 use Rattle.augmented_spec.specs.Direct.{Operation, sum, difference, product, directPair, operationNumber, operationOf}
 use Rattle.worksheet_spec.specs.Lines.{lineSize}
 use Rattle.marking_spec.specs.declared.Claim.{Claim}
-use Rattle.marking_spec.specs.Marking.{claims, known, allowed, isTrue, claimed, Marked, refusedAt, judged, isRight, inOrder, isMarkable, marking}
+use Rattle.marking_spec.specs.Marking.{claims, known, allowed, isTrue, lastTwoAre, Marked, refusedAt, judged, isRight, inOrder, isMarkable, marking}
 use Rattle.marking_spec.specs.Theorems.{Markable, Fit, FirstFault, ClaimsPair, Says, MarkingMeans, RightExactly}
 use Rattle.marking_spec.proofs.Claims.{claims-count}
 use Rattle.marking_spec.proofs.Counts.{markable, is-markable}
@@ -96,9 +96,9 @@ module _ (o : Operation) (x y : ℕ) (ls : List Claim) where
   right-means h =
       let p = directPair o binary32 x y in (
         λ r. let e = ends-in-two ls h in
-            let q = both-equal _ _ _ _ .0 (sym (ap (claimed (p .first) (p .second)) (e .3) ∙ claimed-ends (p .first) (p .second) (e .0) (e .1) (e .2)) ∙ r) in
+            let q = both-equal _ _ _ _ .0 (sym (ap (lastTwoAre (p .first) (p .second)) (e .3) ∙ claimed-ends (p .first) (p .second) (e .0) (e .1) (e .2)) ∙ r) in
             (e .0, e .1, e .2, e .3, q .0, q .1),
-        λ e. ap (claimed (p .first) (p .second)) (e .3) ∙ claimed-ends (p .first) (p .second) (e .0) (e .1) (e .2) ∙ both-equal _ _ _ _ .1 (e .4, e .5),
+        λ e. ap (lastTwoAre (p .first) (p .second)) (e .3) ∙ claimed-ends (p .first) (p .second) (e .0) (e .1) (e .2) ∙ both-equal _ _ _ _ .1 (e .4, e .5),
       )
 
 -- ---- the whole answer
@@ -110,7 +110,7 @@ operation-of n low high = go (eqb n 1) refl (eqb n 2) refl
     go false is true js = rw (is, js) (eqb-true n 2 js)
     go false is false js = let three : n ≡ 3 = omega (arith, eqb-false n 1 is, eqb-false n 2 js) in rw (is, js) three
 
-number-of : (o : Operation) → (1 ≤ operationNumber o) × (operationNumber o ≤ 3) × (operationOf (operationNumber o) ≡ o)
+pub number-of : (o : Operation) → (1 ≤ operationNumber o) × (operationNumber o ≤ 3) × (operationOf (operationNumber o) ≡ o)
 number-of sum = (omega arith, omega arith, refl)
 number-of difference = (omega arith, omega arith, refl)
 number-of product = (omega arith, omega arith, refl)

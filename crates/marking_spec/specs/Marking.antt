@@ -6,10 +6,12 @@ use mathlib.Core.List.{List, [], _∷_, _++_}
 use lib.Dec.{leb, eqb}
 use lib.ListN.{length}
 use Rattle.rounding_spec.specs.Format.{binary32}
+use Rattle.binary32_spec.specs.Steps.{addStep, subStep, mulStep, fmaStep}
 use Rattle.augmented_spec.specs.Direct.{Operation, directPair, isOperation, operationOf}
 use Rattle.worksheet_spec.specs.Constants.{factors, smallest}
-use Rattle.worksheet_spec.specs.Lines.{lineSize, Step, add, subtract, multiply, fused, resultOf, markOf, minus}
+use Rattle.worksheet_spec.specs.Lines.{lineSize, Step, add, subtract, multiply, fused, markOf, minus}
 use Rattle.marking_spec.specs.declared.Claim.{Claim}
+use Rattle.marking_spec.specs.declared.MarkedNumbers.{MarkedNumbers}
 
 -- ---- a candidate's lines
 -- the lines that words hold, six by six (R5.22); fewer words than six are no line
@@ -28,12 +30,19 @@ abbrev pub claimedResults : List Claim → List ℕ
 claimedResults [] = []
 claimedResults (l ∷ ls) = l .result ∷ claimedResults ls
 
--- step numbers (R5.22)
+-- step numbers (R5.22). Any number that is none counts as 4 here; `allowed` keeps it out.
 abbrev pub isStep : ℕ → Bool
 isStep n = leb 1 n && leb n 4
 
 abbrev pub stepOf : ℕ → Step
 stepOf n = cond (eqb n 1) add (cond (eqb n 2) subtract (cond (eqb n 3) multiply fused))
+
+-- the result of a step, whose third operand may be unused (R2.1)
+abbrev pub stepResult : Step → ℕ → ℕ → ℕ → ℕ
+stepResult add x y z = addStep x y
+stepResult subtract x y z = subStep x y
+stepResult multiply x y z = mulStep x y
+stepResult fused x y z = fmaStep x y z
 
 -- ---- operands (R13.2)
 -- the eleven constants of the sheet (R5.1), and 80000000
@@ -65,14 +74,14 @@ allowed ks l = isStep (l .step) && (among (l .x) ks && (among (l .y) ks && third
 
 -- ---- a true line has its step's result and mark (R13.3)
 unfoldable pub isTrue : Claim → Bool
-isTrue l = let o = stepOf (l .step) in eqb (l .result) (resultOf o (l .x) (l .y) (l .z)) && eqb (l .mark) (markOf o (l .x) (l .y) (l .z))
+isTrue l = let o = stepOf (l .step) in eqb (l .result) (stepResult o (l .x) (l .y) (l .z)) && eqb (l .mark) (markOf o (l .x) (l .y) (l .z))
 
 -- ---- the claimed pair is the last two results (R13.4): whether it is first and second
-unfoldable pub claimed : ℕ → ℕ → List Claim → Bool
-claimed first second [] = false
-claimed first second (k ∷ []) = false
-claimed first second (k ∷ l ∷ []) = eqb (k .result) first && eqb (l .result) second
-claimed first second (k ∷ l ∷ m ∷ ls) = claimed first second (l ∷ m ∷ ls)
+unfoldable pub lastTwoAre : ℕ → ℕ → List Claim → Bool
+lastTwoAre first second [] = false
+lastTwoAre first second (k ∷ []) = false
+lastTwoAre first second (k ∷ l ∷ []) = eqb (k .result) first && eqb (l .result) second
+lastTwoAre first second (k ∷ l ∷ m ∷ ls) = lastTwoAre first second (l ∷ m ∷ ls)
 
 -- ---- the answer: the number of a refusal with the line that it is about, counted from 1, or 0 where it is about none; or right, or not
 pub data Marked : Type 0 where
@@ -81,8 +90,8 @@ pub data Marked : Type 0 where
 
 -- right exactly where the claimed pair is the direct pair, in every bit (R13.5)
 unfoldable pub isRight : Operation → ℕ → ℕ → List Claim → Bool
-unfolding claimed directPair
-isRight o x y ls = let p = directPair o binary32 x y in claimed (p .first) (p .second) ls
+unfolding lastTwoAre directPair
+isRight o x y ls = let p = directPair o binary32 x y in lastTwoAre (p .first) (p .second) ls
 
 -- lines in their order, behind earlier ones that met no refusal (R8.18)
 unfoldable pub inOrder : Operation → ℕ → ℕ → List Claim → List Claim → Marked
@@ -110,3 +119,8 @@ marking operation x y words =
     cond (not (isOperation operation)) (refusedAt 10 0)
     (cond (not (isMarkable (length words))) (refusedAt 13 0)
     (inOrder (operationOf operation) x y [] (claims words)))
+
+-- ---- the answer as numbers: 0 where there is no refusal, and not right where there is one
+abbrev pub markedNumbers : Marked → MarkedNumbers
+markedNumbers (refusedAt n at) = record { refusal = n; line = at; right = false }
+markedNumbers (judged right) = record { refusal = 0; line = 0; right = right }

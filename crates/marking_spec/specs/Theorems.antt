@@ -1,21 +1,23 @@
 -- What is proved of marking. A name of type `Type 0` is a statement; `proofs/Theorems.antt` has its proof.
 use mathlib.Core.Path.{_≡_}
 use mathlib.Core.Logic.{_⊎_, _↔_}
-use mathlib.Core.Bool.{true, false}
+use mathlib.Core.Bool.{Bool, true, false}
 use mathlib.Core.List.{List, [], _∷_, _++_}
 use Prim.Native.Nat.{ℕ, suc, _*_, _%_, _≤_, _<_}
-use lib.ListN.{length}
+use lib.ListN.{length, take}
 use Rattle.rounding_spec.specs.Format.{binary32}
 use Rattle.binary32_spec.specs.Steps.{addStep, subStep, mulStep, fmaStep}
 use Rattle.binary32_spec.specs.Marks.{addMark, subMark, mulMark, fmaMark}
+use Rattle.augmented_spec.specs.declared.Pair.{Pair}
 use Rattle.augmented_spec.specs.Direct.{Operation, sum, difference, product, directPair, operationNumber}
-use Rattle.worksheet_spec.specs.Lines.{lineSize, Step, add, subtract, multiply, fused, stepNumber, Line, line}
+use Rattle.worksheet_spec.specs.Lines.{lineSize, Step, add, subtract, multiply, fused, stepNumber, Line, line, minus}
 use Rattle.worksheet_spec.specs.Sheets.{sheetOf}
-use Rattle.worksheet_spec.specs.Filling.{linesWords}
+use Rattle.worksheet_spec.specs.Filling.{linesWords, filled, filling, afterFilling}
 use Rattle.worksheet_spec.specs.Theorems.{Among}
 use Rattle.marking_spec.specs.declared.Claim.{Claim}
-use Rattle.marking_spec.specs.Marking.{claims, claimedResults, constants, minusZero, among, known, allowed, isTrue}
-use Rattle.marking_spec.specs.Marking.{fewestMarked, mostMarked, Marked, refusedAt, judged, marking}
+use Rattle.marking_spec.specs.declared.MarkedNumbers.{MarkedNumbers}
+use Rattle.marking_spec.specs.Marking.{claims, constants, minusZero, among, known, allowed, isTrue}
+use Rattle.marking_spec.specs.Marking.{fewestMarked, mostMarked, Marked, refusedAt, judged, marking, markedNumbers}
 
 -- ---- how many lines are marked, and the constants that may stand on them (R5.1, R8.18, R13.2)
 abbrev pub MarkingSizes : Type 0
@@ -40,25 +42,31 @@ claimsWords (l ∷ ls) = l .step ∷ l .x ∷ l .y ∷ l .z ∷ l .result ∷ l 
 abbrev pub ClaimsMeans : Type 0
 ClaimsMeans = (words : List ℕ) → length words % 6 ≡ 0 → (claimsWords (claims words) ≡ words) × (6 * length (claims words) ≡ length words)
 
--- ---- operands (R13.2), each with its sign or the other: x and y, constants and 80000000, results of earlier lines
-abbrev pub Known : ℕ → ℕ → List Claim → ℕ → Type 0
-Known x y earlier p = Among p (x ∷ y ∷ []) ⊎ (Among p (0x8000_0000 ∷ constants) ⊎ Among p (claimedResults earlier))
+-- ---- operands (R13.2)
+-- p is the result of one of these lines, with its sign or the other
+abbrev pub IsResult : List Claim → ℕ → Type 0
+IsResult ls p =
+    (before : List Claim) × (l : Claim) × (after : List Claim) × (ls ≡ before ++ (l ∷ after)) × ((p ≡ l .result) ⊎ (p ≡ minus (l .result)))
+
+-- x or y, 80000000 or a constant, or the result of an earlier line; each with its sign or the other
+abbrev pub MayStand : ℕ → ℕ → List Claim → ℕ → Type 0
+MayStand x y earlier p = Among p (x ∷ y ∷ []) ⊎ (Among p (0x8000_0000 ∷ constants) ⊎ IsResult earlier p)
 
 abbrev pub KnownMeans : Type 0
-KnownMeans = (x y p : ℕ) (earlier : List Claim) → (among p (known x y earlier) ≡ true) ↔ Known x y earlier p
+KnownMeans = (x y p : ℕ) (earlier : List Claim) → (among p (known x y earlier) ≡ true) ↔ MayStand x y earlier p
 
 -- a step that there is, operands that are known, and an unused third that is 0
 abbrev pub Third : ℕ → ℕ → List Claim → Step → ℕ → Type 0
 Third x y earlier add z = z ≡ 0
 Third x y earlier subtract z = z ≡ 0
 Third x y earlier multiply z = z ≡ 0
-Third x y earlier fused z = Known x y earlier z
+Third x y earlier fused z = MayStand x y earlier z
 
 abbrev pub AllowedMeans : Type 0
 AllowedMeans =
     (x y : ℕ) (earlier : List Claim) (l : Claim)
     → (allowed (known x y earlier) l ≡ true)
-    ↔ ((o : Step) × (l .step ≡ stepNumber o) × Known x y earlier (l .x) × Known x y earlier (l .y) × Third x y earlier o (l .z))
+    ↔ ((o : Step) × (l .step ≡ stepNumber o) × MayStand x y earlier (l .x) × MayStand x y earlier (l .y) × Third x y earlier o (l .z))
 
 -- ---- true lines (R13.3), by the step's number
 abbrev pub TrueMeans : Type 0
@@ -104,6 +112,13 @@ Says n x y words (judged right) =
 abbrev pub MarkingMeans : Type 0
 MarkingMeans = (n x y : ℕ) (words : List ℕ) (answer : Marked) → (marking n x y words ≡ answer) ↔ Says n x y words answer
 
+-- and so do its numbers: the refusal's, its line or 0, and not right; or 0 twice, and whether the lines are right
+abbrev pub NumbersMean : Type 0
+NumbersMean =
+    (n x y : ℕ) (words : List ℕ) (r : MarkedNumbers) → r ≡ markedNumbers (marking n x y words)
+    → ((refusal at : ℕ) → Says n x y words (refusedAt refusal at) → (r .refusal ≡ refusal) × (r .line ≡ at) × (r .right ≡ false))
+    × ((right : Bool) → Says n x y words (judged right) → (r .refusal ≡ 0) × (r .line ≡ 0) × (r .right ≡ right))
+
 -- in particular lines that meet no refusal are right where the last two results are the direct pair in every bit, and not right otherwise
 abbrev pub RightExactly : Type 0
 RightExactly =
@@ -112,20 +127,32 @@ RightExactly =
     × (¬ ClaimsPair o x y (claims words) → marking (operationNumber o) x y words ≡ judged false)
 
 -- ---- a model sheet, and two lines that add 80000000 to its first and to its second, is right (R13.6)
-abbrev pub addedMinusZero : ℕ → Line
-addedMinusZero p = line add p 0x8000_0000 p
+-- p + (-0), in this order or in the other, is p
+abbrev pub addedMinusZero : Bool → ℕ → Line
+addedMinusZero true p = line add p 0x8000_0000 p
+addedMinusZero false p = line add 0x8000_0000 p p
 
 abbrev pub ModelSheetRight : Type 0
 ModelSheetRight =
-    (o : Operation) (x y : ℕ) → let s = sheetOf o x y in
-    marking (operationNumber o) x y (linesWords (s .lines ++ (addedMinusZero (s .first) ∷ addedMinusZero (s .second) ∷ []))) ≡ judged true
+    (o : Operation) (x y : ℕ) (i j : Bool) → let s = sheetOf o x y in
+    marking (operationNumber o) x y (linesWords (s .lines ++ (addedMinusZero i (s .first) ∷ addedMinusZero j (s .second) ∷ []))) ≡ judged true
 
--- ---- examples: p + (-0) on a line
+-- as filling gives it: so many words as its line count says, and the pair that it hands back
+abbrev pub FilledSheetRight : Type 0
+FilledSheetRight =
+    (o : Operation) (x y : ℕ) (words : List ℕ) (i j : Bool) (lineCount : ℕ) (p : Pair) → let n = operationNumber o in
+    filling n x y words ≡ filled lineCount p
+    → marking n x y
+    (take (lineSize * lineCount) (afterFilling n x y words) ++ linesWords (addedMinusZero i (p .first) ∷ addedMinusZero j (p .second) ∷ []))
+    ≡ judged true
+
+-- ---- examples
+-- a line with p + (-0), and more words
 abbrev pub plusMinusZero : ℕ → ℕ → List ℕ → List ℕ
 plusMinusZero p mark words = 1 ∷ p ∷ 0x8000_0000 ∷ 0 ∷ p ∷ mark ∷ words
 
--- 1 + 2^-24 is its own pair: two lines that show its halves are right, and not in each other's place. The difference of 1 and 1 is +0 twice,
--- and -0 twice is not right.
+-- 1 and 2^-24 are their own sum's pair: two lines that show them are right, and not in each other's place. 1 less 1 is +0 twice, and -0
+-- twice is not right.
 abbrev pub MarkedExamples : Type 0
 MarkedExamples =
     (marking 1 0x3f80_0000 0x3380_0000 (plusMinusZero 0x3f80_0000 0 (plusMinusZero 0x3380_0000 0 [])) ≡ judged true)
@@ -134,16 +161,18 @@ MarkedExamples =
     × (marking 2 0x3f80_0000 0x3f80_0000 (plusMinusZero 0x8000_0000 0 (plusMinusZero 0x8000_0000 0 [])) ≡ judged false)
     -- operations 0 and 4, before anything else; eleven words; one line
     × (marking 0 0 0 [] ≡ refusedAt 10 0) × (marking 4 0 0 (plusMinusZero 0 0 (plusMinusZero 0 0 [])) ≡ refusedAt 10 0)
-    × (marking 1 0 0 (plusMinusZero 0 0 (1 ∷ 0 ∷ 0 ∷ 0 ∷ 0 ∷ [])) ≡ refusedAt 13 0) × (marking 1 0 0 (plusMinusZero 0 0 []) ≡ refusedAt 13 0)
+    × (marking 1 0 0 (plusMinusZero 0 0 (1 ∷ 0 ∷ 0 ∷ 0 ∷ 0 ∷ [])) ≡ refusedAt 13 0)
+    × (marking 1 0 0 (plusMinusZero 0 0 []) ≡ refusedAt 13 0)
     -- step 5; an unused third that is not 0, on a line that is false too; 40000001, which is no constant; a line's own result
     × (marking 1 0 0 (plusMinusZero 0 0 (5 ∷ 0 ∷ 0 ∷ 0 ∷ 0 ∷ 0 ∷ [])) ≡ refusedAt 14 2)
     × (marking 1 0 0 (1 ∷ 0 ∷ 0 ∷ 1 ∷ 1 ∷ 1 ∷ plusMinusZero 0 0 []) ≡ refusedAt 14 1)
     × (marking 1 0 0 (plusMinusZero 0 0 (plusMinusZero 0x4000_0001 0 [])) ≡ refusedAt 14 2)
     × (marking 1 0 0 (plusMinusZero 0x3f80_0000 0 (plusMinusZero 0 0 [])) ≡ refusedAt 14 1)
-    -- a result and a mark that are false, on the first line at fault of two
+    -- a false result, before an unknown step on the next line; a false mark; the mark 2 of an earlier line, which is no operand
     × (marking 1 0 0 (1 ∷ 0 ∷ 0 ∷ 0 ∷ 1 ∷ 0 ∷ 5 ∷ 0 ∷ 0 ∷ 0 ∷ 0 ∷ 0 ∷ []) ≡ refusedAt 15 1)
     × (marking 1 0 0 (plusMinusZero 0 0 (plusMinusZero 0 1 [])) ≡ refusedAt 15 2)
-    -- 2 times 3F800001, of which the flipped result is taken from 2 in a fused step with the factor 1/2 and x: 1/2 times x less 2x
+    × (marking 1 0x7f80_0000 0 (plusMinusZero 0x7f80_0000 2 (plusMinusZero 0x0000_0002 0 [])) ≡ refusedAt 14 2)
+    -- line 1 is 2x; its result with the sign flipped is the third operand of a fused step, x/2 - 2x, which is rounded
     × (marking 3 0x3f80_0001 0x3f80_0000
     (3 ∷ 0x4000_0000 ∷ 0x3f80_0001 ∷ 0 ∷ 0x4000_0001 ∷ 0 ∷ 4 ∷ 0x3f00_0000 ∷ 0x3f80_0001 ∷ 0xc000_0001 ∷ 0xbfc0_0002 ∷ 1
     ∷ plusMinusZero 0x3f80_0001 0 (plusMinusZero 0x0000_0000 0 []))
@@ -152,5 +181,5 @@ MarkedExamples =
 -- ---- all of them: `proofs/Theorems.antt` proves this
 abbrev pub All : Type 0
 All =
-    MarkingSizes × MarkingConstants × ClaimsMeans × KnownMeans × AllowedMeans × TrueMeans × MarkingMeans × RightExactly × ModelSheetRight
-    × MarkedExamples
+    MarkingSizes × MarkingConstants × ClaimsMeans × KnownMeans × AllowedMeans × TrueMeans × MarkingMeans × NumbersMean × RightExactly
+    × ModelSheetRight × FilledSheetRight × MarkedExamples

@@ -76,7 +76,7 @@ unfolding linesWords
 words-length [] = refl
 words-length (l ∷ ls) = length-append (lineWords l) (linesWords ls) ∙ omega (arith, words-length ls)
 
-words-append : (ks ls : List Line) → linesWords (ks ++ ls) ≡ linesWords ks ++ linesWords ls
+pub words-append : (ks ls : List Line) → linesWords (ks ++ ls) ≡ linesWords ks ++ linesWords ls
 unfolding linesWords
 words-append [] ls = refl
 words-append (k ∷ ks) ls = ap (λ (ws : List ℕ). lineWords k ++ ws) (words-append ks ls)
@@ -86,7 +86,7 @@ unfolding sheetWords
 sheet-words-length ls h = length-append (linesWords ls) (replicate (sheetSize - lineSize * length ls) 0) ∙ omega (arith, words-length ls, length-replicate {A = ℕ} (sheetSize - lineSize * length ls) 0)
 
 module _ (ls : List Line) (rest : List ℕ) (most : length ls ≤ mostLines) where
-  all-words : sheetWords ls ++ rest ≡ linesWords ls ++ (replicate (sheetSize - lineSize * length ls) 0 ++ rest)
+  pub all-words : sheetWords ls ++ rest ≡ linesWords ls ++ (replicate (sheetSize - lineSize * length ls) 0 ++ rest)
   unfolding sheetWords
   all-words = append-assoc (linesWords ls) (replicate (sheetSize - lineSize * length ls) 0) rest
 

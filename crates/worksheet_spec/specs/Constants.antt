@@ -30,7 +30,7 @@ twoToMinus24 = 0x3380_0000
 abbrev pub plusZero : ℕ
 plusZero = 0x0000_0000
 
--- all of them
+-- the factors
 abbrev pub factors : List ℕ
 factors = psi ∷ two ∷ minusTwo ∷ half ∷ kappa ∷ twoTo24 ∷ twoTo48 ∷ twoToMinus24 ∷ plusZero ∷ []
 

@@ -34,13 +34,7 @@ stepNumber subtract = 2
 stepNumber multiply = 3
 stepNumber fused = 4
 
--- the result of a step on operands of which a third may be unused (R2.1), and its mark (R2.8)
-abbrev pub resultOf : Step → ℕ → ℕ → ℕ → ℕ
-resultOf add x y z = addStep x y
-resultOf subtract x y z = subStep x y
-resultOf multiply x y z = mulStep x y
-resultOf fused x y z = fmaStep x y z
-
+-- the mark of a step (R2.8)
 abbrev pub markOf : Step → ℕ → ℕ → ℕ → ℕ
 markOf add x y z = addMark x y
 markOf subtract x y z = subMark x y

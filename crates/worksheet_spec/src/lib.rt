@@ -1,5 +1,5 @@
-// The step sheet of a question as definitions and theorems, and its sizes and numbers. No function is here: the code that fills a sheet
-// stands above.
+// The step sheet of a question as definitions and theorems, and its sizes, numbers and constants. No function is here: the code
+// that fills a sheet stands above.
 
 // Words of a line, most lines, and words of a sheet (R5.21, R5.22).
 pub const LINE_SIZE: usize = 6;

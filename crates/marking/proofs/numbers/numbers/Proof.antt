@@ -1,9 +1,9 @@
 use borrow.Author.Needs.{needs}
 use mathlib.Core.Path.{ap, sym, _∙_}
 use Rattle.marking.specs.Answers.{answerMarked}
-use Rattle.jirmeklo.specs.Marks.{markedNumbers}
-use Rattle.jirmeklo.proofs.marks.numbers.Statement.{statement}
-use Rattle.jirmeklo.proofs.marks.numbers.Tie as tie
+use Rattle.marking_spec.specs.Marking.{markedNumbers}
+use Rattle.marking.proofs.numbers.numbers.Statement.{statement}
+use Rattle.marking.proofs.numbers.numbers.Tie as tie
 
 enum-told : tie.Need-enum-told
 enum-told c = search needs

@@ -76,6 +76,13 @@ static void print_filled(const char *name, struct jirmeklo_filled filled) {
     print_flags(filled.flags);
 }
 
+static void print_marked(const char *name, struct jirmeklo_marked marked) {
+    printf("%s", name);
+    print_number(marked.refusal);
+    print_number(marked.line);
+    printf(" %s\n", marked.right ? "right" : "not right");
+}
+
 static void fill_with(uint32_t *words, size_t count, uint32_t word) {
     size_t i;
     for (i = 0; i < count; i++) {
@@ -220,6 +227,36 @@ static void sheets(void) {
     print_filled("fill", jirmeklo_fill(3, 0x00000003u, 0x3F000000u, words, SHEET));
 }
 
+/* p + (-0) on a line, with its mark; the next line's place. */
+static uint32_t *show(uint32_t *line, uint32_t p, uint32_t mark) {
+    line[0] = 1;
+    line[1] = p;
+    line[2] = MINUS_ZERO;
+    line[3] = 0;
+    line[4] = p;
+    line[5] = mark;
+    return line + LINE;
+}
+
+/* A filled sheet with its two lines, which is right, and then not, or refused; and a candidate's own two lines. */
+static void marking(void) {
+    uint32_t words[SHEET + 2 * LINE];
+    struct jirmeklo_filled filled = jirmeklo_fill(1, 0x3F800001u, 0x33800000u, words, SHEET);
+    size_t lines = filled.lines, count = (lines + 2) * LINE;
+    show(show(words + lines * LINE, filled.first, 0), filled.second, 0);
+    print_marked("mark", jirmeklo_mark(1, 0x3F800001u, 0x33800000u, words, count));
+    print_marked("mark", jirmeklo_mark(2, 0x3F800001u, 0x33800000u, words, count));
+    print_marked("mark", jirmeklo_mark(4, 0x3F800001u, 0x33800000u, words, count));
+    print_marked("mark", jirmeklo_mark(1, 0x3F800001u, 0x33800000u, words, count - 1));
+    print_marked("mark", jirmeklo_mark(1, 0x3F800001u, 0x33800000u, words, LINE));
+    print_marked("mark", jirmeklo_mark(1, 0x3F800001u, 0x33800000u, words + LINE, count - LINE));
+    words[2 * LINE + 5] = 1;
+    print_marked("mark", jirmeklo_mark(1, 0x3F800001u, 0x33800000u, words, count));
+    print_sheet(words, LINE);
+    show(show(words, ONE, 0), 0x33800000u, 0);
+    print_marked("mark", jirmeklo_mark(1, ONE, 0x33800000u, words, 2 * LINE));
+}
+
 /* A sum, a difference, a product, a product that is not exact, and a question that is refused: the first three enter. */
 static void lists(void) {
     const uint32_t operations[] = {1, 2, 3, 3, 1};
@@ -271,6 +308,7 @@ int main(void) {
     joins();
     carried();
     sheets();
+    marking();
     lists();
     list_of_minus_zeros();
     return 0;

@@ -1,4 +1,5 @@
-/* Jirmeklo: binary32 steps, augmented pairs, exact column totals and step sheets, each proved against its specification.
+/* Jirmeklo: binary32 steps, augmented pairs, exact column totals, step sheets and the marking of a candidate's lines, each proved against
+ * its specification.
  *
  * CHANGED since steps have marks: jirmeklo_add, jirmeklo_sub, jirmeklo_mul and jirmeklo_fma return a struct jirmeklo_step, and no longer
  * a uint32_t; a sheet has lines of six words, which were five, and 78 words, which were 65.
@@ -49,8 +50,8 @@ struct jirmeklo_filled {
     struct jirmeklo_flags flags;
 };
 
-/* What is the matter with a candidate's lines: the refusal, and for 14 and 15 the line that it is about, counted from 1; else 0 and 0, and
- * whether they reach the pair. right is false where the refusal is not 0. */
+/* How a candidate's lines were marked: the refusal, or 0; the line that 14 or 15 is about, counted from 1, and 0 otherwise, with 10 and 13
+ * too; whether the lines are right, which is false where they are refused. Not right is an answer, no refusal. */
 struct jirmeklo_marked {
     uint32_t refusal, line;
     bool right;
@@ -106,12 +107,15 @@ struct jirmeklo_reading jirmeklo_read(const uint32_t *total, size_t words);
 struct jirmeklo_filled jirmeklo_fill(uint32_t operation, uint32_t x, uint32_t y, uint32_t *words, size_t count);
 
 /* Marks the lines by which a candidate worked out an operation's pair (1 sum, 2 difference, 3 product of x and y), six words a line as in
- * a sheet; they are looked at only. The results of the last two lines are the pair that is claimed. right says that it is the pair of
- * jirmeklo_sum, jirmeklo_difference or jirmeklo_product in every bit. An operand may be x, y, the result of an earlier line, 00000000,
- * 80000000, a constant of the sheets (3F7FFFFF, 40000000, C0000000, 3F000000, 3FFFFFFF, 4B800000, 57800000, 33800000, 00000001, 80000001),
- * or one of these with its sign flipped. A model sheet with two more lines, which add 80000000 to its first and to its second, is right.
+ * a sheet. They are read and not changed. The results of the last two lines are the pair that is claimed; right says that it is the pair
+ * of jirmeklo_sum, jirmeklo_difference or jirmeklo_product in every bit.
+ * An operand, in any place, may be x, y (as given, for a difference too), the result of an earlier line, 80000000, a constant of the sheets
+ * (3F7FFFFF, 40000000, C0000000, 3F000000, 3FFFFFFF, 4B800000, 57800000, 33800000, 00000000, 00000001, 80000001), or one of these with its
+ * sign flipped; a third operand is used by step 4 alone, and is 0 elsewhere.
+ * The lines that jirmeklo_fill has written, so many as it says and without the zeros behind them, and two more that add 80000000 to first
+ * and to second, with their marks, are always right.
  * Refusals: 10, another operation; 13, words that are no multiple of six, fewer than 12 or more than 600; then line by line 14, an unknown
- * step, an operand that is none of these, or an unused third that is not 0; 15, a result or a mark that is not the step's. */
+ * step or an operand that may not stand there; 15, a result or a mark that is not the step's. */
 struct jirmeklo_marked jirmeklo_mark(uint32_t operation, uint32_t x, uint32_t y, const uint32_t *lines, size_t words);
 
 /* Fills the sheets of a list of questions, one after the other, the ith into the first counts[i] of the words. Where its

@@ -2,7 +2,7 @@
 use mathlib.Core.Path.{_≡_, refl, sym, ap, ap₂, _∙_}
 use mathlib.Core.Bool.{Bool, true, false, _&&_}
 use mathlib.Core.List.{List, [], _∷_, _++_}
-use Prim.Native.Nat.{ℕ, suc, _+_, _-_, _*_, _/_, _≤_, _<_}
+use Prim.Native.Nat.{ℕ, suc, _+_, _-_, _*_, _/_, _%_, _≤_, _<_}
 use native.Mathlib.Nat.{le-of-eq}
 use native.Mathlib.Omega.{arith}
 use lib.Dec.{eqb}
@@ -42,7 +42,14 @@ module _ (o : Operation) (x y : ℕ) where
     unfolding claims
     from-end at h = rw (take-all at ws h, drop-of-length-le ws h) (all-passed (claims ws))
 
-    module _ (at k : ℕ) (whole : at ≡ lineSize * k) (inside : at + lineSize ≤ length ws) (l : Claim) (is : claims (drop at ws) ≡ l ∷ claims (drop (at + lineSize) ws)) where
+    module _ (at : ℕ) (whole : at % lineSize ≡ 0) (inside : at + lineSize ≤ length ws) (l : Claim)
+        (is : claims (drop at ws) ≡ l ∷ claims (drop (at + lineSize) ws)) where
+      abbrev k : ℕ
+      k = at / lineSize
+
+      lines : at ≡ lineSize * k
+      lines = omega (arith, whole)
+
       abbrev before : List Claim
       before = claims (take at ws)
 
@@ -51,7 +58,7 @@ module _ (o : Operation) (x y : ℕ) where
 
       number-is : (n : ℕ) → refusedAt n (suc (length before)) ≡ refusedAt n (at / lineSize + 1)
       number-is n =
-          let count = claims-count k (take at ws) (length-take-le at ws (omega arith) ∙ whole) in
+          let count = claims-count k (take at ws) (length-take-le at ws (omega arith) ∙ lines) in
           let line : suc (length before) ≡ at / lineSize + 1 = omega (arith, count) in
           ap (refusedAt n) line
 
@@ -64,7 +71,7 @@ module _ (o : Operation) (x y : ℕ) where
       pub passes-at : allowed (known x y before) l ≡ true → isTrue l ≡ true → from at ≡ from (at + lineSize)
       passes-at e f =
           ap (inOrder o x y before) is ∙ passes before l behind e f
-          ∙ ap (λ (ls : List Claim). inOrder o x y ls behind) (sym (claims-next ws at k whole l inside is))
+          ∙ ap (λ (ls : List Claim). inOrder o x y ls behind) (sym (claims-next ws at k lines l inside is))
 
 -- ---- the claimed pair
 pub claimed-ends : (first second : ℕ) (ls : List Claim) (k l : Claim) → lastTwoAre first second (ls ++ (k ∷ l ∷ [])) ≡ eqb (k .result) first && eqb (l .result) second
@@ -75,7 +82,7 @@ claimed-ends first second (i ∷ j ∷ []) k l = refl
 claimed-ends first second (h ∷ i ∷ j ∷ ls) k l = claimed-ends first second (i ∷ j ∷ ls) k l
 
 -- by the words of the last two lines
-module _ (o : Operation) (x y : ℕ) (ws : List ℕ) (at last k : ℕ) (whole : at ≡ lineSize * k) (next : at + lineSize ≡ last) (end : last + lineSize ≡ length ws)
+module _ (o : Operation) (x y : ℕ) (ws : List ℕ) (at last : ℕ) (whole : at % lineSize ≡ 0) (next : at + lineSize ≡ last) (end : last + lineSize ≡ length ws)
     (i j : Claim) (is : claims (drop at ws) ≡ i ∷ claims (drop (at + lineSize) ws)) (js : claims (drop last ws) ≡ j ∷ claims (drop (last + lineSize) ws)) where
   nothing : claims (drop (last + lineSize) ws) ≡ []
   unfolding claims
@@ -83,7 +90,7 @@ module _ (o : Operation) (x y : ℕ) (ws : List ℕ) (at last k : ℕ) (whole : 
 
   lines-are : claims ws ≡ claims (take at ws) ++ (i ∷ j ∷ [])
   lines-are =
-      claims-split ws at k whole (omega arith)
+      claims-split ws at (at / lineSize) (omega (arith, whole)) (omega arith)
       ∙ ap (λ (ls : List Claim). claims (take at ws) ++ ls)
       (is ∙ ap (λ (ls : List Claim). i ∷ ls) (ap (λ (n : ℕ). claims (drop n ws)) next ∙ js ∙ ap (λ (ls : List Claim). j ∷ ls) nothing))
 

@@ -135,7 +135,8 @@ addedMinusZero false p = line add 0x8000_0000 p p
 abbrev pub ModelSheetRight : Type 0
 ModelSheetRight =
     (o : Operation) (x y : ℕ) (i j : Bool) → let s = sheetOf o x y in
-    marking (operationNumber o) x y (linesWords (s .lines ++ (addedMinusZero i (s .first) ∷ addedMinusZero j (s .second) ∷ []))) ≡ judged true
+    marking (operationNumber o) x y (linesWords (s .lines ++ (addedMinusZero i (s .first) ∷ addedMinusZero j (s .second) ∷ [])))
+    ≡ judged true
 
 -- as filling gives it: so many words as its line count says, and the pair that it hands back
 abbrev pub FilledSheetRight : Type 0

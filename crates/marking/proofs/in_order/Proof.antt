@@ -50,7 +50,8 @@ returns c =
     let line = c .before .before .before .before .line-at in
     let refuted : allowed (known (q .x) (q .y) (claims (take (l .at - 0) (q .lines .now)))) (line .result) ≡ false =
     sym (c .before .before .allowed .ensures) ∙ not-true _ (c .before .if1 .taken) in
-    ap (refusedAt 14) (c .number .ensures) ∙ sym (operands-at (operationOf (q .operation)) (q .x) (q .y) (q .lines .now) (l .at) (l .at / lineSize) (omega arith) (omega arith) (line .result) (line .ensures) (rw (sub-zero (l .at)) at refuted)) ∙ l .inv .2
+    ap (refusedAt 14) (c .number .ensures) ∙ sym (operands-at (operationOf (q .operation)) (q .x) (q .y) (q .lines .now) (l .at) (l .inv .1) (omega arith)
+    (line .result) (line .ensures) (rw (sub-zero (l .at)) at refuted)) ∙ l .inv .2
 
 is-true-requires : tie.Need-is-true-requires Inv-loop μ-loop
 is-true-requires c κs = search needs
@@ -65,7 +66,8 @@ returns-2 c =
     let line = c .before .before .before .before .before .before .line-at in
     let accepted : allowed (known (q .x) (q .y) (claims (take (l .at - 0) (q .lines .now)))) (line .result) ≡ true =
     sym (c .before .before .before .before .allowed .ensures) ∙ not-false _ (c .before .before .before .if1 .left) in
-    ap (refusedAt 15) (c .number2 .ensures) ∙ sym (truth-at (operationOf (q .operation)) (q .x) (q .y) (q .lines .now) (l .at) (l .at / lineSize) (omega arith) (omega arith) (line .result) (line .ensures) (rw (sub-zero (l .at)) at accepted) (sym (c .before .before .is-true .ensures) ∙ not-true _ (c .before .if2 .taken))) ∙ l .inv .2
+    ap (refusedAt 15) (c .number2 .ensures) ∙ sym (truth-at (operationOf (q .operation)) (q .x) (q .y) (q .lines .now) (l .at) (l .inv .1) (omega arith)
+    (line .result) (line .ensures) (rw (sub-zero (l .at)) at accepted) (sym (c .before .before .is-true .ensures) ∙ not-true _ (c .before .if2 .taken))) ∙ l .inv .2
 
 add-at : tie.Need-add-at Inv-loop μ-loop
 add-at c = omega arith
@@ -80,7 +82,9 @@ loop-again c =
     let line = c .before .before .before .before .before .line-at in
     let accepted : allowed (known (q .x) (q .y) (claims (take (l .at - 0) (q .lines .now)))) (line .result) ≡ true =
     sym (c .before .before .before .allowed .ensures) ∙ not-false _ (c .before .before .if1 .left) in
-    (omega arith, omega arith, sym (passes-at (operationOf (q .operation)) (q .x) (q .y) (q .lines .now) (l .at) (l .at / lineSize) (omega arith) (omega arith) (line .result) (line .ensures) (rw (sub-zero (l .at)) at accepted) (sym (c .before .is-true .ensures) ∙ not-false _ (c .if2 .left))) ∙ l .inv .2)
+    let passed = passes-at (operationOf (q .operation)) (q .x) (q .y) (q .lines .now) (l .at) (l .inv .1) (omega arith) (line .result) (line .ensures)
+    (rw (sub-zero (l .at)) at accepted) (sym (c .before .is-true .ensures) ∙ not-false _ (c .if2 .left)) in
+    (omega arith, omega arith, sym passed ∙ l .inv .2)
 
 is-right-requires : tie.Need-is-right-requires Inv-loop μ-loop
 is-right-requires c κs = search needs

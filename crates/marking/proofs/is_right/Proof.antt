@@ -30,7 +30,8 @@ returns c =
     let q = c .before .before .before .before .before .before .before .args in
     let n = length (q .lines .now) in
     let d = c .before .before .before .before .before .direct in
-    let l = right-is (operationOf (q .operation)) (q .x) (q .y) (q .lines .now) (n - lineSize - lineSize) (n - lineSize) (n / lineSize - 2) (omega arith) (omega arith) (omega arith) _ _ (c .before .before .before .before .line-at .ensures) (c .before .before .before .line-at2 .ensures) in
+    let l = right-is (operationOf (q .operation)) (q .x) (q .y) (q .lines .now) (n - lineSize - lineSize) (n - lineSize) (omega arith) (omega arith) (omega arith) _ _
+    (c .before .before .before .before .line-at .ensures) (c .before .before .before .line-at2 .ensures) in
     sym (l ∙ rw (← d .ensures, ne-eqb _ _ (c .if1 .taken)))
 
 returns-2 : tie.Need-returns-2
@@ -38,7 +39,8 @@ returns-2 c =
     let q = c .before .before .before .before .before .before .before .before .before .args in
     let n = length (q .lines .now) in
     let d = c .before .before .before .before .before .before .before .direct in
-    let l = right-is (operationOf (q .operation)) (q .x) (q .y) (q .lines .now) (n - lineSize - lineSize) (n - lineSize) (n / lineSize - 2) (omega arith) (omega arith) (omega arith) _ _ (c .before .before .before .before .before .before .line-at .ensures) (c .before .before .before .before .before .line-at2 .ensures) in
+    let l = right-is (operationOf (q .operation)) (q .x) (q .y) (q .lines .now) (n - lineSize - lineSize) (n - lineSize) (omega arith) (omega arith) (omega arith) _ _
+    (c .before .before .before .before .before .before .line-at .ensures) (c .before .before .before .before .before .line-at2 .ensures) in
     sym (l ∙ rw (← d .ensures, eq-eqb _ _ (c .before .before .if1 .left)))
 
 pub is-right-spec : {M : Type 1} → statement M

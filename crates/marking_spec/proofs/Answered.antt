@@ -1,13 +1,13 @@
 -- Marking: one law a case, whichever test comes first.
-use mathlib.Core.Path.{_≡_, refl}
-use mathlib.Core.Bool.{Bool, true, false}
+use mathlib.Core.Path.{_≡_}
+use mathlib.Core.Bool.{true, false}
 use mathlib.Core.List.{List, []}
 use mathlib.Core.Logic.{_⊎_, inl, inr}
 use Prim.Native.Nat.{ℕ, _≤_, _<_}
 use native.Mathlib.Omega.{arith}
 use borrow.Author.Tests.{le-leb, lt-leb}
 use lib.ListN.{length}
-use Rattle.augmented_spec.specs.Direct.{isOperation, operationOf}
+use Rattle.augmented_spec.specs.Direct.{operationOf}
 use Rattle.marking_spec.specs.Marking.{claims, refusedAt, inOrder, isMarkable, marking}
 
 module _ (n x y : ℕ) (words : List ℕ) where

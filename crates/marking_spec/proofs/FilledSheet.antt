@@ -1,5 +1,5 @@
 -- The sheet that filling gives, and two lines more: its words are those of the model sheet's lines.
-use mathlib.Core.Path.{_≡_, refl, sym, ap, ap₂, _∙_}
+use mathlib.Core.Path.{_≡_, sym, ap, ap₂, _∙_}
 use mathlib.Core.Bool.{Bool, true, true≢false}
 use mathlib.Core.List.{List, [], _∷_, _++_}
 use Prim.Native.Nat.{ℕ, _*_, _-_, _≤_}
@@ -10,7 +10,7 @@ use lib.Seq.{take-at}
 use Rattle.rounding_spec.specs.Format.{binary32}
 use Rattle.pattern_spec.specs.Answer.{Answer, refused, done, isDone}
 use Rattle.augmented_spec.specs.declared.Pair.{Pair}
-use Rattle.augmented_spec.specs.Direct.{Operation, directPair, operationNumber, operationOf}
+use Rattle.augmented_spec.specs.Direct.{Operation, directPair, operationNumber}
 use Rattle.worksheet_spec.specs.Lines.{lineSize, sheetSize, Line}
 use Rattle.worksheet_spec.specs.Sheets.{sheetOf}
 use Rattle.worksheet_spec.specs.Filling.{linesWords, sheetWords, FilledSheet, filled, filling, afterFilling}

@@ -1,8 +1,8 @@
 -- The lines in their order: what each one leads to, also by words, and what their end does.
-use mathlib.Core.Path.{_≡_, refl, sym, ap, ap₂, _∙_}
-use mathlib.Core.Bool.{Bool, true, false, _&&_}
+use mathlib.Core.Path.{_≡_, refl, sym, ap, _∙_}
+use mathlib.Core.Bool.{true, false, _&&_}
 use mathlib.Core.List.{List, [], _∷_, _++_}
-use Prim.Native.Nat.{ℕ, suc, _+_, _-_, _*_, _/_, _%_, _≤_, _<_}
+use Prim.Native.Nat.{ℕ, suc, _+_, _-_, _*_, _/_, _%_, _≤_}
 use native.Mathlib.Nat.{le-of-eq}
 use native.Mathlib.Omega.{arith}
 use lib.Dec.{eqb}
@@ -13,7 +13,7 @@ use Rattle.rounding_spec.specs.Format.{binary32}
 use Rattle.worksheet_spec.specs.Lines.{lineSize}
 use Rattle.marking_spec.specs.declared.Claim.{Claim}
 use Rattle.marking_spec.specs.Marking.{claims, known, allowed, isTrue, lastTwoAre, Marked, refusedAt, judged, isRight, inOrder}
-use Rattle.marking_spec.proofs.Claims.{claims-at, claims-split, claims-next, claims-count, claims-short}
+use Rattle.marking_spec.proofs.Claims.{claims-split, claims-next, claims-count}
 
 module _ (o : Operation) (x y : ℕ) where
   pub all-passed : (earlier : List Claim) → inOrder o x y earlier [] ≡ judged (isRight o x y earlier)

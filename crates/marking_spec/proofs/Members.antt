@@ -3,16 +3,16 @@ use mathlib.Core.Path.{_≡_, refl, sym, ap, ap₂, _∙_}
 use mathlib.Core.Logic.{_⊎_, inl, inr, _↔_}
 use mathlib.Core.Bool.{Bool, true, false, _&&_, _||_, true≢false}
 use mathlib.Core.List.{List, [], _∷_, _++_}
-use Prim.Native.Nat.{ℕ, _≤_, _<_}
+use Prim.Native.Nat.{ℕ}
 use native.Mathlib.Omega.{arith}
-use borrow.Author.Tests.{le-leb, eq-eqb, eqb-true, eqb-false, leb-true}
+use borrow.Author.Tests.{eq-eqb, eqb-true, eqb-false, leb-true}
 use lib.Dec.{eqb, leb}
 use Rattle.pattern_spec.proofs.Truth.{both-of}
 use Rattle.worksheet_spec.specs.Lines.{Step, add, subtract, multiply, fused, stepNumber, minus}
 use Rattle.worksheet_spec.specs.Theorems.{Among}
 use Rattle.marking_spec.specs.declared.Claim.{Claim}
 use Rattle.marking_spec.specs.Marking.{claimedResults, isStep, stepOf, constants, minusZero, among, known, thirdAllowed, allowed, isTrue}
-use Rattle.marking_spec.specs.Theorems.{IsResult, MayStand, KnownMeans, Third, AllowedMeans, TrueMeans}
+use Rattle.marking_spec.specs.Theorems.{IsResult, MayStand, Third, AllowedMeans, TrueMeans}
 use Rattle.marking_spec.proofs.Lookup.{either, among-append}
 
 -- ---- members of lists

@@ -1,15 +1,13 @@
 -- A model sheet, and two lines that add 80000000 to its first and to its second: each line is allowed and true, and they claim the pair.
 use mathlib.Core.Path.{_≡_, refl, sym, ap, subst, _∙_}
-use mathlib.Core.Logic.{_⊎_, inl, inr}
+use mathlib.Core.Logic.{inl, inr}
 use mathlib.Core.Bool.{Bool, true, false}
 use mathlib.Core.List.{List, [], _∷_, _++_, append-assoc}
-use Prim.Native.Nat.{ℕ, suc, _+_, _*_, _%_, _≤_}
+use Prim.Native.Nat.{ℕ, _+_}
 use native.Mathlib.Omega.{arith}
 use lib.ListN.{length, length-append}
-use Rattle.rounding_spec.specs.Format.{binary32}
-use Rattle.binary32_spec.specs.Steps.{addStep}
 use Rattle.binary32_spec.specs.Marks.{addMark}
-use Rattle.augmented_spec.specs.Direct.{Operation, directPair, operationNumber}
+use Rattle.augmented_spec.specs.Direct.{Operation, operationNumber}
 use Rattle.worksheet_spec.specs.Constants.{factors, smallest}
 use Rattle.worksheet_spec.specs.Lines.{Step, add, subtract, multiply, fused, stepNumber, Line, Gives, minus}
 use Rattle.worksheet_spec.specs.Sheets.{sheetOf}
@@ -20,10 +18,10 @@ use Rattle.worksheet_spec.proofs.Derivation.{here, there, left, right}
 use Rattle.worksheet_spec.proofs.Filling.{words-length}
 use Rattle.worksheet_spec.proofs.Theorems.{each-line, derived, line-count, foot-is-pair}
 use Rattle.marking_spec.specs.declared.Claim.{Claim}
-use Rattle.marking_spec.specs.Marking.{claims, claimedResults, constants, minusZero, among, known, thirdAllowed, stepOf, allowed, isTrue, judged, marking}
+use Rattle.marking_spec.specs.Marking.{claims, claimedResults, constants, minusZero, among, known, thirdAllowed, allowed, isTrue, judged, marking}
 use Rattle.marking_spec.specs.Theorems.{Markable, Fit, addedMinusZero}
 use Rattle.marking_spec.proofs.Members.{true-among, step-of, parts-allowed, both-equal}
-use Rattle.marking_spec.proofs.Said.{fit-none, fit-one, fit-append, marking-means}
+use Rattle.marking_spec.proofs.Said.{fit-append, marking-means}
 use Rattle.marking_spec.proofs.MinusZero.{Stays, first-stays, second-stays}
 
 -- ---- a sheet's lines as a candidate's

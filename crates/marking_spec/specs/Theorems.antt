@@ -9,7 +9,7 @@ use Rattle.rounding_spec.specs.Format.{binary32}
 use Rattle.binary32_spec.specs.Steps.{addStep, subStep, mulStep, fmaStep}
 use Rattle.binary32_spec.specs.Marks.{addMark, subMark, mulMark, fmaMark}
 use Rattle.augmented_spec.specs.declared.Pair.{Pair}
-use Rattle.augmented_spec.specs.Direct.{Operation, sum, difference, product, directPair, operationNumber}
+use Rattle.augmented_spec.specs.Direct.{Operation, sum, directPair, operationNumber}
 use Rattle.worksheet_spec.specs.Lines.{lineSize, Step, add, subtract, multiply, fused, stepNumber, Line, line, minus}
 use Rattle.worksheet_spec.specs.Sheets.{sheetOf}
 use Rattle.worksheet_spec.specs.Filling.{linesWords, filled, filling, afterFilling}

@@ -2,14 +2,14 @@ use borrow.Author.Needs.{needs}
 use mathlib.Core.Path.{_≡_, refl, sym, ap, _∙_}
 use mathlib.Core.Bool.{true, false}
 use mathlib.Core.List.{[]}
-use Prim.Native.Nat.{_+_, _-_, _*_, _/_, _%_, _≤_}
+use Prim.Native.Nat.{_-_, _%_, _≤_}
 use native.Mathlib.Omega.{arith}
 use borrow.Author.Tests.{not-true, not-false}
 use native.Mathlib.Nat.{sub-zero}
 use lib.ListN.{length, take}
 use Rattle.augmented_spec.specs.Direct.{operationOf}
 use Rattle.worksheet_spec.specs.Lines.{lineSize}
-use Rattle.marking_spec.specs.Marking.{claims, known, allowed, isTrue, refusedAt, judged, inOrder}
+use Rattle.marking_spec.specs.Marking.{claims, known, allowed, refusedAt, judged, inOrder}
 use Rattle.marking_spec.proofs.InOrder.{from, from-end, operands-at, truth-at, passes-at}
 use Rattle.marking.proofs.in_order.Statement.{statement}
 use Rattle.marking.proofs.in_order.Tie as tie

@@ -1,7 +1,7 @@
 use borrow.Author.Needs.{needs}
 use native.Mathlib.Omega.{arith}
 use borrow.Author.Tests.{not-true, not-false}
-use mathlib.Core.Path.{_≡_, sym, _∙_}
+use mathlib.Core.Path.{sym, _∙_}
 use Rattle.marking_lines.proofs.LineTests.{below-steps, above-steps, first-unknown, second-unknown, third-looked-up, third-unused}
 use Rattle.marking_lines.proofs.allowed.Statement.{statement}
 use Rattle.marking_lines.proofs.allowed.Tie as tie

@@ -21,15 +21,8 @@ or-assoc : (a b c : Bool) → (a || b) || c ≡ a || (b || c)
 or-assoc true b c = refl
 or-assoc false b c = refl
 
-or-right : (a : Bool) → a || true ≡ true
-or-right true = refl
-or-right false = refl
-
 module _ (p k : ℕ) (wide : p < 0x1_0000_0000) (narrow : k < 0x1_0000_0000) where
-  same : eqb p k ≡ true → p % 0x8000_0000 ≡ k % 0x8000_0000
-  same e = ap (λ (n : ℕ). n % 0x8000_0000) (eqb-true p k e)
-
-  pub either-same : p % 0x8000_0000 ≡ k % 0x8000_0000 → either p k ≡ true
+  either-same : p % 0x8000_0000 ≡ k % 0x8000_0000 → either p k ≡ true
   either-same e = go (eqb p k) refl (leb 0x8000_0000 k) refl
     where
       go : (b : Bool) → eqb p k ≡ b → (c : Bool) → leb 0x8000_0000 k ≡ c → either p k ≡ true
@@ -43,7 +36,7 @@ module _ (p k : ℕ) (wide : p < 0x1_0000_0000) (narrow : k < 0x1_0000_0000) whe
           let other = eqb-false p k i in
           rw (i, j, eq-eqb p (k + 0x8000_0000) (omega arith))
 
-  pub either-other : (p % 0x8000_0000 ≡ k % 0x8000_0000 → ⊥) → either p k ≡ false
+  either-other : (p % 0x8000_0000 ≡ k % 0x8000_0000 → ⊥) → either p k ≡ false
   either-other n = go (leb 0x8000_0000 k) refl
     where
       go : (c : Bool) → leb 0x8000_0000 k ≡ c → either p k ≡ false
@@ -55,10 +48,6 @@ module _ (p k : ℕ) (wide : p < 0x1_0000_0000) (narrow : k < 0x1_0000_0000) whe
           rw (ne-eqb p k (omega arith), j, ne-eqb p (k + 0x8000_0000) (omega arith))
 
 -- ---- lists
-pub among-next : (p k : ℕ) (ks : List ℕ) → among p (k ∷ ks) ≡ either p k || among p ks
-unfolding among
-among-next p k ks = refl
-
 pub among-append : (p : ℕ) (ks ms : List ℕ) → among p (ks ++ ms) ≡ among p ks || among p ms
 unfolding among
 among-append p [] ms = refl

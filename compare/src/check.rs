@@ -1,4 +1,5 @@
-//! `compare check`: the comparison tried on itself, then the steps, the pairs, the totals, filling, lists and the program.
+//! `compare check`: the comparison tried on itself, then the steps, the pairs, the totals, filling, lists, marking
+//! and the program.
 use crate::pairs::edges::Edges;
 use crate::pairs::{self, cases, OPERATIONS};
 use crate::processor::Processor;
@@ -8,7 +9,7 @@ use crate::subject::Library;
 use crate::totals;
 use crate::totals::columns::SHAPES as COLUMN_SHAPES;
 use crate::workers::SHOWN;
-use crate::{edges, header, lists, planted, sheets, steps};
+use crate::{edges, header, lists, marking, planted, sheets, steps};
 use std::process::ExitCode;
 use std::time::Instant;
 
@@ -24,6 +25,8 @@ pub struct Options {
     pub fills: u64,
     /// Random lists of events, for each shape that has them.
     pub lists: u64,
+    /// Worksheets to be marked, shared by the shapes.
+    pub markings: u64,
     /// Random files of question lines for the program, for each shape that has them.
     pub files: u64,
     /// What is run in the place of `target/bin/sheet`.
@@ -59,8 +62,9 @@ pub fn run(processor: Processor, options: &Options) -> ExitCode {
     let of_totals = timed("calls on totals", || compared_totals(options));
     let of_fills = timed("sheets filled", || lists::check::compared_fills(options.seed, options.fills));
     let of_lists = timed("events of lists", || lists::check::compared_lists(options.seed, options.lists));
+    let of_marking = timed("worksheets marked", || marking::check::compared(options.seed, options.markings));
     let of_sheets = timed("lines for the program", || sheets::check::compared(&options.sheets()));
-    if of_steps + of_pairs + of_totals + of_fills + of_lists + of_sheets == 0 {
+    if of_steps + of_pairs + of_totals + of_fills + of_lists + of_marking + of_sheets == 0 {
         ExitCode::SUCCESS
     } else {
         ExitCode::FAILURE
@@ -82,6 +86,7 @@ fn distrusted(processor: Processor, seed: u64) -> Option<String> {
         .or_else(of_pairs)
         .or_else(of_totals)
         .or_else(of_stored)
+        .or_else(marking::check::distrusted)
         .or_else(|| sheets::check::distrusted(processor, seed))
 }
 
@@ -96,6 +101,7 @@ fn finds_planted(processor: Processor, step_edges: &[u32], pair_edges: &Edges, s
         ("totals, by a shape of columns", totals::planted::tried(seed)),
         ("totals and in the stored file, by that file", totals::planted::stored::tried()),
         ("filling and in lists, by a shape of questions or lists", lists::check::tried(seed)),
+        ("marking, by a shape of worksheets", marking::check::tried(seed)),
         ("the program, by a shape of files", sheets::check::tried(seed)),
     ];
     for (place, result) in &tried {

@@ -118,7 +118,7 @@ fn type_in_rust(c: &str) -> String {
 }
 
 /// What is changed in the header, to what, and what is then wrong.
-const FAULTS: [(&str, &str, &str); 14] = [
+const FAULTS: [(&str, &str, &str); 18] = [
     ("jirmeklo_sub(", "jirmeklo_subtract(", "another name"),
     (
         "jirmeklo_fma(uint32_t x, uint32_t y, uint32_t z)",
@@ -137,6 +137,14 @@ const FAULTS: [(&str, &str, &str); 14] = [
     ("struct jirmeklo_step jirmeklo_mul", "uint32_t jirmeklo_mul", "a step without its mark"),
     ("uint32_t result, mark;", "uint32_t mark, result;", "a mark before the result"),
     ("uint32_t result, mark;", "uint32_t result; bool mark;", "a mark of another type"),
+    (
+        "uint32_t refusal, line;\n    bool right;",
+        "uint32_t refusal; bool right; uint32_t line;",
+        "right before the line",
+    ),
+    ("uint32_t refusal, line;", "uint32_t line, refusal;", "the line before the refusal"),
+    ("bool right;", "uint32_t right;", "right of another type"),
+    ("const uint32_t *lines, size_t", "uint32_t *lines, size_t", "lines that are written"),
 ];
 
 /// The faults that are found, all of them, or one that is not.

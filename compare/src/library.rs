@@ -46,6 +46,15 @@ pub struct Filled {
     pub flags: Flags,
 }
 
+/// What marking says of a candidate's lines: a refusal, with the line that it is about, or whether they reach the pair.
+#[repr(C)]
+#[derive(Clone, Copy, PartialEq, Eq, Debug)]
+pub struct Marked {
+    pub refusal: u32,
+    pub line: u32,
+    pub right: bool,
+}
+
 extern "C" {
     pub fn jirmeklo_add(x: u32, y: u32) -> Step;
     pub fn jirmeklo_sub(x: u32, y: u32) -> Step;
@@ -61,6 +70,7 @@ extern "C" {
     pub fn jirmeklo_carry_over(old: *const u32, old_words: usize, total: *mut u32, words: usize) -> u32;
     pub fn jirmeklo_read(total: *const u32, words: usize) -> Reading;
     pub fn jirmeklo_fill(operation: u32, x: u32, y: u32, words: *mut u32, count: usize) -> Filled;
+    pub fn jirmeklo_mark(operation: u32, x: u32, y: u32, lines: *const u32, words: usize) -> Marked;
     pub fn jirmeklo_replay(
         operations: *const u32,
         operations_count: usize,

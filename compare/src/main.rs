@@ -8,6 +8,7 @@ mod fused;
 mod header;
 mod library;
 mod lists;
+mod marking;
 mod marks;
 mod pairs;
 mod pattern;
@@ -36,10 +37,12 @@ use subject::{Library, Subject};
 use totals::model::LENGTH;
 
 const USAGE: &str = "usage: compare check [OPTION N]... | compare sheets [OPTION N]... | compare lists [OPTION N]...
+     | compare marking [OPTION N]...
      | compare bench [--seed N] | compare sheets-bench [--seed N] [--program WORDS]
      | compare step STEP PATTERN PATTERN [PATTERN] | compare pair OPERATION PATTERN PATTERN | compare total [TERM | +]...
      | compare sheets-model | compare peer | compare sheets-input SHAPE NUMBER [--seed N]
-    check       all comparisons; sheets: that of the program `sheet` alone; lists: those of filling and of lists alone
+    check       all comparisons; sheets: that of the program `sheet` alone; lists: those of filling and of lists alone;
+                marking: that of marking alone
     sheets-model, peer   answer question lines of standard input as `sheet` does: by the model, on the processor's floats
     sheets-input         prints a file of question lines that a difference names
     STEP        add, sub, mul or fma, which takes three patterns; a pattern is eight upper-case hexadecimal digits
@@ -51,6 +54,7 @@ const USAGE: &str = "usage: compare check [OPTION N]... | compare sheets [OPTION
     --columns N random columns of calls on totals, for each shape that has them (default 20000)
     --fills N   random questions for filling, shared by the shapes (default 2400000)
     --lists N   random lists of questions, for each shape that has them (default 400)
+    --markings N   worksheets to be marked, shared by the shapes (default 400000)
     --files N   random files of question lines for the program, for each shape that has them (default 60)
     --program WORDS   what is run in the place of target/bin/sheet: a path and arguments, with spaces between";
 
@@ -89,6 +93,7 @@ fn measured_or_compared(command: &str, words: &[String]) -> ExitCode {
         "check" => check::run(processor, &options),
         "sheets-bench" => sheets::bench::run(options.seed, options.program.as_deref()),
         "lists" => lists::check::run(options.seed, options.fills, options.lists),
+        "marking" => marking::check::run(options.seed, options.markings),
         "sheets" => sheets::check::run(processor, &options.sheets()),
         "bench" => benches(processor, options.seed),
         _ => wrong_usage(),
@@ -178,6 +183,7 @@ fn options(words: &[String]) -> Option<Options> {
         columns: 20_000,
         fills: 2_400_000,
         lists: 400,
+        markings: 400_000,
         files: 60,
         program: None,
     };
@@ -195,6 +201,7 @@ fn options(words: &[String]) -> Option<Options> {
             "--columns" => options.columns = value,
             "--fills" => options.fills = value,
             "--lists" => options.lists = value,
+            "--markings" => options.markings = value,
             "--files" => options.files = value,
             _ => return None,
         }

@@ -106,7 +106,10 @@ fn benches(processor: Processor, seed: u64) -> ExitCode {
     let of_pairs = pairs::bench::run(processor, seed);
     println!();
     let of_totals = totals::bench::run(seed);
-    let failed = [of_steps, of_pairs, of_totals].into_iter().find(|&code| code != ExitCode::SUCCESS);
+    println!();
+    let of_marking = marking::bench::run(processor, seed);
+    let failed =
+        [of_steps, of_pairs, of_totals, of_marking].into_iter().find(|&code| code != ExitCode::SUCCESS);
     failed.unwrap_or(ExitCode::SUCCESS)
 }
 

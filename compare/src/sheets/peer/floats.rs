@@ -50,7 +50,7 @@ fn signals(x: u32) -> bool {
 
 /// The processor's number. Which NaN it gives depends on how the compiler puts the operands, so that NaN goes by the rule.
 #[inline(always)]
-fn result<const N: usize>(value: f32, operands: [u32; N]) -> u32 {
+pub fn result<const N: usize>(value: f32, operands: [u32; N]) -> u32 {
     if value.is_nan() {
         nan_of(&operands)
     } else {
@@ -63,8 +63,9 @@ fn nan_of(operands: &[u32]) -> u32 {
     operands.iter().find(|&&operand| is_nan(operand)).map_or(NAN, |nan| nan | QUIET)
 }
 
+/// 2 where an operand is not finite; else by whether the result is exact.
 #[inline(always)]
-fn mark<const N: usize>(operands: [u32; N], is_exact: impl Fn() -> bool) -> u32 {
+pub fn mark<const N: usize>(operands: [u32; N], is_exact: impl Fn() -> bool) -> u32 {
     if !operands.into_iter().all(is_finite) {
         2
     } else {
@@ -74,13 +75,13 @@ fn mark<const N: usize>(operands: [u32; N], is_exact: impl Fn() -> bool) -> u32 
 
 /// In binary64, where a product of two such numbers is exact.
 #[inline(always)]
-fn wide(pattern: u32) -> f64 {
+pub fn wide(pattern: u32) -> f64 {
     f64::from(f32::from_bits(pattern))
 }
 
 /// Whether a + b is what the result stands for. A sum that was rounded leaves something of the smaller one.
 #[inline(always)]
-fn is_sum(a: f64, b: f64, result: u32) -> bool {
+pub fn is_sum(a: f64, b: f64, result: u32) -> bool {
     let sum = a + b;
     sum == wide(result) && sum - a == b && sum - b == a
 }

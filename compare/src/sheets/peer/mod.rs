@@ -1,7 +1,8 @@
 //! The same program on the processor's floats, in Rust and for speed: the measure that `sheet` is held to.
 //!
 //! It reads and writes in large blocks, and keeps no more than one of each and a total.
-mod floats;
+pub mod floats;
+
 mod question;
 mod text;
 

@@ -160,9 +160,9 @@ MarkedExamples =
     × (marking 1 0x3f80_0000 0x3380_0000 (plusMinusZero 0x3380_0000 0 (plusMinusZero 0x3f80_0000 0 [])) ≡ judged false)
     × (marking 2 0x3f80_0000 0x3f80_0000 (plusMinusZero 0x0000_0000 0 (plusMinusZero 0x0000_0000 0 [])) ≡ judged true)
     × (marking 2 0x3f80_0000 0x3f80_0000 (plusMinusZero 0x8000_0000 0 (plusMinusZero 0x8000_0000 0 [])) ≡ judged false)
-    -- operations 0 and 4, before anything else; eleven words; one line
+    -- operations 0 and 4, before anything else; two lines and a word; one line
     × (marking 0 0 0 [] ≡ refusedAt 10 0) × (marking 4 0 0 (plusMinusZero 0 0 (plusMinusZero 0 0 [])) ≡ refusedAt 10 0)
-    × (marking 1 0 0 (plusMinusZero 0 0 (1 ∷ 0 ∷ 0 ∷ 0 ∷ 0 ∷ [])) ≡ refusedAt 13 0)
+    × (marking 1 0 0 (plusMinusZero 0 0 (plusMinusZero 0 0 (1 ∷ []))) ≡ refusedAt 13 0)
     × (marking 1 0 0 (plusMinusZero 0 0 []) ≡ refusedAt 13 0)
     -- step 5; an unused third that is not 0, on a line that is false too; 40000001, which is no constant; a line's own result
     × (marking 1 0 0 (plusMinusZero 0 0 (5 ∷ 0 ∷ 0 ∷ 0 ∷ 0 ∷ 0 ∷ [])) ≡ refusedAt 14 2)

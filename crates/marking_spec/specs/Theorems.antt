@@ -55,13 +55,14 @@ MayStand x y earlier p = Among p (x ∷ y ∷ []) ⊎ (Among p (0x8000_0000 ∷ 
 abbrev pub KnownMeans : Type 0
 KnownMeans = (x y p : ℕ) (earlier : List Claim) → (among p (known x y earlier) ≡ true) ↔ MayStand x y earlier p
 
--- a step that there is, operands that are known, and an unused third that is 0
+-- an unused third is 0
 abbrev pub Third : ℕ → ℕ → List Claim → Step → ℕ → Type 0
 Third x y earlier add z = z ≡ 0
 Third x y earlier subtract z = z ≡ 0
 Third x y earlier multiply z = z ≡ 0
 Third x y earlier fused z = MayStand x y earlier z
 
+-- a step that there is, and operands that may stand there
 abbrev pub AllowedMeans : Type 0
 AllowedMeans =
     (x y : ℕ) (earlier : List Claim) (l : Claim)
@@ -96,6 +97,7 @@ ClaimsPair o x y ls =
     (earlier : List Claim) × (k : Claim) × (l : Claim)
     × (ls ≡ earlier ++ (k ∷ l ∷ [])) × (k .result ≡ p .first) × (l .result ≡ p .second)
 
+-- what each answer says of operation, patterns and words
 abbrev pub Says : ℕ → ℕ → ℕ → List ℕ → Marked → Type 0
 Says n x y words (refusedAt refusal at) =
     ((refusal ≡ 10) × (at ≡ 0) × ((n ≡ 0) ⊎ (3 < n)))
@@ -108,11 +110,11 @@ Says n x y words (judged right) =
     (o : Operation) × (n ≡ operationNumber o) × Markable (length words) × Fit x y [] (claims words)
     × ((right ≡ true) ↔ ClaimsPair o x y (claims words))
 
--- an answer is given exactly where what it says holds
+-- each answer is given exactly where what it says holds
 abbrev pub MarkingMeans : Type 0
 MarkingMeans = (n x y : ℕ) (words : List ℕ) (answer : Marked) → (marking n x y words ≡ answer) ↔ Says n x y words answer
 
--- and so do its numbers: the refusal's, its line or 0, and not right; or 0 twice, and whether the lines are right
+-- what its numbers are then: the refusal's, its line or 0, and not right; or 0 twice, and whether the lines are right
 abbrev pub NumbersMean : Type 0
 NumbersMean =
     (n x y : ℕ) (words : List ℕ) (r : MarkedNumbers) → r ≡ markedNumbers (marking n x y words)

@@ -1,4 +1,4 @@
--- A model sheet, and two lines that add 80000000 to its first and to its second: each line is allowed and true, and they claim the pair.
+-- A model sheet with first + 80000000 and second + 80000000 behind it: each line is allowed and true, and they claim the pair.
 use mathlib.Core.Path.{_≡_, refl, sym, ap, subst, _∙_}
 use mathlib.Core.Logic.{inl, inr}
 use mathlib.Core.Bool.{Bool, true, false}

@@ -121,14 +121,14 @@ NumbersMean =
     → ((refusal at : ℕ) → Says n x y words (refusedAt refusal at) → (r .refusal ≡ refusal) × (r .line ≡ at) × (r .right ≡ false))
     × ((right : Bool) → Says n x y words (judged right) → (r .refusal ≡ 0) × (r .line ≡ 0) × (r .right ≡ right))
 
--- in particular lines that meet no refusal are right where the last two results are the direct pair in every bit, and not right otherwise
+-- in particular, where no line is refused, right says that the last two results are the direct pair, and not right that they are not
 abbrev pub RightExactly : Type 0
 RightExactly =
     (o : Operation) (x y : ℕ) (words : List ℕ) → Markable (length words) → Fit x y [] (claims words)
     → (ClaimsPair o x y (claims words) → marking (operationNumber o) x y words ≡ judged true)
     × (¬ ClaimsPair o x y (claims words) → marking (operationNumber o) x y words ≡ judged false)
 
--- ---- a model sheet, and two lines that add 80000000 to its first and to its second, is right (R13.6)
+-- ---- a model sheet becomes right lines by two more, first + 80000000 and second + 80000000 (R13.6)
 -- p + (-0), in this order or in the other, is p
 abbrev pub addedMinusZero : Bool → ℕ → Line
 addedMinusZero true p = line add p 0x8000_0000 p

@@ -1,11 +1,12 @@
--- What the relations of the contracts say: of `clearing` and `adding` by the theorems about them, whatever stands for an answer.
-use mathlib.Core.Path.{_≡_, sym, ap, _∙_}
+-- What the relations of the contracts say: of `clearing`, `adding` and `reading` by the theorems about them, whatever stands for an answer.
+use mathlib.Core.Path.{_≡_, refl, sym, ap, _∙_}
 use mathlib.Core.List.{List}
 use Prim.Native.Nat.{ℕ}
 use Rattle.pattern_spec.specs.Answer.{Answer, refused, done, refusalOf}
-use Rattle.accumulator_spec.specs.Totals.{Term, adding, afterAdding, clearing, afterClearing}
-use Rattle.accumulator_spec.specs.Theorems.{ClearedAs, AddedAs, ClearsMeans, AddsMeans, AddsNumberedMeans, AddsAlike}
-use Rattle.accumulator_spec.proofs.Answers.{clearing-is, adding-length, adding-unfit, adding-special, adding-full, adding-done, after-refused}
+use Rattle.accumulator_spec.specs.declared.ReadingNumbers.{ReadingNumbers}
+use Rattle.accumulator_spec.specs.Totals.{Term, adding, afterAdding, clearing, afterClearing, readingNumbers}
+use Rattle.accumulator_spec.specs.Theorems.{ClearedAs, AddedAs, ClearsMeans, ClearNumbers, AddsMeans, AddsNumberedMeans, AddsAlike, NoPairRead, ReadNumbers}
+use Rattle.accumulator_spec.proofs.Answers.{clearing-is, adding-length, adding-unfit, adding-special, adding-full, adding-done, after-refused, reading-length, reading-unfit, reading-pair}
 use Rattle.accumulator_spec.proofs.Adding.{exact-adding}
 
 -- ---- f is what an answer is handed over as
@@ -35,6 +36,9 @@ module _ {A : Type 0} (f : Answer (Unit {0}) → A) (before : List ℕ) where
 pub clears-means : ClearsMeans
 clears-means before after answer h = cleared-as (λ a. a) before answer after (h .0) (h .1)
 
+pub clear-numbers : ClearNumbers
+clear-numbers before after n h = cleared-as refusalOf before n after (h .0) (h .1)
+
 pub adds-means : AddsMeans
 adds-means before after x answer h = added-as (λ a. a) before x answer after (h .0) (h .1)
 
@@ -43,3 +47,14 @@ adds-numbered-means before after x n h = added-as refusalOf before x n after (h 
 
 pub adds-alike : AddsAlike
 adds-alike before after other x n m h k = (h .0 ∙ sym (k .0), h .1 ∙ sym (k .1))
+
+-- ---- reading, by numbers
+no-pair-read : (n : ℕ) (r : ReadingNumbers) → r ≡ readingNumbers (refused n) → NoPairRead n r
+no-pair-read n r e = rw e (refl, refl, refl)
+
+pub read-numbers : ReadNumbers
+read-numbers t r h = (
+  λ n. no-pair-read 5 r (h ∙ ap readingNumbers (reading-length t n)),
+  λ full f. no-pair-read 6 r (h ∙ ap readingNumbers (reading-unfit t full f)),
+  λ full f. let e = h ∙ ap readingNumbers (reading-pair t full f) in (ap (λ (s : ReadingNumbers). s .refusal) e, ap (λ (s : ReadingNumbers). s .first) e, ap (λ (s : ReadingNumbers). s .second) e),
+)

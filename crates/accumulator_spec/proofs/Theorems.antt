@@ -12,7 +12,7 @@ use Rattle.accumulator_spec.proofs.Signs.{sign-of-both-is}
 use Rattle.accumulator_spec.proofs.MinusZeros.{pattern-minus-zero, product-minus-zero, column-sign-is, column-minus-zero, sign-landmarks}
 use Rattle.accumulator_spec.proofs.Carried.{carrying-refused, carries-means, carries-numbered-means, fit-old-is, old-reads, carried-fit}
 use Rattle.accumulator_spec.proofs.Carried.{old-column-is, carried-terms-are, carried-column}
-use Rattle.accumulator_spec.proofs.Relations.{clears-means, adds-means, adds-numbered-means, adds-alike}
+use Rattle.accumulator_spec.proofs.Relations.{clears-means, clear-numbers, adds-means, adds-numbered-means, adds-alike, read-numbers}
 use Rattle.accumulator_spec.proofs.Columns.{column-next, accepted-each, all-finite-is, exact-column, any-order}
 use Rattle.accumulator_spec.proofs.Joining.{joining-refused, accepted-join, exact-join, refused-join, joins-means, joins-numbered-means}
 use Rattle.accumulator_spec.proofs.Builds.{built-by, built-is-column, old-built-is, joined-is-column, columns-join, column-built, empty-joins, join-landmarks}
@@ -47,6 +47,7 @@ all = (
   refused-term,
   clearing-is,
   clears-means,
+  clear-numbers,
   adds-means,
   adds-numbered-means,
   adds-alike,
@@ -57,6 +58,7 @@ all = (
   any-order,
   reading-refused,
   read-fit,
+  read-numbers,
   read-column,
   exact-back,
   read-finite,

@@ -15,11 +15,13 @@ use Rattle.rounding_spec.specs.Value.{infinite, finite, decode, encode, RN0}
 use Rattle.pattern_spec.specs.Exact.{whole, int}
 use Rattle.pattern_spec.specs.Classes.{zeroPattern}
 use Rattle.augmented_spec.specs.Pairs.{pairOf, sumPair, productPair}
+use Rattle.accumulator_spec.specs.declared.ReadingNumbers.{ReadingNumbers}
 use Rattle.accumulator_spec.specs.Words.{Words, natural, integer, wordsOfInteger}
 use Rattle.accumulator_spec.specs.Totals.{zeros, numberSize, totalSize, mostTerms, number, count, signWord, totalOf, fit, FitTotal}
 use Rattle.accumulator_spec.specs.Totals.{isCleared, Term, ofPattern, ofProduct, finiteOperands, exactTerm, isMinusZero}
-use Rattle.accumulator_spec.specs.Totals.{adding, afterAdding, Adds, AddsNumbered, Clears}
-use Rattle.accumulator_spec.specs.Totals.{clearing, afterClearing, pairRead, exactNumber, exactTotal, pairAnswer, reading}
+use Rattle.accumulator_spec.specs.Totals.{adding, afterAdding, Adds, AddsNumbered, Clears, ClearsNumbered}
+use Rattle.accumulator_spec.specs.Totals.{clearing, afterClearing, pairRead, exactNumber, exactTotal, pairAnswer}
+use Rattle.accumulator_spec.specs.Totals.{reading, readingNumbers}
 use Rattle.accumulator_spec.specs.Columns.{column, Accepted, AllFinite, columnSum, columnSign}
 use Rattle.accumulator_spec.specs.Carrying.{oldSize}
 use Rattle.accumulator_spec.specs.JoinTheorems.{JoiningRefused, AcceptedJoin, ExactJoin, RefusedJoin, JoinsMeans, JoinsNumberedMeans}
@@ -176,6 +178,10 @@ abbrev pub ClearsMeans : Type 0
 ClearsMeans =
     (before after : List ℕ) (answer : Answer (Unit {0})) → Clears before answer after → ClearedAs refused (done tt) before answer after
 
+-- by numbers: 5, or 0 where it is carried out (R8.2)
+abbrev pub ClearNumbers : Type 0
+ClearNumbers = (before after : List ℕ) (n : ℕ) → ClearsNumbered before n after → ClearedAs (λ k. k) 0 before n after
+
 -- R8.7, R8.1: the four refusals in their order, which leave the words; else a fit total, whose number is the exact sum, one term more, and
 -- 0 as the sign word exactly where it was 0 and the term is -0 (R6.11)
 abbrev pub AddedAs : {A : Type 0} → (ℕ → A) → A → List ℕ → Term → A → List ℕ → Type 0
@@ -253,6 +259,19 @@ ReadFit =
     × ((signWord t ≡ 1) ⊎ (count t ≡ 0) → reading t ≡ pairAnswer (pairOf binary32 (exactNumber (number t))))
     × (signWord t ≡ 0 → 0 < count t → reading t ≡ pairAnswer (pairOf binary32 (finite true 0)))
 
+-- By numbers: 5, then 6, beside zeros; else 0 and both halves of the pair of the total's exact value (R6.5 to R6.8).
+abbrev pub NoPairRead : ℕ → ReadingNumbers → Type 0
+NoPairRead n r = (r .refusal ≡ n) × (r .first ≡ 0) × (r .second ≡ 0)
+
+abbrev pub ReadNumbers : Type 0
+ReadNumbers =
+    (t : List ℕ) (r : ReadingNumbers) → r ≡ readingNumbers (reading t)
+    → (length t ≢ totalSize → NoPairRead 5 r)
+    × (length t ≡ totalSize → fit t ≡ false → NoPairRead 6 r)
+    × (length t ≡ totalSize → fit t ≡ true
+    → let p = pairOf binary32 (exactTotal (number t) (count t) (signWord t)) in
+    (r .refusal ≡ 0) × (r .first ≡ encode binary32 (p .first)) × (r .second ≡ encode binary32 (p .second)))
+
 -- so that a column reads the pair of its exact sum, or of -0 where it has terms and all are -0
 abbrev pub ReadColumn : Type 0
 ReadColumn =
@@ -309,10 +328,10 @@ abbrev pub All : Type 0
 All =
     TotalSizes × WordAt × WordsFormed × NaturalWords × IntegerHeld × WordsUnique × NumberAndCount × NumberHeld × TotalUnique
     × TotalLandmarks × FitIs × LowestUnfit × ClearedZeros × FiniteOperandsAre × PatternTerm × ProductTerm × TermLandmarks × AddingRefused
-    × AcceptedTerm × ExactAdding × RefusedTerm × ClearingIs × ClearsMeans × AddsMeans × AddsNumberedMeans × AddsAlike × ColumnNext
-    × AcceptedEach × AllFiniteIs × ExactColumn × AnyOrder × ReadingRefused × ReadFit × ReadColumn × ExactBack × ReadFinite × ReadOverflow
-    × ReadZero × ReadRoundedToZero × ReadSum × ReadProduct × JoiningRefused × AcceptedJoin × ExactJoin × RefusedJoin × JoinsMeans
-    × JoinsNumberedMeans × BuiltBy × BuiltIsColumn × JoinedIsColumn × ColumnsJoin × ColumnBuilt × EmptyJoins × JoinLandmarks
-    × SignOfBothIs × PatternMinusZero × ProductMinusZero × WithinIs × UnfitSigns × ColumnSignIs × ColumnMinusZero × CarryingRefused
-    × CarriesMeans × CarriesNumberedMeans × FitOldIs × OldReads × CarriedFit × OldColumnIs × OldBuiltIs × CarriedTermsAre
-    × CarriedColumn × SignLandmarks
+    × AcceptedTerm × ExactAdding × RefusedTerm × ClearingIs × ClearsMeans × ClearNumbers × AddsMeans × AddsNumberedMeans × AddsAlike
+    × ColumnNext × AcceptedEach × AllFiniteIs × ExactColumn × AnyOrder × ReadingRefused × ReadFit × ReadNumbers × ReadColumn × ExactBack
+    × ReadFinite × ReadOverflow × ReadZero × ReadRoundedToZero × ReadSum × ReadProduct × JoiningRefused × AcceptedJoin × ExactJoin
+    × RefusedJoin × JoinsMeans × JoinsNumberedMeans × BuiltBy × BuiltIsColumn × JoinedIsColumn × ColumnsJoin × ColumnBuilt × EmptyJoins
+    × JoinLandmarks × SignOfBothIs × PatternMinusZero × ProductMinusZero × WithinIs × UnfitSigns × ColumnSignIs × ColumnMinusZero
+    × CarryingRefused × CarriesMeans × CarriesNumberedMeans × FitOldIs × OldReads × CarriedFit × OldColumnIs × OldBuiltIs
+    × CarriedTermsAre × CarriedColumn × SignLandmarks

@@ -13,6 +13,7 @@ use Rattle.pattern_spec.specs.Answer.{Answer, refused, done, isDone, refusalOf}
 use Rattle.pattern_spec.specs.Exact.{whole, times, finer}
 use Rattle.pattern_spec.specs.Classes.{bothFinite}
 use Rattle.augmented_spec.specs.Pairs.{Halves, pairOf}
+use Rattle.accumulator_spec.specs.declared.ReadingNumbers.{ReadingNumbers}
 use Rattle.accumulator_spec.specs.Words.{Words, allZero, integer, wordsOfInteger}
 
 -- ---- what a total is
@@ -138,6 +139,10 @@ afterClearing t = cond (isDone (clearing t)) zeros t
 abbrev pub Clears : List ℕ → Answer (Unit {0}) → List ℕ → Type 0
 Clears before answer after = (answer ≡ clearing before) × (after ≡ afterClearing before)
 
+-- the same, with the answer as a number: the refusal's, or 0
+abbrev pub ClearsNumbered : List ℕ → ℕ → List ℕ → Type 0
+ClearsNumbered before n after = (n ≡ refusalOf (clearing before)) × (after ≡ afterClearing before)
+
 -- ---- R8.8: reading a total
 -- two patterns, which are read where it is not refused
 pub record TwoPatterns : Type 0 where
@@ -168,3 +173,11 @@ reading t =
     cond (not (eqb (length t) totalSize)) (refused 5)
     (cond (not (fit t)) (refused 6)
     (pairAnswer (pairOf binary32 (exactTotal (number t) (count t) (signWord t)))))
+
+-- the answer as numbers: two zeros where no pair is read, told from a pair of zeros by the refusal's number
+abbrev pub noReading : ℕ → ReadingNumbers
+noReading n = record { refusal = n; first = 0; second = 0 }
+
+abbrev pub readingNumbers : Answer TwoPatterns → ReadingNumbers
+readingNumbers (refused n) = noReading n
+readingNumbers (done p) = record { refusal = 0; first = p .first; second = p .second }

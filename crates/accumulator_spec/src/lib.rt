@@ -1,5 +1,5 @@
-// Exact totals as definitions and theorems, and the sizes that they name. No function is here: the code stands above, in `accumulator` and
-// the crates between, so that a change of it proves little anew.
+// Exact totals as definitions and theorems, the sizes that they name, and a reading as numbers. No function is here: the code stands above,
+// in `accumulator` and the crates between, so that a change of it proves little anew.
 
 // R6.1: the words of a total's number.
 pub const NUMBER_SIZE: usize = 20;
@@ -11,3 +11,11 @@ pub const TOTAL_SIZE: usize = 22;
 pub const OLD_SIZE: usize = 21;
 // R6.3: the most terms that a total takes.
 pub const MOST_TERMS: u32 = 65536;
+
+// What reading answers, as numbers: the refusal's and two zeros, or 0 and the pair.
+#[repr(C)]
+pub struct ReadingNumbers {
+    pub refusal: u32,
+    pub first: u32,
+    pub second: u32,
+}

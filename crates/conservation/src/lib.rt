@@ -1,5 +1,6 @@
 // A list of questions over two totals: one is given the feet of their sheets, the other the terms set.
 mod fitting;
+pub mod numbers;
 mod settling;
 
 ghost use mathlib.Core.Path.{_≡_};

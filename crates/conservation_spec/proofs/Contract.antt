@@ -1,9 +1,9 @@
--- What the relation that `replay`'s contract cites says.
+-- What the relations that the contracts of `replay` cite say.
 use mathlib.Core.Path.{_≡_, ap, _∙_}
-use Rattle.pattern_spec.specs.Answer.{refused, done}
+use Rattle.pattern_spec.specs.Answer.{refused, done, refusalOf}
 use Rattle.conservation_spec.specs.Claim.{BothHold, Met}
 use Rattle.conservation_spec.specs.Replay.{Asking, Lent, entriesOf, eventsOf, replaying, afterReplaying}
-use Rattle.conservation_spec.specs.Theorems.{AllAsked, ReplaysMeans}
+use Rattle.conservation_spec.specs.Theorems.{AllAsked, ReplaysMeans, ReplayNumbers}
 use Rattle.conservation_spec.proofs.Refusals.{replay-by, replay-done, replay-unchanged}
 use Rattle.conservation_spec.proofs.Questions.{replay-words}
 
@@ -18,3 +18,9 @@ replays-means q before after answer h =
     replay-by q before (λ m. (answer ≡ refused m) × (after ≡ before)) ((answer ≡ done tt) × AllAsked q before after)
     (λ m e. (h .answered ∙ e, h .left ∙ replay-unchanged q before m e))
     (λ e. let a = h .answered ∙ e in (a, all-asked q before after e (h .left) (rw a at (h .conserves))))
+
+pub replay-numbers : ReplayNumbers
+replay-numbers q before after r h =
+    replay-by q before (λ m. (r ≡ m) × (after ≡ before)) ((r ≡ 0) × AllAsked q before after)
+    (λ m e. (h .answered ∙ ap refusalOf e, h .left ∙ replay-unchanged q before m e))
+    (λ e. let a = h .answered ∙ ap refusalOf e in (a, all-asked q before after e (h .left) (rw a at (h .conserves))))

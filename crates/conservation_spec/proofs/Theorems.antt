@@ -4,7 +4,7 @@ use Rattle.conservation_spec.specs.Theorems.{QuestionLimit, Conserved, B
 use Rattle.conservation_spec.specs.Theorems.{BookOfMinusZeros, MinusZeroList}
 use Rattle.conservation_spec.specs.Theorems.{MetEach, ReadEach, EntersExactly, AllowedNext, AmongOthers, FullWhen, EightLast}
 use Rattle.conservation_spec.specs.Theorems.{OnesEnter, EightReached, ReplayConserves, ReplayRefused, ReplayUnchanged, ReplayQuestions, ReplayWords}
-use Rattle.conservation_spec.specs.Theorems.{ReplaysMeans, PartsJoined, All}
+use Rattle.conservation_spec.specs.Theorems.{ReplaysMeans, ReplayNumbers, PartsJoined, All}
 use Rattle.conservation_spec.proofs.Book as books
 use Rattle.conservation_spec.proofs.Entering as entering
 use Rattle.conservation_spec.proofs.Allowed as allowed
@@ -91,6 +91,9 @@ replay-words = questions.replay-words
 pub replays-means : ReplaysMeans
 replays-means = contract.replays-means
 
+pub replay-numbers : ReplayNumbers
+replay-numbers = contract.replay-numbers
+
 pub parts-joined : PartsJoined
 parts-joined = parts.parts-joined
 
@@ -124,5 +127,6 @@ all = (
   replay-questions,
   replay-words,
   replays-means,
+  replay-numbers,
   parts-joined,
 )

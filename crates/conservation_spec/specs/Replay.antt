@@ -5,7 +5,7 @@ use mathlib.Core.Bool.{Bool, true, not, cond, _&&_}
 use mathlib.Core.List.{List, [], _∷_, _++_}
 use lib.Dec.{eqb, leb, ltb}
 use lib.ListN.{length, take, drop}
-use Rattle.pattern_spec.specs.Answer.{Answer, refused, done, isDone}
+use Rattle.pattern_spec.specs.Answer.{Answer, refused, done, isDone, refusalOf}
 use Rattle.worksheet_spec.specs.Filling.{afterFilling}
 use Rattle.accumulator_spec.specs.Totals.{isCleared}
 use Rattle.conservation_spec.specs.Lists.{mostQuestions, Posed, Totals, Event, asks, afterEvents}
@@ -94,3 +94,12 @@ pub record Replays (q : Asking) (before : Lent) (answer : Answer (Unit {0})) (af
   pub answered : answer ≡ replaying q before
   pub left : after ≡ afterReplaying q before
   pub conserves : Conserves answer (eventsOf (entriesOf q) (before .words)) (before .totals) (after .totals)
+
+-- the same, with the answer as a number: the refusal's, or 0
+abbrev pub replayAnswer : ℕ → Answer (Unit {0})
+replayAnswer r = cond (eqb r 0) (done tt) (refused r)
+
+pub record ReplaysNumbered (q : Asking) (lent : Lent) (r : ℕ) (after : Lent) : Type 0 where
+  pub answered : r ≡ refusalOf (replaying q lent)
+  pub left : after ≡ afterReplaying q lent
+  pub conserves : Conserves (replayAnswer r) (eventsOf (entriesOf q) (lent .words)) (lent .totals) (after .totals)

@@ -27,7 +27,7 @@ use Rattle.conservation_spec.specs.Lists.{Totals, Side, onFirst, onOther
 use Rattle.conservation_spec.specs.Lists.{Event, asks, reads, adds, afterEvent, afterEvents, questions}
 use Rattle.conservation_spec.specs.Lists.{book, minusZeros, signOfPatterns, bookSign, enteringSums, enteringProducts, bookValue}
 use Rattle.conservation_spec.specs.Claim.{BothHold, MetNow, Met}
-use Rattle.conservation_spec.specs.Replay.{Asking, Lent, entriesOf, eventsOf, replaying, afterReplaying, Replays}
+use Rattle.conservation_spec.specs.Replay.{Asking, Lent, entriesOf, eventsOf, replaying, afterReplaying, Replays, ReplaysNumbered}
 
 -- ---- every list
 -- which lists: questions on patterns, readings, and adding calls with an operand that is not finite or on a total that is full (R7.7);
@@ -314,6 +314,12 @@ ReplaysMeans =
     (q : Asking) (before after : Lent) (answer : Answer (Unit {0})) → Replays q before answer after
     → ReplayBy q before (λ m. (answer ≡ refused m) × (after ≡ before)) ((answer ≡ done tt) × AllAsked q before after)
 
+-- by numbers: 101 to 104, or 0 where it is carried out (R8.2)
+abbrev pub ReplayNumbers : Type 0
+ReplayNumbers =
+    (q : Asking) (before after : Lent) (r : ℕ) → ReplaysNumbered q before r after
+    → ReplayBy q before (λ m. (r ≡ m) × (after ≡ before)) ((r ≡ 0) × AllAsked q before after)
+
 -- ---- a list in parts (R6.9, R7.13)
 -- each total of one part joined by that of another
 abbrev pub afterJoiningBoth : Totals → Totals → Totals
@@ -342,4 +348,4 @@ abbrev pub All : Type 0
 All =
     QuestionLimit × Conserved × BookNext × BookSignNext × MinusZerosAre × QuestionTerms × EntersFinite × QuestionSign × BookOfMinusZeros
     × MinusZeroList × MetEach × ReadEach × EntersExactly × AllowedNext × AmongOthers × FullWhen × EightLast × OnesEnter × EightReached
-    × ReplayConserves × ReplayRefused × ReplayUnchanged × ReplayQuestions × ReplayWords × ReplaysMeans × PartsJoined
+    × ReplayConserves × ReplayRefused × ReplayUnchanged × ReplayQuestions × ReplayWords × ReplaysMeans × ReplayNumbers × PartsJoined

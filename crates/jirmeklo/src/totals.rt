@@ -1,29 +1,15 @@
 // Column totals for programs in C. Lent words are a pointer and a count.
-use accumulator::Cleared;
-use accumulator::Reading;
+use accumulator_spec::ReadingNumbers;
 ghost use mathlib.Core.Path.{_≡_};
-ghost use Rattle.accumulator_spec.specs.Totals.{ofPattern, ofProduct, AddsNumbered, reading};
+ghost use Rattle.accumulator_spec.specs.Totals.{ofPattern, ofProduct, AddsNumbered, ClearsNumbered, reading, readingNumbers};
 ghost use Rattle.accumulator_spec.specs.Joins.{JoinsNumbered};
 ghost use Rattle.accumulator_spec.specs.Carrying.{CarriesNumbered};
-ghost use Rattle.jirmeklo.specs.Totals.{noReading, readingNumbers, ClearsNumbered};
-
-// The refusal's number and two zeros; or 0 and the pair.
-#[repr(C)]
-pub struct FlatReading {
-    pub refusal: u32,
-    pub first: u32,
-    pub second: u32,
-}
 
 #[no_mangle]
 pub extern "C" fn jirmeklo_clear(total: &mut [u32]) -> u32
     ensures { λ r. ⌜ ClearsNumbered (now (total .entry)) r (now (total .exit)) ⌝ }
 {
-    let answer = accumulator::clear(total);
-    match answer {
-        Cleared::Done => 0,
-        Cleared::Length => 5,
-    }
+    accumulator::numbers::clear(total)
 }
 
 #[no_mangle]
@@ -57,27 +43,8 @@ pub extern "C" fn jirmeklo_carry_over(old: &[u32], total: &mut [u32]) -> u32
 }
 
 #[no_mangle]
-pub extern "C" fn jirmeklo_read(total: &[u32]) -> FlatReading
+pub extern "C" fn jirmeklo_read(total: &[u32]) -> ReadingNumbers
     ensures { λ r. ⌜ r ≡ readingNumbers (reading (now (total .entry))) ⌝ }
 {
-    let answer = accumulator::read(total);
-    match answer {
-        Reading::Pair { first, second } => FlatReading {
-            refusal: 0,
-            first,
-            second,
-        },
-        Reading::Length => refused(5),
-        Reading::Unfit => refused(6),
-    }
-}
-
-fn refused(refusal: u32) -> FlatReading
-    ensures { λ r. ⌜ r ≡ noReading refusal ⌝ }
-{
-    FlatReading {
-        refusal,
-        first: 0,
-        second: 0,
-    }
+    accumulator::numbers::read(total)
 }

@@ -1,4 +1,6 @@
 // The step sheet of a question in lent words. Each result on a line, with its mark, is a rounding step's.
+pub mod numbers;
+
 use augmented_spec::DIFFERENCE;
 use augmented_spec::Flags;
 use augmented_spec::PRODUCT;

@@ -11,14 +11,16 @@ use lib.Dec.{T}
 use lib.ListN.{length, take}
 use Rattle.rounding_spec.specs.Value.{Value, nan, infinite, finite, isNaN, isFinite, decode}
 use Rattle.binary32_spec.specs.Steps.{addStep, mulStep}
+use Rattle.pattern_spec.specs.Answer.{refused}
 use Rattle.augmented_spec.specs.Direct.{sum, difference, product}
+use Rattle.worksheet_spec.specs.declared.FilledNumbers.{FilledNumbers}
 use Rattle.worksheet_spec.specs.Constants.{psi, two, half, kappa, twoTo24, twoTo48, twoToMinus24, plusZero, smallest, twoTo127, twoTo102, twoToMinus102, twoToMinus126}
 use Rattle.worksheet_spec.specs.Lines.{mostLines, Step, add, subtract, multiply, fused, Line, line, value, minus, equal, isZeroPattern}
 use Rattle.worksheet_spec.specs.Sheets.{sumInOrder, swaps, sumSheet, productSheet, sheetOf}
-use Rattle.worksheet_spec.specs.Filling.{filling}
+use Rattle.worksheet_spec.specs.Filling.{filling, filledNumbers}
 use Rattle.worksheet_spec.specs.Theorems.{positivePattern, ConstantPatterns, StepNumbers, EachLine, Derived, FirstLine, stepsOf, recompositionSteps, finishStep, edgeSteps, openingSteps}
 use Rattle.worksheet_spec.specs.Theorems.{halvedSteps, sumSteps, tinySteps, middleSteps, ProductSteps, InOrder, EndsAtNaN, SmallestTimesInfinity, LineCount}
-use Rattle.worksheet_spec.specs.Theorems.{GivesMeans, InfiniteLines, FootIsPair, PrintedSheet, SheetSizes, FillingRefused, SheetFilled, FillsMeans, FilledPair, All}
+use Rattle.worksheet_spec.specs.Theorems.{GivesMeans, InfiniteLines, FootIsPair, PrintedSheet, SheetSizes, FillingRefused, SheetFilled, FillsMeans, NoSheetFilled, FillNumbers, FilledPair, All}
 use Rattle.worksheet_spec.proofs.Patterns.{Pattern, pattern-of}
 use Rattle.worksheet_spec.proofs.Computed as computed
 use Rattle.worksheet_spec.proofs.EachLine as lines
@@ -180,6 +182,29 @@ fills-means n x y words after answer h = (
 pub filled-pair : FilledPair
 filled-pair = answers.filled-pair
 
+-- ---- filling, by numbers
+no-sheet-filled : (n : ℕ) (r : FilledNumbers) → r ≡ filledNumbers (refused n) → NoSheetFilled n r
+no-sheet-filled n r e = rw e (refl, refl, refl, refl, refl, refl, refl, refl)
+
+pub fill-numbers : FillNumbers
+fill-numbers n x y words after r h =
+    let a = filling n x y words in
+    let c = fills-means n x y words after a (refl, h .1, filled-pair n x y words) in (
+      λ outside. let d = c .0 outside in (no-sheet-filled 10 r (h .0 ∙ ap filledNumbers (d .0)), d .1),
+      λ low high short. let d = c .1 low high short in (no-sheet-filled 9 r (h .0 ∙ ap filledNumbers (d .0)), d .1),
+      λ o k room. let d = c .2 o k room in let e = h .0 ∙ ap filledNumbers (d .0) in (
+        ap (λ (s : FilledNumbers). s .refusal) e,
+        ap (λ (s : FilledNumbers). s .lines) e,
+        ap (λ (s : FilledNumbers). s .first) e,
+        ap (λ (s : FilledNumbers). s .second) e,
+        ap (λ (s : FilledNumbers). s .flags .invalid) e,
+        ap (λ (s : FilledNumbers). s .flags .overflow) e,
+        ap (λ (s : FilledNumbers). s .flags .underflow) e,
+        ap (λ (s : FilledNumbers). s .flags .inexact) e,
+        d .1,
+      ),
+    )
+
 pub all : All
 all = (
   constant-patterns,
@@ -199,5 +224,6 @@ all = (
   filling-refused,
   sheet-filled,
   fills-means,
+  fill-numbers,
   filled-pair,
 )

@@ -3,12 +3,13 @@ use Prim.Native.Nat.{ℕ, _*_, _-_}
 use mathlib.Core.Path.{_≡_}
 use mathlib.Core.Bool.{not, cond}
 use mathlib.Core.List.{List, [], _∷_, _++_}
-use lib.Dec.{ltb}
+use lib.Dec.{eqb, ltb}
 use lib.ListN.{length, drop, replicate}
 use Rattle.rounding_spec.specs.Format.{binary32}
 use Rattle.pattern_spec.specs.Answer.{Answer, refused, done, isDone}
 use Rattle.augmented_spec.specs.declared.Pair.{Pair}
-use Rattle.augmented_spec.specs.Direct.{Operation, directPair, isOperation, operationOf}
+use Rattle.augmented_spec.specs.Direct.{Operation, directPair, isOperation, operationOf, none}
+use Rattle.worksheet_spec.specs.declared.FilledNumbers.{FilledNumbers}
 use Rattle.worksheet_spec.specs.Lines.{lineSize, sheetSize, stepNumber, Line}
 use Rattle.worksheet_spec.specs.Sheets.{sheetOf}
 
@@ -59,3 +60,25 @@ HasDirectPair operation x y (done s) = s .pair ≡ directPair (operationOf opera
 abbrev pub Fills : ℕ → ℕ → ℕ → List ℕ → Answer FilledSheet → List ℕ → Type 0
 Fills operation x y words answer after =
     (answer ≡ filling operation x y words) × (after ≡ afterFilling operation x y words) × HasDirectPair operation x y answer
+
+-- ---- the same, with the answer as numbers
+-- zeros and no flag where no sheet is filled
+abbrev pub noSheet : ℕ → FilledNumbers
+noSheet n = record { refusal = n; lines = 0; first = 0; second = 0; flags = none }
+
+abbrev pub filledNumbers : Answer FilledSheet → FilledNumbers
+filledNumbers (refused n) = noSheet n
+filledNumbers (done s) =
+    record { refusal = 0; lines = s .lineCount; first = s .pair .first; second = s .pair .second; flags = s .pair .flags }
+
+-- the answer that the numbers stand for
+abbrev pub filledAnswer : FilledNumbers → Answer FilledSheet
+filledAnswer r =
+    cond (eqb (r .refusal) 0) (filled (r .lines) (record { first = r .first; second = r .second; flags = r .flags }))
+    (refused (r .refusal))
+
+abbrev pub FillsNumbered : ℕ → ℕ → ℕ → List ℕ → FilledNumbers → List ℕ → Type 0
+FillsNumbered operation x y words r after =
+    (r ≡ filledNumbers (filling operation x y words))
+    × (after ≡ afterFilling operation x y words)
+    × HasDirectPair operation x y (filledAnswer r)

@@ -12,12 +12,13 @@ use Rattle.binary32_spec.specs.Steps.{addStep, subStep, mulStep, fmaStep}
 use Rattle.binary32_spec.specs.Marks.{addMark, subMark, mulMark, fmaMark}
 use Rattle.augmented_spec.specs.Direct.{Operation, sum, difference, product, directPair, operationNumber}
 use Rattle.pattern_spec.specs.Comparisons.{lessMagnitude}
+use Rattle.worksheet_spec.specs.declared.FilledNumbers.{FilledNumbers}
 use Rattle.worksheet_spec.specs.Constants.{psi, two, minusTwo, half, kappa, twoTo24, twoTo48, twoToMinus24, plusZero, smallest}
 use Rattle.worksheet_spec.specs.Constants.{factors, twoTo127, twoTo102, twoToMinus102, twoToMinus126}
 use Rattle.worksheet_spec.specs.Lines.{lineSize, mostLines, sheetSize, Step, add, subtract, multiply, fused, stepNumber}
 use Rattle.worksheet_spec.specs.Lines.{Line, line, fusedLine, Gives, before, ends, value, minus, equal, isZeroPattern}
 use Rattle.worksheet_spec.specs.Sheets.{sheetOf}
-use Rattle.worksheet_spec.specs.Filling.{FilledSheet, filled, filling, afterFilling, HasDirectPair, Fills}
+use Rattle.worksheet_spec.specs.Filling.{FilledSheet, filled, filling, afterFilling, HasDirectPair, Fills, FillsNumbered}
 
 -- ---- the constants (R5.1): each is the pattern of its number. Magnitudes count u = 2^-149, so 1 is 2 ^ 149 of them.
 abbrev pub positivePattern : ℕ → ℕ
@@ -265,6 +266,24 @@ FillsMeans =
     → let ls = sheetOf o x y .lines in
     (answer ≡ filled (length ls) (directPair o binary32 x y)) × SheetWritten ls words after)
 
+-- By numbers: 10, then 9, beside zeros and no flag; else 0, the line count and the direct pair with its flags (R7.4, R8.6).
+abbrev pub NoSheetFilled : ℕ → FilledNumbers → Type 0
+NoSheetFilled n r =
+    (r .refusal ≡ n) × (r .lines ≡ 0) × (r .first ≡ 0) × (r .second ≡ 0)
+    × (r .flags .invalid ≡ false) × (r .flags .overflow ≡ false) × (r .flags .underflow ≡ false) × (r .flags .inexact ≡ false)
+
+abbrev pub FillNumbers : Type 0
+FillNumbers =
+    (n x y : ℕ) (words after : List ℕ) (r : FilledNumbers) → FillsNumbered n x y words r after
+    → ((n ≡ 0) ⊎ (3 < n) → NoSheetFilled 10 r × (after ≡ words))
+    × (1 ≤ n → n ≤ 3 → length words < sheetSize → NoSheetFilled 9 r × (after ≡ words))
+    × ((o : Operation) → n ≡ operationNumber o → sheetSize ≤ length words
+    → let ls = sheetOf o x y .lines in let p = directPair o binary32 x y in
+    (r .refusal ≡ 0) × (r .lines ≡ length ls) × (r .first ≡ p .first) × (r .second ≡ p .second)
+    × (r .flags .invalid ≡ p .flags .invalid) × (r .flags .overflow ≡ p .flags .overflow)
+    × (r .flags .underflow ≡ p .flags .underflow) × (r .flags .inexact ≡ p .flags .inexact)
+    × SheetWritten ls words after)
+
 -- the pair that comes back is the direct pair, with its flags (R7.4): of every answer
 abbrev pub FilledPair : Type 0
 FilledPair = (o x y : ℕ) (words : List ℕ) → HasDirectPair o x y (filling o x y words)
@@ -273,4 +292,5 @@ FilledPair = (o x y : ℕ) (words : List ℕ) → HasDirectPair o x y (filling o
 abbrev pub All : Type 0
 All =
     ConstantPatterns × StepNumbers × GivesMeans × EachLine × Derived × FirstLine × InOrder × EndsAtNaN × InfiniteLines
-    × SmallestTimesInfinity × LineCount × FootIsPair × PrintedSheet × SheetSizes × FillingRefused × SheetFilled × FillsMeans × FilledPair
+    × SmallestTimesInfinity × LineCount × FootIsPair × PrintedSheet × SheetSizes × FillingRefused × SheetFilled × FillsMeans
+    × FillNumbers × FilledPair

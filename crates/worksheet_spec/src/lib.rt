@@ -1,5 +1,7 @@
-// The step sheet of a question as definitions and theorems, and its sizes, numbers and constants. No function is here: the code
-// that fills a sheet stands above.
+// The step sheet of a question as definitions and theorems, its sizes, numbers and constants, and what filling answers as
+// numbers. No function is here: the code that fills a sheet stands above.
+
+use augmented_spec::Flags;
 
 // Words of a line, most lines, and words of a sheet (R5.21, R5.22).
 pub const LINE_SIZE: usize = 6;
@@ -39,3 +41,13 @@ pub const PLUS_ZERO: u32 = 0x0000_0000;
 
 // u, 2^-149
 pub const SMALLEST: u32 = 0x0000_0001;
+
+// What filling answers, as numbers: the refusal's and zeros; or 0, the line count, and the pair at the foot with its flags.
+#[repr(C)]
+pub struct FilledNumbers {
+    pub refusal: u32,
+    pub lines: u32,
+    pub first: u32,
+    pub second: u32,
+    pub flags: Flags,
+}

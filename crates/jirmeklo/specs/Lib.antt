@@ -1,3 +1,0 @@
-pub mod Totals
-pub mod Sheets
-pub mod Theorems

@@ -1,5 +1,5 @@
-// The calls on totals with the answer as numbers, the refusal's or 0, for callers that hand it on: an enum goes through memory, a number
-// does not.
+// The calls on totals with the answer as numbers, the refusal's or 0, for callers that hand it on. Adding, joining and carrying over make
+// no enum on the way: one goes through memory, a number does not.
 use crate::Cleared;
 use crate::Reading;
 pub use accumulator_add::add_pattern;

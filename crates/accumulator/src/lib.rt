@@ -1,4 +1,5 @@
 // Exact totals of patterns and products of two patterns, in lent words (R6).
+#![tactic(auto)]
 pub mod numbers;
 
 ghost use Rattle.std.specs.Prelude.{◌≡◌};

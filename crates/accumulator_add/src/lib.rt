@@ -1,4 +1,5 @@
 // Terms of a total: patterns, and products of two (R6.2). A call answers by the refusal's number (R8.7), or by 0.
+#![tactic(auto)]
 ghost use Rattle.std.specs.Prelude.{◌≡◌, cond, ◌&&◌, suc, ◌≤◌, ◌<◌, eqb, length, set};
 ghost use Rattle.accumulator_spec.specs.Totals.{number_size, total_size, most_terms, count, sign_word, of_pattern, of_product, AddsNumbered};
 ghost use Rattle.accumulator_add.specs.Inner.{noted};

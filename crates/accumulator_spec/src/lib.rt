@@ -1,5 +1,6 @@
 // Exact totals as definitions and theorems, the sizes that they name, and a reading as numbers. No function is here: the code stands above,
 // in `accumulator` and the crates between, so that a change of it proves little anew.
+#![tactic(auto)]
 
 // R6.1: the words of a total's number.
 pub const NUMBER_SIZE: usize = 20;

@@ -1,4 +1,5 @@
 // A pair with its flags, as the code hands it back.
+#![tactic(auto)]
 
 // I, O, U and X.
 #[repr(C)]

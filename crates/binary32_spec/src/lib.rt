@@ -1,5 +1,6 @@
 // The four rounding steps as definitions and theorems, and their agreement with the toolchain's own account of IEEE 754; what a step hands
 // back.
+#![tactic(auto)]
 
 // Marks (R2.8): nothing was lost; something was, by rounding or by overflow; there was an infinity or a NaN among the operands.
 pub const EXACT: u32 = 0;

@@ -1,4 +1,5 @@
 // Exact sums and products, before any rounding.
+#![tactic(auto)]
 mod factors;
 
 ghost use Rattle.std.specs.Prelude.{◌≡◌, ◌*◌, ◌%◌, ◌^◌, ◌<◌};

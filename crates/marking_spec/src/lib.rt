@@ -1,5 +1,6 @@
 // The marking of a candidate's lines as definitions and theorems, a line as it was handed in, and
 // an answer as numbers. No function is here.
+#![tactic(auto)]
 
 // Six words as they stand (R5.22): the step's number, three operands, result and mark.
 #[derive(Drop)]

@@ -1,4 +1,5 @@
 // The class of a pattern as the code holds it: its sign, significand and exponent, or what stands in their place.
+#![tactic(auto)]
 
 // A finite number is sig * 2^exp units of 2^-149, or of 2^-298 for a product.
 #[derive(Drop)]

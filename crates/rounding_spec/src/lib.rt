@@ -1,4 +1,5 @@
 // What a tie does: to the even last bit (RNe), or to the smaller magnitude (RN0).
+#![tactic(auto)]
 #[derive(Drop)]
 pub enum Ties {
     ToEven,

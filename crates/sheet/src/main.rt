@@ -1,4 +1,5 @@
 // Model sheets of the questions on standard input.
+#![tactic(auto)]
 use libc::{STDIN_FILENO, STDOUT_FILENO};
 
 fn main() {

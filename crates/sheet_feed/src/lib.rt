@@ -1,4 +1,5 @@
 // What the program prints, carried from byte to byte. Nothing is read or written here: the text goes into a lent buffer.
+#![tactic(auto)]
 mod last;
 mod step;
 

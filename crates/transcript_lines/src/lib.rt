@@ -1,4 +1,5 @@
 // The printed lines. Each writer puts its text into the buffer, from the byte `at` on, and answers where it ends.
+#![tactic(auto)]
 pub mod lengths;
 
 ghost use Rattle.std.specs.Prelude.{[], ◌∷◌, ◌++◌, ◌+◌, ◌*◌, ◌≤◌, ◌<◌, length, drop};

@@ -1,1 +1,2 @@
 // Which lines of a sheet have which mark, rule by rule: definitions and theorems, no function.
+#![tactic(auto)]

@@ -1,5 +1,6 @@
 // The step sheet of a question as definitions and theorems, its sizes, numbers and constants, and what filling answers as
 // numbers. No function is here: the code that fills a sheet stands above.
+#![tactic(auto)]
 
 use augmented_spec::Flags;
 

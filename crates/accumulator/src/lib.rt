@@ -11,13 +11,13 @@ ghost use Rattle.accumulator.specs.Inner.{numbered, join_numbered, carry_numbere
 
 use accumulator_spec::TOTAL_SIZE;
 
-#[derive(Drop)]
+#[derive(Clone, Copy)]
 pub enum Cleared {
     Done,
     Length,
 }
 
-#[derive(Drop)]
+#[derive(Clone, Copy)]
 pub enum Added {
     Done,
     Length,
@@ -26,7 +26,7 @@ pub enum Added {
     Full,
 }
 
-#[derive(Drop)]
+#[derive(Clone, Copy)]
 pub enum Joined {
     Done,
     Length,
@@ -34,14 +34,14 @@ pub enum Joined {
     TooMany,
 }
 
-#[derive(Drop)]
+#[derive(Clone, Copy)]
 pub enum Carried {
     Done,
     Length,
     Unfit,
 }
 
-#[derive(Drop)]
+#[derive(Clone, Copy)]
 pub enum Reading {
     Pair { first: u32, second: u32 },
     Length,

@@ -41,7 +41,7 @@ fn turned(number: [u32; NUMBER_SIZE], minus: bool) -> [u32; NUMBER_SIZE]
 }
 
 // Leading digits, and the exponent of the last one.
-#[derive(Drop)]
+#[derive(Clone, Copy)]
 pub struct Digits {
     pub sig: u64,
     pub exp: u16,

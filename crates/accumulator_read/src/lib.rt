@@ -21,7 +21,7 @@ use pattern_spec::Class;
 use rounding_spec::Ties;
 
 // The refusal's number (R8.8); or 0, and the pair. Free are the halves of a refusal (`replied`).
-#[derive(Drop)]
+#[derive(Clone, Copy)]
 pub struct Reply {
     pub refusal: u32,
     pub first: u32,

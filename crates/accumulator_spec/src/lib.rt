@@ -15,7 +15,7 @@ pub const MOST_TERMS: u32 = 65536;
 
 // What reading answers, as numbers: the refusal's and two zeros, or 0 and the pair.
 #[repr(C)]
-#[derive(Drop)]
+#[derive(Clone, Copy)]
 pub struct ReadingNumbers {
     pub refusal: u32,
     pub first: u32,

@@ -8,7 +8,7 @@ ghost use Rattle.accumulator_words.specs.Inner.{after_placed, TwoWordsAdded};
 use choose::{choose, choose_pattern};
 
 // A term and where it goes in the words of a number: ±sig * 2^shift from `word` on. All that the walk over the words asks of a term (R6.4).
-#[derive(Drop)]
+#[derive(Clone, Copy)]
 pub struct Placed {
     pub minus: bool,
     pub sig: u64,

@@ -3,7 +3,7 @@
 
 // I, O, U and X.
 #[repr(C)]
-#[derive(Drop)]
+#[derive(Clone, Copy)]
 pub struct Flags {
     pub invalid: bool,
     pub overflow: bool,
@@ -12,7 +12,7 @@ pub struct Flags {
 }
 
 #[repr(C)]
-#[derive(Drop)]
+#[derive(Clone, Copy)]
 pub struct Pair {
     pub first: u32,
     pub second: u32,

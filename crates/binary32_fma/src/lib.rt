@@ -76,7 +76,7 @@ fn fused_sum(s: bool, p: u64, i: u16, t: bool, c: u64, j: u16) -> Outcome
 }
 
 // A significand and its exponent.
-#[derive(Drop)]
+#[derive(Clone, Copy)]
 pub struct Scaled {
     pub sig: u64,
     pub exp: u16,
@@ -94,7 +94,7 @@ fn normalised(c: u64, j: u16) -> Scaled
 }
 
 // Two addends, each a sign, a significand and an exponent; the first has the higher exponent, and can go up by `room` places.
-#[derive(Drop)]
+#[derive(Clone, Copy)]
 pub struct Addends {
     pub s: bool,
     pub a: u64,

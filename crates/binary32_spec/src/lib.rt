@@ -11,7 +11,7 @@ pub const SPECIAL: u32 = 2;
 
 // A step's result and its mark.
 #[repr(C)]
-#[derive(Drop)]
+#[derive(Clone, Copy)]
 pub struct Outcome {
     pub result: u32,
     pub mark: u32,

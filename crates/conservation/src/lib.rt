@@ -9,7 +9,7 @@ ghost use Rattle.conservation.specs.Answers.{answer_replayed};
 ghost use Rattle.conservation_spec.specs.Replay.{after_asking, all_within, Replays};
 
 // Carried out, or refused by 101 to 104 in this order (R8.12).
-#[derive(Drop)]
+#[derive(Clone, Copy)]
 pub enum Replayed {
     Done,
     Unequal,

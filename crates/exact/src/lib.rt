@@ -13,7 +13,7 @@ use pattern::classify;
 use pattern_spec::Class;
 
 // An exact sum, whose zero has its sign already.
-#[derive(Drop)]
+#[derive(Clone, Copy)]
 pub struct Signed {
     pub sign: bool,
     pub sig: u64,

@@ -15,7 +15,7 @@ use marking_lines::{allowed, is_true};
 use marking_spec::{Claim, FEWEST_MARKED, MOST_MARKED};
 use worksheet_spec::LINE_SIZE;
 
-#[derive(Drop)]
+#[derive(Clone, Copy)]
 pub enum Marked {
     Right,
     NotRight,

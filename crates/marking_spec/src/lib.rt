@@ -3,7 +3,7 @@
 #![tactic(auto)]
 
 // Six words as they stand (R5.22): the step's number, three operands, result and mark.
-#[derive(Drop)]
+#[derive(Clone, Copy)]
 pub struct Claim {
     pub step: u32,
     pub x: u32,
@@ -16,7 +16,7 @@ pub struct Claim {
 // An answer as numbers: the refusal's, or 0; the line that 14 or 15 is about, or 0; whether the lines are right, which is false where they
 // are refused.
 #[repr(C)]
-#[derive(Drop)]
+#[derive(Clone, Copy)]
 pub struct MarkedNumbers {
     pub refusal: u32,
     pub line: u32,

@@ -2,7 +2,7 @@
 #![tactic(auto)]
 
 // A finite number is sig * 2^exp units of 2^-149, or of 2^-298 for a product.
-#[derive(Drop)]
+#[derive(Clone, Copy)]
 pub enum Class {
     Finite { sign: bool, sig: u64, exp: u16 },
     Infinite(bool),

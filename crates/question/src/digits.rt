@@ -2,7 +2,7 @@
 ghost use Rattle.std.specs.Prelude.{◌≡◌, ◌≤◌, length};
 ghost use Rattle.question.specs.Inner.{digit_or_16, digits_value};
 
-#[derive(Drop)]
+#[derive(Clone, Copy)]
 pub enum Pattern {
     Value(u32),
     NoDigit,

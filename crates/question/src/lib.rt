@@ -11,7 +11,7 @@ ghost use Rattle.question.specs.Inner.{patterns_read};
 use digits::Pattern;
 use question_spec::QUESTION_SIZE;
 
-#[derive(Drop)]
+#[derive(Clone, Copy)]
 pub enum Question {
     // `operation` is SUM, DIFFERENCE or PRODUCT.
     Asked { operation: u32, x: u32, y: u32 },

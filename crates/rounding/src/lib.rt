@@ -22,7 +22,7 @@ pub fn round(ties: Ties, sign: bool, sig: u64, exp: u16) -> u32
 
 // A rounded number, and what the rounding left over, in the unit of the significand that was rounded. `none` is whether that is nothing,
 // which is known before the rest is brought to its unit.
-#[derive(Drop)]
+#[derive(Clone, Copy)]
 pub struct WithRest {
     pub pattern: u32,
     pub rest: u64,
@@ -99,7 +99,7 @@ fn kept_far(ties: Ties, n: u64, shift: u64) -> u64
 }
 
 // The distance of two numbers, whether the second is the larger, and whether they are equal.
-#[derive(Drop)]
+#[derive(Clone, Copy)]
 pub struct Left {
     pub rest: u64,
     pub up: bool,

@@ -15,7 +15,7 @@ pub const CLOSING_ROOM: usize = 60;
 pub const LAST_ROOM: usize = LINE_ROOM + CLOSING_ROOM;
 
 // Where a run stands in its input: lines that have ended, good ones among them, bytes of the open line, and whether `stop` was printed.
-#[derive(Drop)]
+#[derive(Clone, Copy)]
 pub struct Position {
     pub lines: u32,
     pub good: u32,
@@ -24,7 +24,7 @@ pub struct Position {
 }
 
 // A position, with the bytes that were taken of the input and those that were written on the way to it.
-#[derive(Drop)]
+#[derive(Clone, Copy)]
 pub struct Progressed {
     pub position: Position,
     pub taken: usize,

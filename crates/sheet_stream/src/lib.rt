@@ -13,14 +13,14 @@ use sheet_line::position;
 use sheet_spec::{KEPT_BYTES, Position};
 
 // A position, and whether every write on the way to it has done its work.
-#[derive(Drop)]
+#[derive(Clone, Copy)]
 pub struct Passed {
     pub position: Position,
     pub whole: bool,
 }
 
 // Where a run stands between two reads: its position, whether every call so far has done its work, and whether another read follows.
-#[derive(Drop)]
+#[derive(Clone, Copy)]
 pub struct Standing {
     pub position: Position,
     pub whole: bool,

@@ -17,7 +17,7 @@ use worksheet_lines::{Foot, Rows};
 use worksheet_rules::{products, sums};
 use worksheet_spec::{LINE_SIZE, MOST_LINES, SHEET_SIZE};
 
-#[derive(Drop)]
+#[derive(Clone, Copy)]
 pub enum Filled {
     Sheet { lines: u32, pair: Pair },
     Operation,

@@ -9,7 +9,7 @@ use choose::choose_sign;
 use pattern::{copy_sign, flipped, is_infinite, is_zero};
 
 // How a product goes on, by its first line.
-#[derive(Drop)]
+#[derive(Clone, Copy)]
 pub enum Branch {
     NotANumber,
     Infinite,

@@ -11,7 +11,7 @@ use worksheet_spec::{ADD, FUSED, LINE_SIZE, MOST_LINES, MULTIPLY, SUBTRACT};
 pub type Rows = [[u32; LINE_SIZE]; MOST_LINES];
 
 // The pair that lines reach, and the number of the next row.
-#[derive(Drop)]
+#[derive(Clone, Copy)]
 pub struct Foot {
     pub first: u32,
     pub second: u32,

@@ -45,7 +45,7 @@ pub const SMALLEST: u32 = 0x0000_0001;
 
 // What filling answers, as numbers: the refusal's and zeros; or 0, the line count, and the pair at the foot with its flags.
 #[repr(C)]
-#[derive(Drop)]
+#[derive(Clone, Copy)]
 pub struct FilledNumbers {
     pub refusal: u32,
     pub lines: u32,

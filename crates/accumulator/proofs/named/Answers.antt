@@ -1,0 +1,20 @@
+use mathlib.Core.Path.{sym, ap}
+use borrow.Author.Tests.{ne_eqb}
+use Rattle.accumulator.specs.Inner.{numbered}
+use Rattle.accumulator.proofs.named.Goals as goal
+
+pub returns-in-0 : goal.returns-in-0
+returns-in-0 c = sym (ap numbered c.in-0.is)
+
+pub returns-in-5 : goal.returns-in-5
+returns-in-5 c = sym (ap numbered c.in-5.is)
+
+pub returns-in-6 : goal.returns-in-6
+returns-in-6 c = sym (ap numbered c.in-6.is)
+
+pub returns-in-7 : goal.returns-in-7
+returns-in-7 c = sym (ap numbered c.in-7.is)
+
+pub returns-in_default : goal.returns-in_default
+returns-in_default c =
+    let n = c.args.number in let r = c.in_default.rest in rw (ne_eqb n 0 r.0.0.0.1, ne_eqb n 5 r.0.0.1, ne_eqb n 6 r.0.1, ne_eqb n 7 r.1)

@@ -1,0 +1,25 @@
+use mathlib.Core.Path.{refl}
+use Rattle.pattern_spec.specs.Classes.{value_of}
+use Rattle.binary32_spec.proofs.Fused.{fused-nan, fused-infinite, fused-number}
+use Rattle.binary32_fma.proofs.of_patterns.Goals as goal
+
+pub finite_product_plus-requires : goal.finite_product_plus-requires
+finite_product_plus-requires c = (rw c.in-Finite.is at c.product-p.ensures).bounded
+
+pub returns-in-NotANumber : goal.returns-in-NotANumber
+unfolding value_of
+returns-in-NotANumber c =
+    let e = rw c.in-NotANumber.is at c.product-p.ensures in
+    rw (c.special.ensures, c.nan_of_three.ensures) (fused-nan _ _ _ e.is)
+
+pub returns-in-Infinite : goal.returns-in-Infinite
+unfolding value_of
+returns-in-Infinite c =
+    let e = rw c.in-Infinite.is at c.product-p.ensures in
+    rw (c.special-in-Infinite.ensures, c.infinite_product_plus.ensures) (fused-infinite _ _ _ _ e.is)
+
+pub returns-in-Finite : goal.returns-in-Finite
+unfolding value_of
+returns-in-Finite c =
+    let e = rw c.in-Finite.is at c.product-p.ensures in
+    rw c.finite_product_plus.ensures (fused-number _ _ _ _ e.is refl)

@@ -1,0 +1,9 @@
+use mathlib.Core.Path.{refl, ap, ◌∙◌}
+use Rattle.marking_spec.specs.Marking.{marked_numbers}
+use Rattle.marking.proofs.numbers.mark.Goals as goal
+
+pub returns : goal.returns
+returns c = record {
+      value = c.numbers.ensures ∙ ap marked_numbers c.mark.ensures.result_value;
+      lines_value = refl;
+    }

@@ -1,0 +1,33 @@
+use mathlib.Core.Path.{ap, ◌∙◌}
+use mathlib.Core.Bool.{Bool}
+use Prim.Native.Nat.{◌*◌, ◌^◌}
+use native.Mathlib.Omega.{arith}
+use Rattle.rounding_spec.specs.Format.{binary32}
+use Rattle.rounding_spec.specs.Value.{finite, encode}
+use Rattle.rounding_spec.proofs.Packed.{zeros-ge, shift_le, packed-bounds, packed-is}
+use Rattle.rounding.proofs.rest_pattern.Goals as goal
+
+pub overflow_sub-room : goal.overflow_sub-room
+overflow_sub-room c = (zeros-ge c.args.rest c.requires.0).0
+
+pub overflow_cast-room : goal.overflow_cast-room
+overflow_cast-room c = let z = zeros-ge c.args.rest c.requires.0 in omega arith
+
+pub overflow_sub-unit : goal.overflow_sub-unit
+overflow_sub-unit c = (shift_le c.args.rest c.requires.0 c.args.unit _ c.choose_exponent-shift.ensures).0
+
+pub overflow_shl-rest : goal.overflow_shl-rest
+overflow_shl-rest c =
+    let l = shift_le c.args.rest c.requires.0 c.args.unit _ c.choose_exponent-shift.ensures in
+    omega arith
+
+pub packed-requires : goal.packed-requires
+packed-requires c =
+    packed-bounds c.args.rest c.requires.0 c.args.unit _ c.choose_exponent-shift.ensures _ c.choose_exponent-exp.ensures c.requires.1
+
+pub returns : goal.returns
+returns c =
+    c.packed.ensures
+    ∙ packed-is c.args.rest c.requires.0 c.args.unit _ c.choose_exponent-shift.ensures _ c.choose_exponent-exp.ensures
+    c.choose_sign-minus.result c.requires.1
+    ∙ ap (λ (m : Bool). encode binary32 (finite m (c.args.rest * 2 ^ c.args.unit))) c.choose_sign-minus.ensures

@@ -1,0 +1,8 @@
+use mathlib.Core.Path.{refl}
+use native.Mathlib.Omega.{arith}
+use Rattle.transcript_spec.specs.Texts.{stop_text}
+use Rattle.transcript_spec.proofs.Parts.{wrote}
+use Rattle.sheet_feed.proofs.step.stopped.Goals as goal
+
+pub returns : goal.returns
+returns c = (refl, refl, wrote {text = stop_text} (omega (arith, c.requires)) c.stop-written.ensures)

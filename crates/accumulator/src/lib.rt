@@ -88,7 +88,7 @@ pub fn add_product(total: &mut [u32], x: u32, y: u32) -> Added
 // Adds the second's number and count to the first's (R6.9); the sign word is 0 where both have it (R6.11).
 pub fn join(first: &mut [u32], second: &[u32]) -> Joined
     ensures joins { Joins first.old second.now (answer_joined result) first.new }
-    ensures second_value { second.now ≡ second.now }
+    ensures second_kept { second.exit.now ≡ second.entry.now }
 {
     named_join(accumulator_join::join(first, second))
 }
@@ -96,7 +96,7 @@ pub fn join(first: &mut [u32], second: &[u32]) -> Joined
 // Carries an old total, of 21 words, over into one of 22, whatever this held (R6.14).
 pub fn carry_over(old: &[u32], new: &mut [u32]) -> Carried
     ensures carries { Carries old.now new.old (answer_carried result) new.new }
-    ensures value { old.now ≡ old.now }
+    ensures old_kept { old.exit.now ≡ old.entry.now }
 {
     named_carry(accumulator_carry_over::carry_over(old, new))
 }

@@ -10,7 +10,7 @@ use choose::choose_pattern;
 
 pub fn carry_over(old: &[u32], new: &mut [u32]) -> u32
     ensures carries_numbered { CarriesNumbered old.now new.old result new.new }
-    ensures value { old.now ≡ old.now }
+    ensures old_kept { old.exit.now ≡ old.entry.now }
 {
     let wrong = refusal_to_carry(old, new);
     if wrong != 0 {

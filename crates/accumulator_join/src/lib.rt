@@ -12,7 +12,7 @@ use choose::choose_pattern;
 
 pub fn join(first: &mut [u32], second: &[u32]) -> u32
     ensures joins_numbered { JoinsNumbered first.old second.now result first.new }
-    ensures second_value { second.now ≡ second.now }
+    ensures second_kept { second.exit.now ≡ second.entry.now }
 {
     let wrong = refusal_of_two(first, second);
     if wrong != 0 {
@@ -34,9 +34,9 @@ fn refusal_of_two(first: &[u32], second: &[u32]) -> u32
 
 // Two fit totals, if there is room for the terms of both.
 fn join_fit(first: &mut [u32], second: &[u32]) -> u32
-    requires first_len { (length first.old ≡ total_size) × (length second.now ≡ total_size)
+    requires lengths { (length first.old ≡ total_size) × (length second.now ≡ total_size)
         × (count first.old ≤ most_terms) × (count second.now ≤ most_terms) }
-    requires first_bound { (sign_word first.old ≤ 1) × (sign_word second.now ≤ 1) }
+    requires signs { (sign_word first.old ≤ 1) × (sign_word second.now ≤ 1) }
     ensures { JoinsFit first.old second.now result first.new }
 {
     let n = first[NUMBER_SIZE] + second[NUMBER_SIZE];

@@ -48,7 +48,7 @@ pub fn second(both: u64) -> u32
 // From 26 places on the second operand does not reach a quarter of the first one's last place; `exact::sum` goes up to 31.
 fn finite_plus(s: bool, m: u64, e: u16, p: u32, q: u32) -> u64
     requires operand { Operand m e }
-    requires p_value { decode binary32 p ≡ finite s (m * 2 ^ e) }
+    requires value_of_p { decode binary32 p ≡ finite s (m * 2 ^ e) }
     requires below { Below e (class_of q) }
     ensures { result ≡ in_one_word (p ∷ q ∷ []) (pair_of binary32 (exact_sum binary32 p q)) }
 {

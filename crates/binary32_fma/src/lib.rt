@@ -62,7 +62,7 @@ fn finite_product_plus(s: bool, m: u64, e: u16, z: u32) -> Outcome
 // A product of up to 48 digits and an operand of up to 24, which is normalised so that subnormal ones stand as far up as others.
 fn fused_sum(s: bool, p: u64, i: u16, t: bool, c: u64, j: u16) -> Outcome
     requires product { Product p i }
-    requires c_bound { (c < 2 ^ 24) × (149 ≤ j) }
+    requires third { (c < 2 ^ 24) × (149 ≤ j) }
     ensures* { λ r. ⌜ r ≡ outcome (plus_finite s (p * 2 ^ i) t (c * 2 ^ j)) ⌝ }
 {
     if c == 0 {

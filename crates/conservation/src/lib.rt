@@ -53,9 +53,9 @@ fn ask_all(
     first: &mut [u32],
     other: &mut [u32],
 )
-    requires xs_len { (length xs.now ≡ length operations.now) × (length ys.now ≡ length operations.now)
+    requires lengths { (length xs.now ≡ length operations.now) × (length ys.now ≡ length operations.now)
         × (length counts.now ≡ length operations.now) }
-    requires words_value { all_within counts.now (length words.old) ≡ true }
+    requires within { all_within counts.now (length words.old) ≡ true }
     ensures { record { words = words.exit.now; totals = record { first = first.exit.now; other = other.new } }
         ≡ after_asking
         (record { operations = operations.entry.now; xs = xs.now; ys = ys.now; counts = counts.now })

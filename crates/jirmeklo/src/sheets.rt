@@ -16,8 +16,8 @@ pub extern "C" fn jirmeklo_fill(operation: u32, x: u32, y: u32, words: &mut [u32
 
 #[unsafe(no_mangle)]
 pub extern "C" fn jirmeklo_mark(operation: u32, x: u32, y: u32, lines: &[u32]) -> MarkedNumbers
-    ensures value { result ≡ marked_numbers (marking operation x y lines.now) }
-    ensures lines_value { lines.now ≡ lines.now }
+    ensures answer { result ≡ marked_numbers (marking operation x y lines.now) }
+    ensures lines_kept { lines.exit.now ≡ lines.entry.now }
 {
     marking::numbers::mark(operation, x, y, lines)
 }

@@ -30,7 +30,7 @@ pub extern "C" fn jirmeklo_add_product(total: &mut [u32], x: u32, y: u32) -> u32
 #[unsafe(no_mangle)]
 pub extern "C" fn jirmeklo_join(first: &mut [u32], second: &[u32]) -> u32
     ensures joins_numbered { JoinsNumbered first.old second.now result first.new }
-    ensures second_value { second.now ≡ second.now }
+    ensures second_kept { second.exit.now ≡ second.entry.now }
 {
     accumulator::numbers::join(first, second)
 }
@@ -38,7 +38,7 @@ pub extern "C" fn jirmeklo_join(first: &mut [u32], second: &[u32]) -> u32
 #[unsafe(no_mangle)]
 pub extern "C" fn jirmeklo_carry_over(old: &[u32], total: &mut [u32]) -> u32
     ensures carries_numbered { CarriesNumbered old.now total.old result total.new }
-    ensures value { old.now ≡ old.now }
+    ensures old_kept { old.exit.now ≡ old.entry.now }
 {
     accumulator::numbers::carry_over(old, total)
 }

@@ -26,8 +26,8 @@ pub enum Marked {
 }
 
 pub fn mark(operation: u32, x: u32, y: u32, lines: &[u32]) -> Marked
-    ensures result_value { answer_marked result ≡ marking operation x y lines.now }
-    ensures lines_value { lines.now ≡ lines.now }
+    ensures answer { answer_marked result ≡ marking operation x y lines.now }
+    ensures lines_kept { lines.exit.now ≡ lines.entry.now }
 {
     if operation < SUM {
         return Marked::Operation;

@@ -7,8 +7,8 @@ use crate::Marked;
 use marking_spec::MarkedNumbers;
 
 pub fn mark(operation: u32, x: u32, y: u32, lines: &[u32]) -> MarkedNumbers
-    ensures value { result ≡ marked_numbers (marking operation x y lines.now) }
-    ensures lines_value { lines.now ≡ lines.now }
+    ensures answer { result ≡ marked_numbers (marking operation x y lines.now) }
+    ensures lines_kept { lines.exit.now ≡ lines.entry.now }
 {
     numbers(crate::mark(operation, x, y, lines))
 }

@@ -34,7 +34,7 @@ pub struct WithRest {
 // Where the pattern is infinite, rest and side are those of the number that it would be if exponents had no bound.
 pub fn round_with_rest(ties: Ties, sign: bool, sig: u64, exp: u16) -> WithRest
     ensures pattern_value { result.pattern ≡ encode binary32 (round_finite ties binary32 sign (sig * 2 ^ exp)) }
-    ensures exp_value { result.rest * 2 ^ exp ≡ left_over ties 23 149 (sig * 2 ^ exp) }
+    ensures rest_value { result.rest * 2 ^ exp ≡ left_over ties 23 149 (sig * 2 ^ exp) }
     ensures up_value { result.up ≡ rounded_up ties 23 149 (sig * 2 ^ exp) }
     ensures none_value { result.none ≡ eqb (left_over ties 23 149 (sig * 2 ^ exp)) 0 }
 {
@@ -107,8 +107,8 @@ pub struct Left {
 }
 
 fn left_over(n: u64, shift: u64, q: u64) -> Left
-    requires shift_bound { (n / 2 ^ shift ≤ q) × (q ≤ suc (n / 2 ^ shift)) }
-    requires n_nonzero { (0 < n) × (2 * (q * 2 ^ shift) ≤ 2 * n + 2 ^ shift) }
+    requires quotient { (n / 2 ^ shift ≤ q) × (q ≤ suc (n / 2 ^ shift)) }
+    requires half_unit { (0 < n) × (2 * (q * 2 ^ shift) ≤ 2 * n + 2 ^ shift) }
     ensures rest_value { result.rest ≡ dist (q * 2 ^ shift) n }
     ensures up_value { result.up ≡ ltb n (q * 2 ^ shift) }
     ensures none_value { result.none ≡ eqb (dist (q * 2 ^ shift) n) 0 }

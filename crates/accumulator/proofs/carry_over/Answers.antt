@@ -7,5 +7,5 @@ pub returns : goal.returns
 returns c =
     let e = c.carry_over.ensures.carries_numbered in record {
       carries = (c.named_carry.ensures ∙ ap carry_numbered e.0 ∙ told-carry _ _, e.1);
-      value = refl;
+      old_kept = refl;
     }

@@ -7,5 +7,5 @@ pub returns : goal.returns
 returns c =
     let e = c.join.ensures.joins_numbered in record {
       joins = (c.named_join.ensures ∙ ap join_numbered e.0 ∙ told-join _ _, e.1);
-      second_value = refl;
+      second_kept = refl;
     }

@@ -8,7 +8,7 @@ returns-then-wrong-ne0 c =
     let k = c.refusal_to_carry-wrong in let a = c.before.before.before.before.before.args in
     let r = refuses a.old.now a.new.now (λ e. c.if-wrong-ne0.true (k.ensures ∙ e)) in record {
       carries_numbered = (k.ensures ∙ r.0, r.1);
-      value = refl;
+      old_kept = refl;
     }
 
 pub copy-requires : goal.copy-requires
@@ -28,5 +28,5 @@ returns c =
     let k = c.copy in let a = g.before.before.before.before.before.args in
     let s = sound a.old.now a.new.now (sym c.refusal_to_carry-wrong.ensures ∙ c.if-wrong-ne0.false) in record {
       carries_numbered = carried-out a.old.now a.new.now s k.new.1.0 k.ensures.0 k.ensures.1 _ c.choose_pattern.ensures;
-      value = refl;
+      old_kept = refl;
     }

@@ -8,7 +8,7 @@ returns-then-wrong-ne0 c =
     let k = c.refusal_of_two-wrong in let a = c.before.before.before.before.before.args in
     let r = one-wrong a.first.now a.second.now (λ e. c.if-wrong-ne0.true (k.ensures ∙ e)) in record {
       joins_numbered = (k.ensures ∙ r.0, r.1);
-      second_value = refl;
+      second_kept = refl;
     }
 
 pub join_fit-requires : goal.join_fit-requires
@@ -17,8 +17,8 @@ join_fit-requires c =
     let b = both-sound a.first.now a.second.now (sym c.refusal_of_two-wrong.ensures ∙ c.if-wrong-ne0.false) in
     let f = fit-bounds a.first.now b.0.1 in
     let s = fit-bounds a.second.now b.1.1 in record {
-      first_len = (b.0.0, b.1.0, f.few, s.few);
-      first_bound = (f.sign, s.sign);
+      lengths = (b.0.0, b.1.0, f.few, s.few);
+      signs = (f.sign, s.sign);
     }
 
 pub returns : goal.returns
@@ -26,5 +26,5 @@ returns c =
     let a = c.before.before.before.before.before.before.before.before.before.args in
     let b = both-sound a.first.now a.second.now (sym c.refusal_of_two-wrong.ensures ∙ c.if-wrong-ne0.false) in record {
       joins_numbered = both-fit a.first.now a.second.now b.0 b.1 _ _ c.join_fit.ensures;
-      second_value = refl;
+      second_kept = refl;
     }

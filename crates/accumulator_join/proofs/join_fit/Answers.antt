@@ -27,12 +27,12 @@ returns-then-n-gt-MOST_TERMS c =
 
 pub bounds-first-21-2 : goal.bounds-first-21-2
 bounds-first-21-2 c =
-    let w = c.add_words in let f = c.args.first.now in let l = sum-full f c.args.second.now w.new.first c.requires.first_len.0 w.ensures in
+    let w = c.add_words in let f = c.args.first.now in let l = sum-full f c.args.second.now w.new.first c.requires.lengths.0 w.ensures in
     lt-length-set (w.new.first ++ drop number_size f) number_size _ (omega (arith, l))
 
 pub returns : goal.returns
 returns c =
-    let w = c.add_words in let f = c.args.first.now in let s = c.args.second.now in let p = c.requires.first_len in let q = c.requires.first_bound in rw (le-leb (get_or f number_size 0 + get_or s number_size 0) most_terms c.if-n-gt-MOST_TERMS.false) (
+    let w = c.add_words in let f = c.args.first.now in let s = c.args.second.now in let p = c.requires.lengths in let q = c.requires.signs in rw (le-leb (get_or f number_size 0 + get_or s number_size 0) most_terms c.if-n-gt-MOST_TERMS.false) (
       refl,
       sum-placed f s w.new.first _ _ p.0 p.1 w.ensures ∙ ap (total_of (number f +ℤ number s) (count f + count s)) (either-word (sign_word f) (sign_word s) q.0 q.1),
     )

@@ -9,6 +9,6 @@ returns-then-is_infinite c =
 pub returns : goal.returns
 returns c =
     let is = c.round_with_rest-first.ensures.pattern_value in let below = shown-finite c.args.sign _ _ is (sym c.is_infinite.ensures ∙ c.if-is_infinite.false) in
-    twice-is c.args.sign _ _ is c.args.exp _ _ c.round_with_rest-first.ensures.exp_value c.round_with_rest-first.ensures.up_value below
+    twice-is c.args.sign _ _ is c.args.exp _ _ c.round_with_rest-first.ensures.rest_value c.round_with_rest-first.ensures.up_value below
     _ _ _ _ c.round_with_rest-second.ensures.pattern_value c.zero_takes.ensures
-    c.round_with_rest-second.ensures.exp_value c.pair-2.ensures
+    c.round_with_rest-second.ensures.rest_value c.pair-2.ensures

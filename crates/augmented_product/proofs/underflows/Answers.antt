@@ -4,4 +4,4 @@ use Rattle.augmented_product.proofs.underflows.Goals as goal
 pub returns : goal.returns
 returns c =
     let first = c.round_with_rest-first.ensures in let below = product_small c.args.sign c.args.sig c.args.exp c.requires.0 c.requires.1 in
-    lost-is c.args.sign _ _ first.pattern_value c.args.exp _ _ first.exp_value first.up_value below _ c.round_with_rest-second.ensures.exp_value
+    lost-is c.args.sign _ _ first.pattern_value c.args.exp _ _ first.rest_value first.up_value below _ c.round_with_rest-second.ensures.rest_value

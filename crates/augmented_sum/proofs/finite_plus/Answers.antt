@@ -18,7 +18,7 @@ overflow_sub-e c =
 pub apart-requires : goal.apart-requires
 apart-requires c =
     let f = finite-class _ _ _ _ _ c.classify-b.ensures c.in-Finite.is in
-    record { s = _; m = _; e = _; t = _; n = _; d = _; left = c.requires.p_value; right = f.1; operands = (c.requires.operand, f.0); far = (let g = c.if-e-d-gt31.true in omega arith) }
+    record { s = _; m = _; e = _; t = _; n = _; d = _; left = c.requires.value_of_p; right = f.1; operands = (c.requires.operand, f.0); far = (let g = c.if-e-d-gt31.true in omega arith) }
 
 pub overflow_sub-e-else-e-d-gt31 : goal.overflow_sub-e-else-e-d-gt31
 overflow_sub-e-else-e-d-gt31 c =
@@ -44,16 +44,16 @@ near-requires c =
 pub special-requires : goal.special-requires
 unfolding value_of
 special-requires c =
-    second-special _ _ _ _ c.requires.p_value (special-class _ _ c.classify-b.ensures (rw c.in-Infinite.is refl))
+    second-special _ _ _ _ c.requires.value_of_p (special-class _ _ c.classify-b.ensures (rw c.in-Infinite.is refl))
 
 pub special-requires-in-NotANumber : goal.special-requires-in-NotANumber
 unfolding value_of
 special-requires-in-NotANumber c =
-    second-special _ _ _ _ c.requires.p_value (special-class _ _ c.classify-b.ensures (rw c.in-NotANumber.is refl))
+    second-special _ _ _ _ c.requires.value_of_p (special-class _ _ c.classify-b.ensures (rw c.in-NotANumber.is refl))
 
 pub returns-else-e-d-gt31 : goal.returns-else-e-d-gt31
 returns-else-e-d-gt31 c =
     let f = finite-class _ _ _ _ _ c.classify-b.ensures c.in-Finite.is in
     let l = below-class _ _ _ _ _ _ c.classify-b.ensures c.in-Finite.is c.requires.below in
     let t = near-short _ _ _ _ _ _ c.requires.operand f.0 l (let g = c.if-e-d-gt31.false in omega arith) _ _ c.sum-total.ensures in
-    c.near.ensures _ ∙ sym (ap (λ (v : Value). in_one_word (c.args.p ∷ c.args.q ∷ []) (pair_of binary32 v)) (ap (finer binary32) (ap₂ plus c.requires.p_value f.1) ∙ t.is))
+    c.near.ensures _ ∙ sym (ap (λ (v : Value). in_one_word (c.args.p ∷ c.args.q ∷ []) (pair_of binary32 v)) (ap (finer binary32) (ap₂ plus c.requires.value_of_p f.1) ∙ t.is))

@@ -5,11 +5,11 @@ use Rattle.augmented_sum.proofs.near.Goals as goal
 
 pub rest_pattern-second-requires : goal.rest_pattern-second-requires
 rest_pattern-second-requires c =
-    rest-fits c.args.sign c.args.sig c.args.exp c.requires _ c.round_with_rest-first.ensures.exp_value _ _ c.round_with_rest-first.ensures.pattern_value c.is_infinite-over.ensures _
+    rest-fits c.args.sign c.args.sig c.args.exp c.requires _ c.round_with_rest-first.ensures.rest_value _ _ c.round_with_rest-first.ensures.pattern_value c.is_infinite-over.ensures _
     c.choose_exponent-unit.ensures
 
 pub returns : goal.returns
 returns c operands =
-    let halves = with-rest-is c.args.sign c.args.sig c.args.exp c.requires _ c.round_with_rest-first.ensures.exp_value _ _ c.round_with_rest-first.ensures.pattern_value c.is_infinite-over.ensures _
+    let halves = with-rest-is c.args.sign c.args.sig c.args.exp c.requires _ c.round_with_rest-first.ensures.rest_value _ _ c.round_with_rest-first.ensures.pattern_value c.is_infinite-over.ensures _
     c.choose_exponent-unit.ensures _ c.round_with_rest-first.ensures.up_value _ _ c.rest_pattern-second.ensures c.choose_pattern.ensures in
     c.in_one_word.ensures ∙ halved_word c.args.sign (c.args.sig * 2 ^ c.args.exp) halves operands

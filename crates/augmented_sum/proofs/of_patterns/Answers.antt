@@ -48,7 +48,7 @@ finite_plus-requires c =
     let order : Descending (class_of c.larger-p.result) (class_of c.smaller-q.result) =
     rw (c.larger-p.ensures, c.smaller-q.ensures) (chosen-descending c.args.x c.args.y) in record {
       operand = o.0;
-      p_value = o.1;
+      value_of_p = o.1;
       below = rw (sym is ∙ c.in-Finite.is) at order;
     }
 

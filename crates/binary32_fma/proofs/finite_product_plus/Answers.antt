@@ -22,7 +22,7 @@ overflow_add-d c = omega (arith, (third c).exp)
 pub fused_sum-requires : goal.fused_sum-requires
 fused_sum-requires c = record {
       product = c.requires;
-      c_bound = omega (arith, third c);
+      third = omega (arith, third c);
     }
 
 pub returns-in-NotANumber : goal.returns-in-NotANumber

@@ -23,18 +23,18 @@ overflow_cast-n c = let w = (c.shared_slice_known-in-loop-i-1.given c.loop-i.i).
 
 pub slice_bounds-settle-end : goal.slice_bounds-settle-end
 slice_bounds-settle-end c =
-    let l = c.loop-i in let w = within-at c.args.counts.now (length c.args.words.now) l.i c.requires.words_value (omega arith) in
+    let l = c.loop-i in let w = within-at c.args.counts.now (length c.args.words.now) l.i c.requires.within (omega arith) in
     omega arith
 
 pub slice_bounds-settle-end-in-loop-i : goal.slice_bounds-settle-end-in-loop-i
 slice_bounds-settle-end-in-loop-i c =
-    let l = c.loop-i in let w = within-at c.args.counts.now (length c.args.words.now) l.i c.requires.words_value (omega arith) in
+    let l = c.loop-i in let w = within-at c.args.counts.now (length c.args.words.now) l.i c.requires.within (omega arith) in
     sym (length-take-le _ l.words (omega arith))
 
 pub loop-i-preserved : goal.loop-i-preserved
 loop-i-preserved c =
     let l = c.loop-i in let a = c.args in let inside : l.i < length a.operations.now = omega arith in
-    let p = c.requires.xs_len in let s = c.settle in let q = asking a.operations.now a.xs.now a.ys.now a.counts.now in
+    let p = c.requires.lengths in let s = c.settle in let q = asking a.operations.now a.xs.now a.ys.now a.counts.now in
     let k = next-question q l.i inside p.0 p.1 p.2 l.words _ _ _ s.ensures in
     let long = length_front l.words s.new.first.1.1.0 (get_or a.counts.now l.i 0) s.auto.1.1.1.0 in
     (omega arith, long ∙ l.invariant.1, s.auto.1.1.1.1.0 ∙ l.invariant.2, s.auto.1.1.1.1.1.0 ∙ l.invariant.3, k ∙ l.invariant.4)

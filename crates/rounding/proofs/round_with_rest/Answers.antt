@@ -42,7 +42,7 @@ returns c =
     let place = c.last_place-place.ensures in let left = c.left_over-left.ensures in record {
       pattern_value = c.packed-2.ensures
           ∙ sym (round_is c.args.ties c.args.sig c.args.exp _ (omega arith) c.ranges.sig.fits place _ c.kept-q.ensures c.args.sign);
-      exp_value = rest-is c.args.ties c.args.sig c.args.exp _ (omega arith) c.ranges.sig.fits place _ c.kept-q.ensures _ left.rest_value;
+      rest_value = rest-is c.args.ties c.args.sig c.args.exp _ (omega arith) c.ranges.sig.fits place _ c.kept-q.ensures _ left.rest_value;
       up_value = left.up_value ∙ up_is c.args.ties c.args.sig c.args.exp _ (omega arith) c.ranges.sig.fits place _ c.kept-q.ensures;
       none_value = left.none_value ∙ none-at c.args.ties c.args.sig c.args.exp _ (omega arith) c.ranges.sig.fits place _ c.kept-q.ensures;
     }

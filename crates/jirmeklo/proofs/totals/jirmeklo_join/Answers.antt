@@ -4,5 +4,5 @@ use Rattle.jirmeklo.proofs.totals.jirmeklo_join.Goals as goal
 pub returns : goal.returns
 returns c = record {
       joins_numbered = c.join.ensures.joins_numbered;
-      second_value = refl;
+      second_kept = refl;
     }

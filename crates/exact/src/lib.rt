@@ -1,5 +1,6 @@
 // Exact sums and products, before any rounding.
 #![tactic(auto)]
+
 mod factors;
 
 ghost use Rattle.std.specs.Prelude.{◌≡◌, ◌*◌, ◌%◌, ◌^◌, ◌<◌};

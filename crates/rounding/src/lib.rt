@@ -1,5 +1,6 @@
 // Rounding of an exact magnitude to binary32: the one place where any operation rounds.
 #![tactic(auto)]
+
 ghost use Rattle.std.specs.Prelude.{◌≡◌, suc, ◌+◌, ◌-◌, ◌*◌, ◌/◌, ◌^◌, ◌≤◌, ◌<◌, max, cond, eqb, ltb};
 ghost use Rattle.std.specs.Float.Ieee.{unlike};
 ghost use Rattle.rounding_spec.specs.Format.{binary32, limit};

@@ -5,9 +5,9 @@ use Rattle.exact.proofs.product.Goals as goal
 
 pub times-requires : goal.times-requires
 times-requires c = record {
-      bounded = class-operand _ _ c.classify.ensures;
-      bounded_2 = class-operand _ _ c.classify-2.ensures;
-    }
+  bounded = class-operand _ _ c.classify.ensures;
+  bounded_2 = class-operand _ _ c.classify-2.ensures;
+}
 
 pub returns : goal.returns
 returns c =

@@ -10,7 +10,12 @@ use Rattle.rounding.proofs.round_with_rest.Goals as goal
 pub returns-then-sig-eq0 : goal.returns-then-sig-eq0
 returns-then-sig-eq0 c =
     let z = nothing_left c.args.ties c.args.exp in
-    rw c.if-sig-eq0.true (c.packed.ensures ∙ sym (round-zero _ _ _), (z.0, (z.1, nothing-none c.args.ties c.args.exp)))
+    rw c.if-sig-eq0.true (record {
+      pattern_value = c.packed.ensures ∙ sym (round-zero _ _ _);
+      rest_value = z.0;
+      up_value = z.1;
+      none_value = nothing-none c.args.ties c.args.exp;
+    })
 
 pub overflow_cast-zeros : goal.overflow_cast-zeros
 overflow_cast-zeros c = omega (arith, leading_le 64 c.args.sig)
@@ -25,8 +30,10 @@ overflow_shl-n c =
 pub left_over-left-requires : goal.left_over-left-requires
 left_over-left-requires c =
     let k = kept c.args.ties (c.last_place-place.result + 64 - (c.args.exp + 64 - count_leading_zeros 64 c.args.sig)) (c.args.sig * 2 ^ count_leading_zeros 64 c.args.sig % 2 ^ 64) in
-    rw c.kept-q.ensures
-    ((k.low, k.high), (moved-pos c.args.ties c.args.sig c.args.exp _ (omega arith) c.ranges.sig.fits c.last_place-place.ensures _ c.kept-q.ensures, k.above))
+    rw c.kept-q.ensures (record {
+      quotient = (k.low, k.high);
+      half_unit = (moved-pos c.args.ties c.args.sig c.args.exp _ (omega arith) c.ranges.sig.fits c.last_place-place.ensures _ c.kept-q.ensures, k.above);
+    })
 
 pub packed-requires-2 : goal.packed-requires-2
 packed-requires-2 c =

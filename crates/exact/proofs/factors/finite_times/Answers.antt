@@ -12,16 +12,14 @@ use Rattle.pattern_spec.proofs.Products.{none, some_left, product_value, product
 use Rattle.exact.proofs.factors.finite_times.Goals as goal
 
 -- the factors' bounds, where both are finite
-factors : (c : tie.After-known-told2) → Product (c.before.before.before.args.m * c.before.b2.given.0.1.0) (c.before.before.before.args.e + c.before.b2.given.0.1.1.0)
-factors c =
-    let b = c.before.before.before in
-    product-bounded _ _ _ _ b.requires.0 (rw c.before.b2.given.1 at b.requires.1)
-
 pub overflow_mul-result : goal.overflow_mul-result
-overflow_mul-result c = record { fits = le_trans (factors c).sig (pow_mono {i = 48} {j = 64} (omega arith)) }
+overflow_mul-result c =
+    let f = product-bounded _ _ _ _ c.requires.operand (rw c.in-Finite.is at c.requires.bounded) in
+    record { fits = le_trans f.sig (pow_mono {i = 48} {j = 64} (omega arith)) }
 
 pub overflow_add-result : goal.overflow_add-result
-overflow_add-result c = omega (arith, (factors c).exp)
+overflow_add-result c =
+    let f = product-bounded _ _ _ _ c.requires.operand (rw c.in-Finite.is at c.requires.bounded) in omega (arith, f.exp)
 
 pub returns-in-NotANumber : goal.returns-in-NotANumber
 unfolding value_of times
@@ -38,4 +36,7 @@ returns-else-m-eq0 c = record { is = rw (c.in-Infinite.is, some_left _ _ c.if-m-
 pub returns-in-Finite : goal.returns-in-Finite
 unfolding value_of times
 returns-in-Finite c =
-    let a = c.args in let b = c.b-in-Finite-1.given in record { is = rw c.in-Finite.is (ap (finite (unlike a.s c.in-Finite.t)) (product_value a.m a.e c.in-Finite.n c.in-Finite.d)); bounded = factors c }
+    let a = c.args in
+    let f = product-bounded _ _ _ _ c.requires.operand (rw c.in-Finite.is at c.requires.bounded) in
+    rw c.in-Finite.is
+    (record { is = ap (finite (unlike a.s c.in-Finite.t)) (product_value a.m a.e c.in-Finite.n c.in-Finite.d); bounded = f })

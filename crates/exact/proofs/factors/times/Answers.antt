@@ -5,9 +5,9 @@ use Rattle.exact.proofs.factors.times.Goals as goal
 
 pub finite_times-requires : goal.finite_times-requires
 finite_times-requires c = record {
-      operand = rw c.in-Finite.is at c.requires.bounded;
-      bounded = c.requires.bounded_2;
-    }
+  operand = rw c.in-Finite.is at c.requires.bounded;
+  bounded = c.requires.bounded_2;
+}
 
 pub returns-in-NotANumber : goal.returns-in-NotANumber
 unfolding value_of times

@@ -1,5 +1,6 @@
 // Sums of two patterns, rounded once. An addend is a sign, a significand and an exponent: s, m, e and t, n, d.
 #![tactic(auto)]
+
 pub mod marks;
 
 ghost use Rattle.std.specs.Prelude.{◌≡◌, ◌+◌, ◌*◌, ◌^◌, ◌≤◌, ◌<◌};

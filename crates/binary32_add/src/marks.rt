@@ -22,7 +22,7 @@ pub fn rounded(sign: bool, sig: u64, exp: u16) -> Outcome
 
 // The result of a step with an infinite or NaN operand.
 pub fn special(res: u32) -> Outcome
-    ensures* { λ r. ⌜ r ≡ record { result = res; mark = 2 } ⌝ }
+    ensures { result ≡ record { result = res; mark = 2 } }
 {
     Outcome {
         result: res,

@@ -4,7 +4,7 @@ ghost use Rattle.std.specs.Prelude.{◌≡◌, [], ◌∷◌, ◌+◌, ◌-◌, 
 ghost use Rattle.rounding_spec.specs.Format.{binary32};
 ghost use Rattle.rounding_spec.specs.Value.{infinite, finite, decode};
 ghost use Rattle.pattern_spec.specs.Exact.{plus_finite, plus, finer};
-ghost use Rattle.binary32_spec.specs.Steps.{result, fma_step};
+ghost use Rattle.binary32_spec.specs.Steps.{result as step_result, fma_step};
 ghost use Rattle.binary32_spec.specs.Marks.{fma_mark};
 ghost use Rattle.pattern_spec.specs.Inner.{Product, Jammed};
 ghost use Rattle.binary32_spec.specs.Inner.{outcome, outcome_of, Normal, Reaches};
@@ -19,8 +19,8 @@ use pattern_spec::Class;
 
 // A product, which counts 2^-298, and a third operand, which counts 2^-149.
 pub fn of_patterns(x: u32, y: u32, z: u32) -> Outcome
-    ensures* result_value { λ r. ⌜ r.result ≡ fma_step x y z ⌝ }
-    ensures* mark_value { λ r. ⌜ r.mark ≡ fma_mark x y z ⌝ }
+    ensures result_value { result.result ≡ fma_step x y z }
+    ensures mark_value { result.mark ≡ fma_mark x y z }
 {
     let p = exact::product(x, y);
     match p {
@@ -35,7 +35,7 @@ pub fn of_patterns(x: u32, y: u32, z: u32) -> Outcome
 }
 
 fn infinite_product_plus(s: bool, z: u32) -> u32
-    ensures* { λ r. ⌜ r ≡ result binary32 (z ∷ []) (plus (infinite s) (decode binary32 z)) ⌝ }
+    ensures { result ≡ step_result binary32 (z ∷ []) (plus (infinite s) (decode binary32 z)) }
 {
     if is_nan(z) {
         return quieted(z);
@@ -45,7 +45,7 @@ fn infinite_product_plus(s: bool, z: u32) -> u32
 
 fn finite_product_plus(s: bool, m: u64, e: u16, z: u32) -> Outcome
     requires { Product m e }
-    ensures* { λ r. ⌜ r ≡ outcome_of (z ∷ []) (plus (finite s (m * 2 ^ e)) (finer binary32 (decode binary32 z))) ⌝ }
+    ensures { result ≡ outcome_of (z ∷ []) (plus (finite s (m * 2 ^ e)) (finer binary32 (decode binary32 z))) }
 {
     let c = classify(z);
     match c {
@@ -63,7 +63,7 @@ fn finite_product_plus(s: bool, m: u64, e: u16, z: u32) -> Outcome
 fn fused_sum(s: bool, p: u64, i: u16, t: bool, c: u64, j: u16) -> Outcome
     requires product { Product p i }
     requires third { (c < 2 ^ 24) × (149 ≤ j) }
-    ensures* { λ r. ⌜ r ≡ outcome (plus_finite s (p * 2 ^ i) t (c * 2 ^ j)) ⌝ }
+    ensures { result ≡ outcome (plus_finite s (p * 2 ^ i) t (c * 2 ^ j)) }
 {
     if c == 0 {
         return round_sum(s, p, t, 0, i);
@@ -84,7 +84,7 @@ pub struct Scaled {
 
 fn normalised(c: u64, j: u16) -> Scaled
     requires { (0 < c) × (c < 2 ^ 24) × (149 ≤ j) }
-    ensures* { λ r. ⌜ Normal c j r.sig r.exp ⌝ }
+    ensures { Normal c j result.sig result.exp }
 {
     let up = u64::leading_zeros(c) - 40;
     Scaled {
@@ -107,7 +107,7 @@ pub struct Addends {
 
 // A product and an operand of 24 digits, by their exponents. The room is what 63 digits leave beside 48 or 24.
 fn ordered(s: bool, p: u64, i: u16, t: bool, z: u64, k: u16) -> Addends
-    ensures* { λ r. ⌜ Ordered s p i t z k r ⌝ }
+    ensures { Ordered s p i t z k result }
 {
     let first = k <= i;
     Addends {
@@ -124,7 +124,7 @@ fn ordered(s: bool, p: u64, i: u16, t: bool, z: u64, k: u16) -> Addends
 // The first goes up by the whole way or all its room, and the second down by the rest of the way.
 fn aligned(x: Addends) -> Outcome
     requires { Reaches x.a x.i x.b x.j x.room }
-    ensures* { λ r. ⌜ r ≡ outcome (plus_finite x.s (x.a * 2 ^ x.i) x.t (x.b * 2 ^ x.j)) ⌝ }
+    ensures { result ≡ outcome (plus_finite x.s (x.a * 2 ^ x.i) x.t (x.b * 2 ^ x.j)) }
 {
     let gap = x.i - x.j;
     let up = choose_exponent(gap <= x.room, gap, x.room);
@@ -134,7 +134,7 @@ fn aligned(x: Addends) -> Outcome
 // b / 2^g to the whole number, made odd where something is cut off. Beyond 48 places nothing but that is left.
 fn jammed(b: u64, g: u16) -> u64
     requires { b < 2 ^ 48 }
-    ensures* { λ r. ⌜ Jammed b g r ⌝ }
+    ensures { Jammed b g result }
 {
     let h = choose_exponent(g > 48, 48, g);
     let q = b >> h;

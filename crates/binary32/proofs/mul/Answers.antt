@@ -6,16 +6,19 @@ pub returns-in-NotANumber : goal.returns-in-NotANumber
 unfolding value_of
 returns-in-NotANumber c =
     let e = rw c.in-NotANumber.is at c.product-product.ensures in
-    rw (c.special.ensures, c.nan_of_two.ensures) (nan-product _ _ e.is)
+    let a = nan-product _ _ e.is in
+    rw (c.special.ensures, c.nan_of_two.ensures) (record { result_value = a.0; mark_value = a.1 })
 
 pub returns-in-Infinite : goal.returns-in-Infinite
 unfolding value_of
 returns-in-Infinite c =
     let e = rw c.in-Infinite.is at c.product-product.ensures in
-    rw (c.special-in-Infinite.ensures, c.infinity.ensures) (infinite-product _ _ _ e.is)
+    let a = infinite-product _ _ _ e.is in
+    rw (c.special-in-Infinite.ensures, c.infinity.ensures) (record { result_value = a.0; mark_value = a.1 })
 
 pub returns-in-Finite : goal.returns-in-Finite
 unfolding value_of
 returns-in-Finite c =
     let e = rw c.in-Finite.is at c.product-product.ensures in
-    rw c.rounded.ensures (finite-product _ _ _ _ e.is)
+    let a = finite-product _ _ _ _ e.is in
+    rw c.rounded.ensures (record { result_value = a.0; mark_value = a.1 })

@@ -8,10 +8,10 @@ use Rattle.binary32_add.proofs.finite_plus.Goals as goal
 
 pub finite_sum-requires : goal.finite_sum-requires
 finite_sum-requires c = record {
-      d_le_e = rw c.in-Finite.is at c.requires.below;
-      operand = c.requires.operand;
-      operand_2 = rw c.in-Finite.is at c.requires.bounded;
-    }
+  d_le_e = rw c.in-Finite.is at c.requires.below;
+  operand = c.requires.operand;
+  operand_2 = rw c.in-Finite.is at c.requires.bounded;
+}
 
 pub returns-in-NotANumber : goal.returns-in-NotANumber
 unfolding value_of plus finer encode

@@ -19,18 +19,21 @@ pub returns-in-NotANumber : goal.returns-in-NotANumber
 unfolding value_of
 returns-in-NotANumber c =
     let first = sym c.in-NotANumber.is ∙ c.classify-a.ensures ∙ ap class_of c.larger.ensures in
-    rw (c.special.ensures, c.nan_of_two.ensures) (ordered-nan c.args.x c.args.y _ _ first refl refl)
+    let a = ordered-nan c.args.x c.args.y _ _ first refl refl in
+    rw (c.special.ensures, c.nan_of_two.ensures) (record { result_value = a.0; mark_value = a.1 })
 
 pub returns-in-Infinite : goal.returns-in-Infinite
 unfolding value_of
 returns-in-Infinite c =
     let first = sym c.in-Infinite.is ∙ c.classify-a.ensures ∙ ap class_of c.larger.ensures in
     let second = c.classify.ensures ∙ ap class_of c.smaller-q.ensures in
-    rw (c.special-in-Infinite.ensures, c.infinite_plus.ensures) (ordered-infinite c.args.x c.args.y _ _ first second _ refl)
+    let a = ordered-infinite c.args.x c.args.y _ _ first second _ refl in
+    rw (c.special-in-Infinite.ensures, c.infinite_plus.ensures) (record { result_value = a.0; mark_value = a.1 })
 
 pub returns-in-Finite : goal.returns-in-Finite
 unfolding value_of
 returns-in-Finite c =
     let first = sym c.in-Finite.is ∙ c.classify-a.ensures ∙ ap class_of c.larger.ensures in
     let second = c.classify-in-Finite.ensures ∙ ap class_of c.smaller-q.ensures in
-    rw c.finite_plus.ensures (ordered-number c.args.x c.args.y _ _ first second refl)
+    let a = ordered-number c.args.x c.args.y _ _ first second refl in
+    rw c.finite_plus.ensures (record { result_value = a.0; mark_value = a.1 })

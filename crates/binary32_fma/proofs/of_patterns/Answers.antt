@@ -10,16 +10,19 @@ pub returns-in-NotANumber : goal.returns-in-NotANumber
 unfolding value_of
 returns-in-NotANumber c =
     let e = rw c.in-NotANumber.is at c.product-p.ensures in
-    rw (c.special.ensures, c.nan_of_three.ensures) (fused-nan _ _ _ e.is)
+    let a = fused-nan _ _ _ e.is in
+    rw (c.special.ensures, c.nan_of_three.ensures) (record { result_value = a.0; mark_value = a.1 })
 
 pub returns-in-Infinite : goal.returns-in-Infinite
 unfolding value_of
 returns-in-Infinite c =
     let e = rw c.in-Infinite.is at c.product-p.ensures in
-    rw (c.special-in-Infinite.ensures, c.infinite_product_plus.ensures) (fused-infinite _ _ _ _ e.is)
+    let a = fused-infinite _ _ _ _ e.is in
+    rw (c.special-in-Infinite.ensures, c.infinite_product_plus.ensures) (record { result_value = a.0; mark_value = a.1 })
 
 pub returns-in-Finite : goal.returns-in-Finite
 unfolding value_of
 returns-in-Finite c =
     let e = rw c.in-Finite.is at c.product-p.ensures in
-    rw c.finite_product_plus.ensures (fused-number _ _ _ _ e.is refl)
+    let a = fused-number _ _ _ _ e.is refl in
+    rw c.finite_product_plus.ensures (record { result_value = a.0; mark_value = a.1 })

@@ -1,5 +1,6 @@
 // Direct pairs of two binary32 patterns: the result rounded to nearest with ties to zero, RN0 of what that left over, and the flags.
 #![tactic(auto)]
+
 mod raised;
 
 ghost use Rattle.std.specs.Prelude.{◌≡◌, true};

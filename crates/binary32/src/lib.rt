@@ -1,6 +1,7 @@
 // The four rounding steps on binary32 patterns: the exact result on integers, and one rounding. The mark (R2.8) says whether that lost
 // nothing, or something, or whether there was nothing to round.
 #![tactic(auto)]
+
 ghost use Rattle.std.specs.Prelude.{◌≡◌};
 ghost use Rattle.binary32_spec.specs.Steps.{add_step, sub_step, mul_step, fma_step};
 ghost use Rattle.binary32_spec.specs.Marks.{add_mark, sub_mark, mul_mark, fma_mark};

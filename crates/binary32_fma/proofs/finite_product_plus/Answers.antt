@@ -6,23 +6,20 @@ use Rattle.rounding_spec.specs.Value.{Value, finite, is_nan}
 use Rattle.rounding_spec.proofs.Multiple.{joined}
 use Rattle.pattern_spec.specs.Exact.{plus_finite, plus, finer}
 use Rattle.pattern_spec.specs.Classes.{value_of}
-use Rattle.pattern_spec.specs.Inner.{Operand}
 use Rattle.pattern_spec.proofs.Classified.{class-value, class-operand}
 use Rattle.binary32_spec.specs.Inner.{outcome}
 use Rattle.binary32_spec.proofs.Fused.{outcome-number, outcome-nan, outcome-infinite}
 use Rattle.binary32_fma.proofs.finite_product_plus.Goals as goal
 
 -- the third operand's bounds, where it is finite
-third : (c : tie.After-known-told2) → Operand c.before.c2.given.0.1.0 c.before.c2.given.0.1.1.0
-third c = class-operand _ _ (sym c.before.c2.given.1 ∙ c.before.before.before.classify.ensures)
-
 pub overflow_add-d : goal.overflow_add-d
-overflow_add-d c = omega (arith, (third c).exp)
+overflow_add-d c = let third = class-operand _ _ (sym c.in-Finite.is ∙ c.classify-c.ensures) in omega (arith, third.exp)
 
 pub fused_sum-requires : goal.fused_sum-requires
-fused_sum-requires c = record {
+fused_sum-requires c =
+    let bounds = class-operand _ _ (sym c.in-Finite.is ∙ c.classify-c.ensures) in record {
       product = c.requires;
-      third = omega (arith, third c);
+      third = omega (arith, bounds);
     }
 
 pub returns-in-NotANumber : goal.returns-in-NotANumber
@@ -40,7 +37,7 @@ returns-in-Infinite c =
 pub returns-in-Finite : goal.returns-in-Finite
 unfolding value_of finer plus
 returns-in-Finite c =
-    let a = c.args in let z = c.c-in-Finite-1.given in let is = sym (class-value a.z _ (sym c.in-Finite.is ∙ c.classify-c.ensures)) in
+    let a = c.args in let is = sym (class-value a.z _ (sym c.in-Finite.is ∙ c.classify-c.ensures)) in
     c.fused_sum.ensures
     ∙ ap (λ (x : ℕ). outcome (plus_finite a.s (a.m * 2 ^ a.e) c.in-Finite.t x)) (sym (joined c.in-Finite.n c.in-Finite.d 149 (c.in-Finite.d + 149) refl))
     ∙ ap (λ (v : Value). outcome (plus (finite a.s (a.m * 2 ^ a.e)) (finer binary32 v))) (sym is)

@@ -18,7 +18,7 @@ use Rattle.pattern_spec.proofs.Theorems.{flip-negates}
 use Rattle.augmented_spec.specs.Pairs.{pair_of}
 use Rattle.augmented_spec.specs.Direct.{Operation, sum, difference, product, direct_pair, exact_result}
 use Rattle.augmented_spec.specs.Theorems.{second_operand, FinitePattern}
-use Rattle.augmented_spec.proofs.Read.{exact_for, first, first_read_lem}
+use Rattle.augmented_spec.proofs.Read.{exact_for, first_read_lem}
 use Rattle.augmented_spec.proofs.Unrounded.{infinite-sum}
 use Rattle.accumulator_spec.specs.Totals.{of_pattern, of_product, exact_term}
 use Rattle.accumulator_spec.specs.Columns.{AllFinite, column_sum}

@@ -1,5 +1,5 @@
 -- What `replay` leaves, where it is refused and where it is carried out: the claim about its questions holds.
-use mathlib.Core.Path.{◌≡◌, refl, sym, ap, ap₂, ◌∙◌, subst}
+use mathlib.Core.Path.{◌≡◌, sym, ap₂, ◌∙◌, subst}
 use mathlib.Core.Bool.{true≢false, true, false}
 use mathlib.Core.List.{List}
 use Prim.Native.Nat.{ℕ}

@@ -1,7 +1,7 @@
 -- Lists of calls over two totals (R7): which question enters, what each call leaves, and S with its sign word.
 -- Questions and adding calls act by the definitions that the contracts of `fill`, `add_pattern` and `add_product` cite; `read` is lent its
 -- total to look at only, and answers by `reading`.
-use Rattle.std.specs.Prelude.{ℕ, suc, ◌+◌, ◌*◌, Bool, not, cond, ◌&&◌, ◌||◌, List, [], ◌∷◌, eqb, ℤ, pos, ◌+ℤ◌}
+use Rattle.std.specs.Prelude.{ℕ, suc, ◌+◌, Bool, not, cond, ◌&&◌, ◌||◌, List, [], ◌∷◌, eqb, ℤ, pos, ◌+ℤ◌}
 use Rattle.std.specs.Float.Ieee.{unlike}
 use Rattle.pattern_spec.specs.Answer.{Answer, refused, done, is_done}
 use Rattle.rounding_spec.specs.Format.{binary32}

@@ -4,7 +4,7 @@ use Rattle.rounding_spec.specs.Format.{binary32}
 use Rattle.binary32_spec.specs.Steps.{add_step, sub_step, mul_step, fma_step}
 use Rattle.binary32_spec.specs.Marks.{add_mark, sub_mark, mul_mark, fma_mark}
 use Rattle.augmented_spec.specs.declared.Pair.{Pair}
-use Rattle.augmented_spec.specs.Direct.{Operation, sum, direct_pair, operation_number}
+use Rattle.augmented_spec.specs.Direct.{Operation, direct_pair, operation_number}
 use Rattle.worksheet_spec.specs.Lines.{line_size, Step, add, subtract, multiply, fused, step_number, Line, line, minus}
 use Rattle.worksheet_spec.specs.Sheets.{sheet_of}
 use Rattle.worksheet_spec.specs.Filling.{lines_words, filled, filling, after_filling}
@@ -141,7 +141,8 @@ FilledSheetRight =
     (o : Operation) (x y : ℕ) (words : List ℕ) (i j : Bool) (line_count : ℕ) (p : Pair) → let n = operation_number o in
     filling n x y words ≡ filled line_count p
     → marking n x y
-    (take (line_size * line_count) (after_filling n x y words) ++ lines_words (added_minus_zero i p.first ∷ added_minus_zero j p.second ∷ []))
+    (take (line_size * line_count) (after_filling n x y words)
+    ++ lines_words (added_minus_zero i p.first ∷ added_minus_zero j p.second ∷ []))
     ≡ judged true
 
 -- ---- examples

@@ -1,5 +1,5 @@
 -- What the calls of a run write, one after the other.
-use Prim.Native.Nat.{ℕ, zero, suc, ◌+◌, ◌≤◌, ◌<◌}
+use Prim.Native.Nat.{ℕ, zero, suc, ◌≤◌, ◌<◌}
 use mathlib.Core.Path.{◌≡◌, refl, sym, ap, ap₂, ◌∙◌}
 use mathlib.Core.Logic.{inl, inr}
 use mathlib.Core.Bool.{true≢false, false}
@@ -10,8 +10,7 @@ use Rattle.transcript_spec.specs.Texts.{line_room}
 use Rattle.transcript_spec.specs.Buffers.{Put}
 use Rattle.transcript_spec.proofs.Pasted.{put-means}
 use Rattle.sheet_spec.specs.States.{State, begin, take_bytes, bytes_text, close_text}
-use Rattle.sheet_spec.specs.Calls.{last_room, Feeds, Ends}
-use Rattle.sheet_spec.specs.declared.Progressed.{Progressed}
+use Rattle.sheet_spec.specs.Calls.{last_room, Ends}
 use Rattle.sheet_spec.specs.Theorems.{FeedsOn, Call, Chain, chain_text, chain_state, WholeRun}
 use Rattle.sheet_spec.proofs.Bytes.{byte-by-byte, nothing-after-stop, states-join, texts-join}
 

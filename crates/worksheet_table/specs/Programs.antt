@@ -39,26 +39,26 @@ pub data Operand : Type 0 where
   ◌with_sign_of◌ : Constant → Operand → Operand
 
 -- sum, difference, product; product by a constant, which is the first operand (R5.2); product plus a third operand, rounded once
-infix 80 ◌+◌
-infix 80 ◌-◌
+infix 80 ◌⊕◌
+infix 80 ◌⊖◌
 infix 80 ◌·◌
-infix 80 ◌*◌
+infix 80 ◌⊗◌
 pub data Instruction : Type 0 where
-  ◌+◌ : Operand → Operand → Instruction
-  ◌-◌ : Operand → Operand → Instruction
+  ◌⊕◌ : Operand → Operand → Instruction
+  ◌⊖◌ : Operand → Operand → Instruction
   ◌·◌ : Operand → Operand → Instruction
-  ◌*◌ : Constant → Operand → Instruction
+  ◌⊗◌ : Constant → Operand → Instruction
   fuse : Operand → Operand → Operand → Instruction
 
 -- ---- what is asked of results: `equals` compares values, `below` (<) and `up_to` (≤) magnitudes
 infix 75 ◌equals◌
 infix 75 ◌below◌
-infix 75 ◌upTo◌
+infix 75 ◌up_to◌
 infixr 70 ◌and◌
 pub data Test : Type 0 where
   ◌equals◌ : Operand → Operand → Test
   ◌below◌ : Operand → Constant → Test
-  ◌upTo◌ : Operand → Constant → Test
+  ◌up_to◌ : Operand → Constant → Test
   is_zero : Operand → Test
   is_infinite : Operand → Test
   is_nan : Operand → Test
@@ -107,10 +107,10 @@ operand_pattern x y rs (c with_sign_of o) = copy_sign (constant_pattern c) (oper
 -- the line of an instruction: each result is the step's on the line's own operands (R7.3, R5.22)
 unfoldable pub line_by : (Operand → ℕ) → Instruction → Line
 unfolding constant_pattern
-line_by pattern (o + p) = line_of_two add (pattern o) (pattern p) (add_step (pattern o) (pattern p))
-line_by pattern (o - p) = line_of_two subtract (pattern o) (pattern p) (sub_step (pattern o) (pattern p))
+line_by pattern (o ⊕ p) = line_of_two add (pattern o) (pattern p) (add_step (pattern o) (pattern p))
+line_by pattern (o ⊖ p) = line_of_two subtract (pattern o) (pattern p) (sub_step (pattern o) (pattern p))
 line_by pattern (o · p) = line_of_two multiply (pattern o) (pattern p) (mul_step (pattern o) (pattern p))
-line_by pattern (c * p) = line_of_two multiply (constant_pattern c) (pattern p) (mul_step (constant_pattern c) (pattern p))
+line_by pattern (c ⊗ p) = line_of_two multiply (constant_pattern c) (pattern p) (mul_step (constant_pattern c) (pattern p))
 line_by pattern (fuse o p q) = fused_line (pattern o) (pattern p) (pattern q) (fma_step (pattern o) (pattern p) (pattern q))
 
 -- the lines of instructions below lines with the results rs
@@ -183,10 +183,10 @@ lines_in (c with_sign_of o) = lines_in o
 
 unfoldable pub lines_used : Instruction → List ℕ
 unfolding lines_in
-lines_used (o + p) = lines_in o ++ lines_in p
-lines_used (o - p) = lines_in o ++ lines_in p
+lines_used (o ⊕ p) = lines_in o ++ lines_in p
+lines_used (o ⊖ p) = lines_in o ++ lines_in p
 lines_used (o · p) = lines_in o ++ lines_in p
-lines_used (c * p) = lines_in p
+lines_used (c ⊗ p) = lines_in p
 lines_used (fuse o p q) = lines_in o ++ lines_in p ++ lines_in q
 
 unfoldable pub lines_asked : Test → List ℕ

@@ -10,30 +10,30 @@ use Rattle.augmented_spec.specs.Direct.{Operation, sum, difference, product}
 use Rattle.pattern_spec.specs.Comparisons.{less_magnitude}
 use Rattle.worksheet_spec.specs.Lines.{Sheet}
 use Rattle.worksheet_table.specs.Programs.{ψ, +2, -2, ½, κ, 2^24, 2^48, 2^-24, +0, u, 2^127, 2^102, 2^-102, 2^-125, 2^-126}
-use Rattle.worksheet_table.specs.Programs.{X, Y, line, minus, ◌with_sign_of◌, Instruction, ◌+◌, ◌-◌, ◌·◌, ◌*◌, fuse}
-use Rattle.worksheet_table.specs.Programs.{Test, ◌equals◌, ◌below◌, ◌upTo◌, is_zero, is_infinite, is_nan, is_not, ◌and◌}
+use Rattle.worksheet_table.specs.Programs.{X, Y, line, minus, ◌with_sign_of◌, Instruction, ◌⊕◌, ◌⊖◌, ◌·◌, ◌⊗◌, fuse}
+use Rattle.worksheet_table.specs.Programs.{Test, ◌equals◌, ◌below◌, ◌up_to◌, is_zero, is_infinite, is_nan, is_not, ◌and◌}
 use Rattle.worksheet_table.specs.Programs.{Way, way, sheet_by}
 
 -- ---- sums: X and Y are the operands as they stand after the exchange (R5.9)
 -- the sum and its error (R5.10), and recomposition (R5.5)
 abbrev pub sum_lines : List Instruction
 sum_lines =
-    X + Y ∷  -- 1 a
-    line 1 - X ∷  -- 2 v
-    Y - line 2 ∷  -- 3 b
-    ψ * line 1 ∷  -- 4 z
-    line 4 - line 1 ∷  -- 5 d
-    +2 * line 3 ∷  -- 6 e
+    X ⊕ Y ∷  -- 1 a
+    line 1 ⊖ X ∷  -- 2 v
+    Y ⊖ line 2 ∷  -- 3 b
+    ψ ⊗ line 1 ∷  -- 4 z
+    line 4 ⊖ line 1 ∷  -- 5 d
+    +2 ⊗ line 3 ∷  -- 6 e
     []
 
 -- with half the operands (R5.11)
 abbrev pub halved_lines : List Instruction
 halved_lines =
-    ½ * X ∷  -- 7 x'
-    ½ * Y ∷  -- 8 y'
-    line 7 + line 8 ∷  -- 9 a'
-    line 9 - line 7 ∷  -- 10 v'
-    line 8 - line 10 ∷  -- 11 b'
+    ½ ⊗ X ∷  -- 7 x'
+    ½ ⊗ Y ∷  -- 8 y'
+    line 7 ⊕ line 8 ∷  -- 9 a'
+    line 9 ⊖ line 7 ∷  -- 10 v'
+    line 8 ⊖ line 10 ∷  -- 11 b'
     []
 
 -- the edge (R5.7), of a' and b'
@@ -42,7 +42,7 @@ at_sum_edge = line 9 equals 2^127 with_sign_of line 9 and line 11 equals minus (
 
 -- a is NaN: its line is the only one, and both halves are a (R5.23)
 abbrev pub sum_nan : Way
-sum_nan = way (is_nan (line 1) ∷ []) (X + Y ∷ []) (line 1) (line 1)
+sum_nan = way (is_nan (line 1) ∷ []) (X ⊕ Y ∷ []) (line 1) (line 1)
 
 -- Recomposition gives (z, -b) where e = d (R5.5). No way has a changed pair, a second that is not zero and an infinite a: that this does
 -- not occur, `OneWay` says.
@@ -52,7 +52,7 @@ sum_changed =
 
 -- zero finish (R5.6)
 abbrev pub sum_changed_zero : Way
-sum_changed_zero = way (line 6 equals line 5 ∷ is_zero (minus (line 3)) ∷ []) (sum_lines ++ +0 * line 4 ∷ []) (line 4) (line 7)
+sum_changed_zero = way (line 6 equals line 5 ∷ is_zero (minus (line 3)) ∷ []) (sum_lines ++ +0 ⊗ line 4 ∷ []) (line 4) (line 7)
 
 -- otherwise (a, b); a NaN passes all but the last test
 abbrev pub sum_kept : Way
@@ -61,7 +61,7 @@ sum_kept =
     sum_lines (line 1) (line 3)
 
 abbrev pub sum_kept_zero : Way
-sum_kept_zero = way (is_not (line 6 equals line 5) ∷ is_zero (line 3) ∷ []) (sum_lines ++ +0 * line 1 ∷ []) (line 1) (line 7)
+sum_kept_zero = way (is_not (line 6 equals line 5) ∷ is_zero (line 3) ∷ []) (sum_lines ++ +0 ⊗ line 1 ∷ []) (line 1) (line 7)
 
 -- an infinite sum, not at the edge: both halves are a
 abbrev pub sum_infinite : Way
@@ -73,7 +73,7 @@ sum_infinite =
 abbrev pub sum_edge : Way
 sum_edge =
     way (is_not (line 6 equals line 5) ∷ is_not (is_zero (line 3)) ∷ is_infinite (line 1) ∷ at_sum_edge ∷ [])
-    (sum_lines ++ halved_lines ++ κ * line 9 ∷ -2 * line 11 ∷ []) (line 12) (line 13)
+    (sum_lines ++ halved_lines ++ κ ⊗ line 9 ∷ -2 ⊗ line 11 ∷ []) (line 12) (line 13)
 
 abbrev pub sum_ways : List Way
 sum_ways = sum_nan ∷ sum_changed ∷ sum_changed_zero ∷ sum_kept ∷ sum_kept_zero ∷ sum_infinite ∷ sum_edge ∷ []
@@ -87,7 +87,7 @@ product_nan = way (is_nan (line 1) ∷ []) (X · Y ∷ []) (line 1) (line 1)
 abbrev pub infinite_lines : List Instruction
 infinite_lines =
     X · Y ∷  -- 1 a
-    ½ * X ∷  -- 2 h
+    ½ ⊗ X ∷  -- 2 h
     line 2 · Y ∷  -- 3 a'
     fuse (line 2) Y (minus (line 3)) ∷  -- 4 b'
     []
@@ -99,7 +99,7 @@ abbrev pub product_infinite : Way
 product_infinite = way (is_infinite (line 1) ∷ is_not at_product_edge ∷ []) infinite_lines (line 1) (line 1)
 
 abbrev pub product_edge : Way
-product_edge = way (is_infinite (line 1) ∷ at_product_edge ∷ []) (infinite_lines ++ κ * line 3 ∷ -2 * line 4 ∷ []) (line 5) (line 6)
+product_edge = way (is_infinite (line 1) ∷ at_product_edge ∷ []) (infinite_lines ++ κ ⊗ line 3 ∷ -2 ⊗ line 4 ∷ []) (line 5) (line 6)
 
 -- a is zero (R5.14)
 abbrev pub product_zero : Way
@@ -112,14 +112,14 @@ tiny = is_not (is_zero (line 1)) ∷ line 1 below 2^-125 ∷ []
 abbrev pub tiny_lines : List Instruction
 tiny_lines =
     X · Y ∷  -- 1 a
-    2^24 * X ∷  -- 2 m
-    2^24 * Y ∷  -- 3 n
+    2^24 ⊗ X ∷  -- 2 m
+    2^24 ⊗ Y ∷  -- 3 n
     line 2 · line 3 ∷  -- 4 t1
     fuse (line 2) (line 3) (minus (line 4)) ∷  -- 5 t2
-    2^48 * line 1 ∷  -- 6 g
-    line 4 - line 6 ∷  -- 7 t3
-    line 5 + line 7 ∷  -- 8 z
-    line 8 - line 7 ∷  -- 9 w
+    2^48 ⊗ line 1 ∷  -- 6 g
+    line 4 ⊖ line 6 ∷  -- 7 t3
+    line 5 ⊕ line 7 ∷  -- 8 z
+    line 8 ⊖ line 7 ∷  -- 9 w
     []
 
 -- where its first is lowered (R5.16)
@@ -127,10 +127,10 @@ abbrev pub at_tiny_tie : Test
 at_tiny_tie = line 8 equals minus (2^-102 with_sign_of line 1) and line 9 equals line 5
 
 abbrev pub tiny_lowered : Way
-tiny_lowered = way (tiny ++ at_tiny_tie ∷ []) (tiny_lines ++ line 1 - u with_sign_of line 1 ∷ +0 * line 10 ∷ []) (line 10) (line 11)
+tiny_lowered = way (tiny ++ at_tiny_tie ∷ []) (tiny_lines ++ line 1 ⊖ u with_sign_of line 1 ∷ +0 ⊗ line 10 ∷ []) (line 10) (line 11)
 
 abbrev pub tiny_kept : Way
-tiny_kept = way (tiny ++ is_not at_tiny_tie ∷ []) (tiny_lines ++ +0 * line 1 ∷ []) (line 1) (line 10)
+tiny_kept = way (tiny ++ is_not at_tiny_tie ∷ []) (tiny_lines ++ +0 ⊗ line 1 ∷ []) (line 1) (line 10)
 
 -- a middle product (R5.17), and recomposition
 abbrev pub middle : List Test
@@ -139,30 +139,30 @@ middle = is_not (is_zero (line 1)) ∷ is_not (line 1 below 2^-125) ∷ line 1 u
 abbrev pub middle_lines : List Instruction
 middle_lines =
     X · Y ∷  -- 1 a
-    2^24 * X ∷  -- 2 m
+    2^24 ⊗ X ∷  -- 2 m
     line 2 · Y ∷  -- 3 a'
     fuse (line 2) Y (minus (line 3)) ∷  -- 4 b'
-    ψ * line 3 ∷  -- 5 z
-    line 5 - line 3 ∷  -- 6 d
-    +2 * line 4 ∷  -- 7 e
+    ψ ⊗ line 3 ∷  -- 5 z
+    line 5 ⊖ line 3 ∷  -- 6 d
+    +2 ⊗ line 4 ∷  -- 7 e
     []
 
 -- scaled down where (A, B) is (z, -b')
 abbrev pub changed_lines : List Instruction
 changed_lines =
-    2^-24 * line 5 ∷  -- 8 first
-    2^-24 * minus (line 4) ∷  -- 9 β
-    2^24 * line 9 ∷  -- 10 g
-    line 10 - minus (line 4) ∷  -- 11 r
+    2^-24 ⊗ line 5 ∷  -- 8 first
+    2^-24 ⊗ minus (line 4) ∷  -- 9 β
+    2^24 ⊗ line 9 ∷  -- 10 g
+    line 10 ⊖ minus (line 4) ∷  -- 11 r
     []
 
 -- and where it is (a', b')
 abbrev pub kept_lines : List Instruction
 kept_lines =
-    2^-24 * line 3 ∷  -- 8 first
-    2^-24 * line 4 ∷  -- 9 β
-    2^24 * line 9 ∷  -- 10 g
-    line 10 - line 4 ∷  -- 11 r
+    2^-24 ⊗ line 3 ∷  -- 8 first
+    2^-24 ⊗ line 4 ∷  -- 9 β
+    2^24 ⊗ line 9 ∷  -- 10 g
+    line 10 ⊖ line 4 ∷  -- 11 r
     []
 
 -- where its second is lowered (R5.18)
@@ -178,7 +178,7 @@ middle_changed =
 abbrev pub middle_changed_zero : Way
 middle_changed_zero =
     way (middle ++ line 7 equals line 6 ∷ is_not at_rest_tie ∷ is_zero (line 9) ∷ [])
-    (middle_lines ++ changed_lines ++ +0 * line 8 ∷ []) (line 8) (line 12)
+    (middle_lines ++ changed_lines ++ +0 ⊗ line 8 ∷ []) (line 8) (line 12)
 
 abbrev pub middle_kept : Way
 middle_kept =
@@ -188,13 +188,13 @@ middle_kept =
 abbrev pub middle_kept_zero : Way
 middle_kept_zero =
     way (middle ++ is_not (line 7 equals line 6) ∷ is_not at_rest_tie ∷ is_zero (line 9) ∷ [])
-    (middle_lines ++ kept_lines ++ +0 * line 8 ∷ []) (line 8) (line 12)
+    (middle_lines ++ kept_lines ++ +0 ⊗ line 8 ∷ []) (line 8) (line 12)
 
 -- no way has a lowered second that is zero: `OneWay` says that there is none
 abbrev pub middle_lowered : Way
 middle_lowered =
     way (middle ++ is_not (line 7 equals line 6) ∷ at_rest_tie ∷ is_not (is_zero (line 12)) ∷ [])
-    (middle_lines ++ kept_lines ++ line 9 - u with_sign_of line 9 ∷ []) (line 8) (line 12)
+    (middle_lines ++ kept_lines ++ line 9 ⊖ u with_sign_of line 9 ∷ []) (line 8) (line 12)
 
 -- any other product (R5.19), and recomposition
 abbrev pub other : List Test
@@ -206,9 +206,9 @@ abbrev pub other_lines : List Instruction
 other_lines =
     X · Y ∷  -- 1 a
     fuse X Y (minus (line 1)) ∷  -- 2 b
-    ψ * line 1 ∷  -- 3 z
-    line 3 - line 1 ∷  -- 4 d
-    +2 * line 2 ∷  -- 5 e
+    ψ ⊗ line 1 ∷  -- 3 z
+    line 3 ⊖ line 1 ∷  -- 4 d
+    +2 ⊗ line 2 ∷  -- 5 e
     []
 
 -- where recomposition gives (z, -b) second is not zero: `OneWay` says so
@@ -220,7 +220,7 @@ other_kept = way (other ++ is_not (line 5 equals line 4) ∷ is_not (is_zero (li
 
 abbrev pub other_kept_zero : Way
 other_kept_zero =
-    way (other ++ is_not (line 5 equals line 4) ∷ is_zero (line 2) ∷ []) (other_lines ++ +0 * line 1 ∷ []) (line 1) (line 6)
+    way (other ++ is_not (line 5 equals line 4) ∷ is_zero (line 2) ∷ []) (other_lines ++ +0 ⊗ line 1 ∷ []) (line 1) (line 6)
 
 abbrev pub product_ways : List Way
 product_ways =

@@ -5,11 +5,11 @@ const NAME: &str = "jirmeklo";
 
 fn main() {
     let manifest = std::env::var("CARGO_MANIFEST_DIR").expect("cargo sets CARGO_MANIFEST_DIR");
-    let folder = Path::new(&manifest).join("../target/staticlib");
+    let folder = Path::new(&manifest).join("../crates").join(NAME).join("out");
     let archive = folder.join(format!("lib{NAME}.a"));
     if !archive.is_file() {
         eprintln!(
-            "{} is missing: run `rt staticlib {NAME}` in the repository's root first",
+            "{} is missing: run `rt lib` in crates/{NAME} first",
             archive.display()
         );
         std::process::exit(1);

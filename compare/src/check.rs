@@ -29,7 +29,7 @@ pub struct Options {
     pub markings: u64,
     /// Random files of question lines for the program, for each shape that has them.
     pub files: u64,
-    /// What is run in the place of `target/bin/sheet`.
+    /// What is run in the place of `crates/sheet/out/sheet`.
     pub program: Option<String>,
 }
 

@@ -56,7 +56,7 @@ const USAGE: &str = "usage: compare check [OPTION N]... | compare sheets [OPTION
     --lists N   random lists of questions, for each shape that has them (default 400)
     --markings N   worksheets to be marked, shared by the shapes (default 400000)
     --files N   random files of question lines for the program, for each shape that has them (default 60)
-    --program WORDS   what is run in the place of target/bin/sheet: a path and arguments, with spaces between";
+    --program WORDS   what is run in the place of crates/sheet/out/sheet: a path and arguments, with spaces between";
 
 fn main() -> ExitCode {
     let words: Vec<String> = std::env::args().skip(1).collect();

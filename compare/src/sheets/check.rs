@@ -13,7 +13,7 @@ pub struct Options {
     pub seed: u64,
     /// Random files, for each shape that has such.
     pub files: u64,
-    /// What is run in the place of `target/bin/sheet`.
+    /// What is run in the place of `crates/sheet/out/sheet`.
     pub program: Option<String>,
 }
 

@@ -26,10 +26,10 @@ const AFTER_LAST: Duration = Duration::from_secs(5);
 const PAUSE: Duration = Duration::from_micros(150);
 
 impl Process {
-    /// `target/bin/sheet` of the repository that this program is built in.
+    /// `crates/sheet/out/sheet` of the repository that this program is built in.
     pub fn sheet() -> Process {
         let root = Path::new(env!("CARGO_MANIFEST_DIR")).join("..");
-        Process { path: root.join("target/bin/sheet"), arguments: Vec::new() }
+        Process { path: root.join("crates/sheet/out/sheet"), arguments: Vec::new() }
     }
 
     /// A path, and arguments after it, with spaces between.
@@ -49,7 +49,7 @@ impl Process {
     pub fn missing(&self) -> Option<String> {
         let there = self.path.is_file();
         (!there).then(|| {
-            format!("{} is missing: run `rt check sheet` in the repository's root first", self.shown())
+            format!("{} is missing: run `rt run` in crates/sheet first", self.shown())
         })
     }
 

@@ -1,7 +1,9 @@
 // Terms of a total: patterns, and products of two (R6.2). A call answers by the refusal's number (R8.7), or by 0.
 #![tactic(auto)]
+
 ghost use Rattle.std.specs.Prelude.{◌≡◌, cond, ◌&&◌, suc, ◌≤◌, ◌<◌, eqb, length, set};
-ghost use Rattle.accumulator_spec.specs.Totals.{number_size, total_size, most_terms, count, sign_word, of_pattern, of_product, AddsNumbered};
+ghost use Rattle.accumulator_spec.specs.Totals.{number_size, total_size, most_terms, count, sign_word, of_pattern, of_product};
+ghost use Rattle.accumulator_spec.specs.Totals.{AddsNumbered};
 ghost use Rattle.accumulator_add.specs.Inner.{noted};
 
 use accumulator_fit::{has_room, refusal_to_add};

@@ -1,5 +1,6 @@
 // The library's functions for programs in C and other languages: steps and pairs here, totals and sheets in files of their own.
 #![tactic(auto)]
+
 mod sheets;
 mod totals;
 

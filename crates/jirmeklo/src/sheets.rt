@@ -33,10 +33,10 @@ pub extern "C" fn jirmeklo_replay(
     other: &mut [u32],
 ) -> u32
     ensures { ReplaysNumbered
-        (record { operations = operations.entry.now; xs = xs.now; ys = ys.now; counts = counts.now })
-        (record { words = words.entry.now; totals = record { first = first.entry.now; other = other.old } })
+        (record { operations = operations.now; xs = xs.now; ys = ys.now; counts = counts.now })
+        (record { words = words.old; totals = record { first = first.old; other = other.old } })
         result
-        (record { words = words.exit.now; totals = record { first = first.exit.now; other = other.new } }) }
+        (record { words = words.new; totals = record { first = first.new; other = other.new } }) }
 {
     conservation::numbers::replay(operations, xs, ys, counts, words, first, other)
 }

@@ -78,9 +78,9 @@ unfolding sheet_of sum_sheet swaps product_sheet
 first-line =
     (λ x y h. rw h (starts y x), λ x y h. rw h (starts x y), λ x y. refl, λ x y. refl)
 
-pub in_order_lem : InOrder
+pub in-order : InOrder
 unfolding sheet_of
-in_order_lem = (sum-steps, product-steps)
+in-order = (sum-steps, product-steps)
 
 pub ends-at-nan : EndsAtNaN
 ends-at-nan = not-a-number.ends-at-nan
@@ -213,7 +213,7 @@ all = (
   each_line,
   derived,
   first-line,
-  in_order_lem,
+  in-order,
   ends-at-nan,
   infinite-lines,
   smallest-times-infinity,

@@ -1,6 +1,7 @@
 // Whether lent words are a fit total (R6.3, R6.12), and one that takes a term: of the number the top words tell, but at the limit itself,
 // and where the sign word asks for 0.
 #![tactic(auto)]
+
 pub mod old;
 
 ghost use Rattle.std.specs.Prelude.{◌≡◌, ◌<◌, true, length, if◌then◌else◌};

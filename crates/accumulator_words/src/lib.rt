@@ -1,5 +1,6 @@
 // Words of 32 bits, lowest first: a term goes into the number that they hold; whether they are all zero.
 #![tactic(auto)]
+
 ghost use Rattle.std.specs.Prelude.{◌≡◌, ◌+◌, ◌*◌, ◌^◌, ◌<◌, ◌≤◌, length};
 ghost use Rattle.accumulator_spec.specs.Words.{all_zero};
 ghost use Rattle.accumulator_spec.specs.Inner.{after_walk};

@@ -1,12 +1,11 @@
 use Rattle.std.proofs.Common.{sym, ◌∙◌}
-use borrow.Author.Tests.{not-true, not-false}
 use Rattle.accumulator_spec.specs.Totals.{fit}
 use Rattle.accumulator_fit.proofs.is_fit.Goals as goal
 
 pub returns-then-not-within_limits : goal.returns-then-not-within_limits
 unfolding fit
-returns-then-not-within_limits c = rw (sym c.within_limits.ensures ∙ not-true _ c.if-not-within_limits.true)
+returns-then-not-within_limits c = rw (sym c.within_limits.ensures ∙ c.if-not-within_limits.true)
 
 pub returns : goal.returns
 unfolding fit
-returns c = c.sign_fits.ensures ∙ sym (rw (sym c.within_limits.ensures ∙ not-false _ c.if-not-within_limits.false))
+returns c = c.sign_fits.ensures ∙ sym (rw (sym c.within_limits.ensures ∙ c.if-not-within_limits.false))

@@ -1,5 +1,4 @@
 use Rattle.std.proofs.Common.{length, sym, ◌∙◌, eq-eqb, ne_eqb}
-use borrow.Author.Tests.{not-true, not-false}
 use Rattle.accumulator_spec.specs.Totals.{total_size}
 use Rattle.accumulator_fit.proofs.refusal.Goals as goal
 
@@ -8,8 +7,8 @@ returns-then-total-ne-TOTAL_SIZE c = rw (ne_eqb (length c.args.total.now) total_
 
 pub returns-then-not-is_fit : goal.returns-then-not-is_fit
 returns-then-not-is_fit c =
-    rw (eq-eqb (length c.args.total.now) total_size c.if-total-ne-TOTAL_SIZE.false, sym c.is_fit.ensures ∙ not-true _ c.if-not-is_fit.true)
+    rw (eq-eqb (length c.args.total.now) total_size c.if-total-ne-TOTAL_SIZE.false, sym c.is_fit.ensures ∙ c.if-not-is_fit.true)
 
 pub returns : goal.returns
 returns c =
-    rw (eq-eqb (length c.args.total.now) total_size c.if-total-ne-TOTAL_SIZE.false, sym c.is_fit.ensures ∙ not-false _ c.if-not-is_fit.false)
+    rw (eq-eqb (length c.args.total.now) total_size c.if-total-ne-TOTAL_SIZE.false, sym c.is_fit.ensures ∙ c.if-not-is_fit.false)

@@ -21,4 +21,4 @@ overflow_cast-words-2 c =
 pub returns : goal.returns
 returns c =
     let a = c.args in two-words-added a.minus _ c.choose-mask.ensures a.words.now (λ i. (c.slice_known-1.given i).fits) c.requires _ _ a.low _ _
-    c.wide.ensures c.wide-2.ensures c.ranges.low.fits c.wrapping_add_u64-sum.ensures c.choose.ensures
+    c.wide.ensures c.wide-2.ensures c.ranges.low.fits c.wrapping_add_u64-sum.ensures.value c.choose.ensures

@@ -1,5 +1,4 @@
 use Rattle.std.proofs.Common.{sym, ap, ◌∙◌}
-use borrow.Author.Tests.{not-true, not-false}
 use Rattle.pattern_spec.specs.Answer.{refusal_of}
 use Rattle.accumulator_spec.proofs.Carried.{old-length, new-length, old-unfit, carries}
 use Rattle.accumulator_fit.proofs.old.refusal_to_carry.Goals as goal
@@ -12,8 +11,8 @@ returns-then-new-ne-TOTAL_SIZE c = let a = c.args in sym (ap refusal_of (new-len
 
 pub returns-then-not-within_limits : goal.returns-then-not-within_limits
 returns-then-not-within_limits c =
-    let a = c.args in sym (ap refusal_of (old-unfit a.old.now a.new.now c.if-old-ne-OLD_SIZE.false c.if-new-ne-TOTAL_SIZE.false (sym c.within_limits.ensures ∙ not-true _ c.if-not-within_limits.true)))
+    let a = c.args in sym (ap refusal_of (old-unfit a.old.now a.new.now c.if-old-ne-OLD_SIZE.false c.if-new-ne-TOTAL_SIZE.false (sym c.within_limits.ensures ∙ c.if-not-within_limits.true)))
 
 pub returns : goal.returns
 returns c =
-    let a = c.args in sym (ap refusal_of (carries a.old.now a.new.now c.if-old-ne-OLD_SIZE.false c.if-new-ne-TOTAL_SIZE.false (sym c.within_limits.ensures ∙ not-false _ c.if-not-within_limits.false)))
+    let a = c.args in sym (ap refusal_of (carries a.old.now a.new.now c.if-old-ne-OLD_SIZE.false c.if-new-ne-TOTAL_SIZE.false (sym c.within_limits.ensures ∙ c.if-not-within_limits.false)))

@@ -42,8 +42,8 @@ foot-by o x y s v e none some = ((by v e none some).0 ∙ sym (first-pattern o b
         → (s.first ≡ shown (pair_of binary32 (exact_for o binary32 x y)).first) × (s.second ≡ shown (pair_of binary32 (exact_for o binary32 x y)).second)
     number v e n f =
         let k = numbers v n in (
-          f.0 ∙ sym (result-number binary32 _ (pair_of binary32 v).first k.0) ∙ ap (λ (w : Value). shown (pair_of binary32 w).first) (sym e),
-          f.1 ∙ sym (result-number binary32 _ (pair_of binary32 v).second k.1) ∙ ap (λ (w : Value). shown (pair_of binary32 w).second) (sym e),
+          f.0 ∙ sym (result-number binary32 (x ∷ second_operand o binary32 y ∷ []) (pair_of binary32 v).first k.0) ∙ ap (λ (w : Value). shown (pair_of binary32 w).first) (sym e),
+          f.1 ∙ sym (result-number binary32 (x ∷ second_operand o binary32 y ∷ []) (pair_of binary32 v).second k.1) ∙ ap (λ (w : Value). shown (pair_of binary32 w).second) (sym e),
         )
 
     by : (v : Value) → exact_for o binary32 x y ≡ v → (v ≡ nan → EndsInNaN x (second_operand o binary32 y) s) → (is_nan v ≡ false → Foots v s)

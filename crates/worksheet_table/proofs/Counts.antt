@@ -7,7 +7,7 @@ use Rattle.errorfree_spec.proofs.NoNumber.{not-both}
 use Rattle.binary32_spec.specs.Steps.{mul_step}
 use Rattle.worksheet_spec.specs.Lines.{value}
 use Rattle.worksheet_spec.specs.Sheets.{rest_tie}
-use Rattle.worksheet_table.specs.Programs.{line, minus, ◌equals◌, ◌below◌, ◌upTo◌, is_zero, is_infinite, is_nan, 2^-125, 2^-102, how_many_taken}
+use Rattle.worksheet_table.specs.Programs.{line, minus, ◌equals◌, ◌below◌, ◌up_to◌, is_zero, is_infinite, is_nan, 2^-125, 2^-102, how_many_taken}
 use Rattle.worksheet_table.specs.Table.{sum_nan, sum_changed, sum_infinite, at_sum_edge, sum_ways}
 use Rattle.worksheet_table.specs.Table.{product_infinite, product_zero, tiny_kept, middle_changed, middle_kept, middle_lowered, other_kept, at_product_edge, at_tiny_tie, at_rest_tie, product_ways}
 use Rattle.worksheet_table.proofs.Told.{asked}

@@ -5,7 +5,7 @@ use mathlib.Core.Bool.{Bool, true, false}
 use mathlib.Core.List.{List, [], ◌∷◌}
 use borrow.Author.Tests.{not-true}
 use Rattle.errorfree_spec.proofs.NoNumber.{both_of}
-use Rattle.worksheet_table.specs.Programs.{Operand, Test, ◌equals◌, ◌below◌, ◌upTo◌, is_zero, is_infinite, is_nan, is_not, ◌and◌}
+use Rattle.worksheet_table.specs.Programs.{Operand, Test, ◌equals◌, ◌below◌, ◌up_to◌, is_zero, is_infinite, is_nan, is_not, ◌and◌}
 use Rattle.worksheet_table.specs.Programs.{Way, way, operand_pattern, lines_below, results_on, passes, all_pass, taken}
 
 abbrev pub True : (Operand → ℕ) → Test → Type 0

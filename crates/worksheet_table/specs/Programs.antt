@@ -53,12 +53,12 @@ pub data Instruction : Type 0 where
 -- ---- what is asked of results: `equals` compares values, `below` (<) and `up_to` (≤) magnitudes
 infix 75 ◌equals◌
 infix 75 ◌below◌
-infix 75 ◌upTo◌
+infix 75 ◌up_to◌
 infixr 70 ◌and◌
 pub data Test : Type 0 where
   ◌equals◌ : Operand → Operand → Test
   ◌below◌ : Operand → Constant → Test
-  ◌upTo◌ : Operand → Constant → Test
+  ◌up_to◌ : Operand → Constant → Test
   is_zero : Operand → Test
   is_infinite : Operand → Test
   is_nan : Operand → Test

@@ -11,7 +11,7 @@ use Rattle.pattern_spec.specs.Comparisons.{less_magnitude}
 use Rattle.worksheet_spec.specs.Lines.{Sheet}
 use Rattle.worksheet_table.specs.Programs.{ψ, +2, -2, ½, κ, 2^24, 2^48, 2^-24, +0, u, 2^127, 2^102, 2^-102, 2^-125, 2^-126}
 use Rattle.worksheet_table.specs.Programs.{X, Y, line, minus, ◌with_sign_of◌, Instruction, ◌+◌, ◌-◌, ◌·◌, ◌*◌, fuse}
-use Rattle.worksheet_table.specs.Programs.{Test, ◌equals◌, ◌below◌, ◌upTo◌, is_zero, is_infinite, is_nan, is_not, ◌and◌}
+use Rattle.worksheet_table.specs.Programs.{Test, ◌equals◌, ◌below◌, ◌up_to◌, is_zero, is_infinite, is_nan, is_not, ◌and◌}
 use Rattle.worksheet_table.specs.Programs.{Way, way, sheet_by}
 
 -- ---- sums: X and Y are the operands as they stand after the exchange (R5.9)

@@ -1,5 +1,6 @@
 // All that `sheet` prints, as a definition, and what holds of it; where a run stands, as the code holds it. No function is here.
 #![tactic(auto)]
+
 use question_spec::QUESTION_SIZE;
 use transcript_spec::LINE_ROOM;
 

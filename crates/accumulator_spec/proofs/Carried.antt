@@ -1,6 +1,6 @@
 -- An old total that is carried over: what is answered, and the words as they end; that it is fit and reads as before; that it is the column
 -- of the terms that it stands for.
-use mathlib.Core.Path.{◌≡◌, refl, sym, ap, ap₂, ◌∙◌}
+use mathlib.Core.Path.{◌≡◌, refl, sym, ap, ◌∙◌}
 use mathlib.Core.Logic.{◌⊎◌, inl, inr}
 use mathlib.Core.Bool.{Bool, true, false, not, cond}
 use mathlib.Core.List.{List, [], ◌∷◌, ◌++◌, append_assoc}
@@ -14,16 +14,16 @@ use lib.IntN.{ℤ, pos, negsuc, nat_abs, ◌+ℤ◌}
 use lib.ListN.{length, length-append, take, get_or-append}
 use lib.Seq.{take_at, get_or_at, take-append-le}
 use Rattle.rounding_spec.specs.Format.{binary32}
-use Rattle.rounding_spec.specs.Value.{Value, decode}
+use Rattle.rounding_spec.specs.Value.{decode}
 use Rattle.augmented_spec.specs.Pairs.{pair_of}
 use Rattle.pattern_spec.specs.Answer.{Answer, refused, done, refusal_of}
-use Rattle.pattern_spec.specs.Exact.{whole, finer}
+use Rattle.pattern_spec.specs.Exact.{finer}
 use Rattle.accumulator_spec.specs.Words.{Words, integer, words_of_integer}
-use Rattle.accumulator_spec.specs.Totals.{zeros, number_size, total_size, most_terms, number, count, sign_word, total_of, within_limits, FitTotal}
-use Rattle.accumulator_spec.specs.Totals.{Term, of_pattern, finite_operands, exact_term, term_sign, sign_of_both, exact_number, pair_answer, reading}
-use Rattle.accumulator_spec.specs.Columns.{column, AllFinite, AllMinusZero, column_sum, column_sign}
-use Rattle.accumulator_spec.specs.Carrying.{old_size, old_total_of, old_column, FitOld, old_reading, carrying, carried_total, after_carrying}
-use Rattle.accumulator_spec.specs.Carrying.{plus_zero_first, carried_terms}
+use Rattle.accumulator_spec.specs.Totals.{zeros, number_size, total_size, number, count, sign_word, total_of, within_limits, FitTotal}
+use Rattle.accumulator_spec.specs.Totals.{Term, of_pattern, finite_operands, term_sign, exact_number, pair_answer}
+use Rattle.accumulator_spec.specs.Columns.{column, AllFinite, column_sum, column_sign}
+use Rattle.accumulator_spec.specs.Carrying.{old_size, old_total_of, old_column, old_reading, carrying, carried_total, after_carrying}
+use Rattle.accumulator_spec.specs.Carrying.{carried_terms}
 use Rattle.accumulator_spec.specs.SignTheorems.{CarryingRefused, CarriedAs, CarriesMeans, CarriesNumberedMeans, FitOldIs, OldReads, CarriedFit}
 use Rattle.accumulator_spec.specs.SignTheorems.{OldColumnIs, CarriedTermsAre, CarriedColumn}
 use Rattle.accumulator_spec.proofs.Adding.{Fits, limits, limits-within, fit-bounds, bounds-fit, never}

@@ -14,7 +14,7 @@ use Rattle.rounding_spec.specs.declared.Ties.TheVariants.{ToZero}
 use Rattle.rounding_spec.specs.Format.{binary32, limit}
 use Rattle.rounding_spec.specs.Round.{last_place, rounded, left_over, rounded_up}
 use Rattle.rounding_spec.specs.Nearest.{dist}
-use Rattle.rounding_spec.specs.Value.{Value, infinite, finite, decode, encode, round_finite, is_finite, is_infinite}
+use Rattle.rounding_spec.specs.Value.{Value, finite, decode, encode, round_finite, is_finite, is_infinite}
 use Rattle.rounding_spec.proofs.Multiple.{joined, mult-dist}
 use Rattle.rounding_spec.proofs.LastPlace.{place-le}
 use Rattle.rounding_spec.proofs.Bounds.{rounded-le}

@@ -1,6 +1,6 @@
 -- The fused step as the code makes it: of a product that is no NaN, only the third operand's NaN is left.
 use mathlib.Core.Path.{◌≡◌, refl, sym, ap, ap₂, ◌∙◌}
-use mathlib.Core.Bool.{Bool, true, false, ◌&&◌, true≢false}
+use mathlib.Core.Bool.{Bool, false, ◌&&◌, true≢false}
 use mathlib.Core.List.{[], ◌∷◌}
 use Prim.Native.Nat.{ℕ}
 use Rattle.rounding_spec.specs.declared.Ties.TheVariants.{ToEven}

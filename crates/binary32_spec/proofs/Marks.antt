@@ -1,8 +1,8 @@
 -- The mark of a step by its exact value: laws for the code.
 use mathlib.Core.Path.{◌≡◌, refl, sym, ap, ap₂, ◌∙◌}
-use mathlib.Core.Logic.{◌≢◌, inr}
+use mathlib.Core.Logic.{inr}
 use mathlib.Core.Bool.{Bool, true, false, cond, ◌&&◌, ◌||◌, true≢false, and-true}
-use Prim.Native.Nat.{ℕ, ◌-◌, ◌*◌, ◌^◌}
+use Prim.Native.Nat.{ℕ, ◌*◌, ◌^◌}
 use native.Mathlib.Decide.{dec_le, ℕ_discrete}
 use native.Mathlib.Omega.{arith}
 use borrow.Author.Tests.{eq-eqb, ne_eqb}
@@ -21,7 +21,7 @@ use Rattle.pattern_spec.proofs.Shown.{chosen-and}
 use Rattle.pattern_spec.proofs.Sums.{like-own}
 use Rattle.pattern_spec.proofs.Truth.{some-false}
 use Rattle.binary32_spec.specs.declared.Outcome.{Outcome}
-use Rattle.binary32_spec.specs.Steps.{result, add_step, sub_step, mul_step, fma_step}
+use Rattle.binary32_spec.specs.Steps.{add_step, sub_step, mul_step, fma_step}
 use Rattle.binary32_spec.specs.Marks.{mark_by, add_mark, sub_mark, mul_mark, fma_mark}
 use Rattle.binary32_spec.specs.Inner.{outcome}
 

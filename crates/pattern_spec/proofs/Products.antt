@@ -2,16 +2,14 @@
 use mathlib.Core.Path.{◌≡◌, ap, ◌∙◌, sym}
 use mathlib.Core.Logic.{inl, inr}
 use mathlib.Core.Bool.{true, false}
-use Prim.Native.Nat.{ℕ, suc, ◌+◌, ◌-◌, ◌*◌, ◌%◌, ◌^◌, ◌≤◌, ◌<◌}
-use native.Mathlib.Nat.{zero-mul, mul-pos, pos_of_ne-zero, mul-mul-mul_comm, mul-le-mul_left, mul-le-mul_right, mul-lt-mul_of_pos_right, lt_of_le_of_lt, lt_of_lt_of_le, le_of_lt, le_of_eq, le_trans}
-use native.Mathlib.Nat.{le-mul_of_pos_right, lt_of_not-le, not-le_of_lt, mod-eq_of_lt, mul_comm, eq-zero-or-pos}
+use Prim.Native.Nat.{ℕ, ◌+◌, ◌*◌, ◌^◌, ◌≤◌, ◌<◌}
+use native.Mathlib.Nat.{zero-mul, mul-pos, pos_of_ne-zero, mul-mul-mul_comm, mul-le-mul_left, mul-lt-mul_of_pos_right, lt_of_le_of_lt, le_of_lt, le_of_eq, le_trans}
+use native.Mathlib.Nat.{le-mul_of_pos_right, mul_comm, eq-zero-or-pos}
 use native.Mathlib.Omega.{arith}
-use lib.Count.{count_leading_zeros, leading_top}
 use lib.Dec.{eqb}
-use lib.Pow.{pow-add, pow_pos, pow_mono, shl_lt}
+use lib.Pow.{pow-add, pow_pos}
 use borrow.Author.Tests.{eq-eqb, ne_eqb}
 use Rattle.pattern_spec.specs.Inner.{Operand, Product}
-use Rattle.rounding_spec.proofs.Multiple.{joined}
 
 -- ---- zero or not
 pub none : (n d : ℕ) → n ≡ 0 → eqb (n * 2 ^ d) 0 ≡ true

@@ -1,6 +1,7 @@
 -- What holds of the sign word (R6.8, R6.11, R6.12), and of old totals that are carried over (R6.13, R6.14, R8.17). Theorems.antt has these
 -- statements in its `All`.
-use Rattle.std.specs.Prelude.{ℕ, ◌*◌, ◌^◌, ◌≤◌, ◌<◌, ◌≡◌, ◌≢◌, ◌↔◌, Bool, true, false, ◌&&◌, ◌||◌, List, [], ◌∷◌, ◌++◌, eqb, length, take, replicate, pos, nat_abs}
+use Rattle.std.specs.Prelude.{ℕ, ◌*◌, ◌^◌, ◌≤◌, ◌<◌, ◌≡◌, ◌≢◌, ◌↔◌, Bool, true, false, ◌&&◌, ◌||◌, List}
+use Rattle.std.specs.Prelude.{[], ◌∷◌, ◌++◌, eqb, length, take, replicate, pos, nat_abs}
 use Rattle.std.specs.Float.Ieee.{unlike}
 use Rattle.rounding_spec.specs.Format.{binary32}
 use Rattle.rounding_spec.specs.Value.{finite, decode}

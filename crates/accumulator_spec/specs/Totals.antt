@@ -1,6 +1,7 @@
 -- Exact totals: what their words are, the terms that go into them, and what the calls on them answer and leave (R6, R8.7 to R8.9).
 -- A total's number counts 2 ^ -298, which is u * u.
-use Rattle.std.specs.Prelude.{ℕ, suc, ◌+◌, ◌*◌, ◌^◌, ◌≡◌, Bool, true, false, not, cond, ◌&&◌, List, [], ◌∷◌, ◌++◌, eqb, leb, length, take, get_or, replicate, ℤ, pos, negsuc, nat_abs, ◌+ℤ◌}
+use Rattle.std.specs.Prelude.{ℕ, suc, ◌+◌, ◌*◌, ◌^◌, ◌≡◌, Bool, true, false, not, cond, ◌&&◌, List, [], ◌∷◌, ◌++◌}
+use Rattle.std.specs.Prelude.{eqb, leb, length, take, get_or, replicate, ℤ, pos, negsuc, nat_abs, ◌+ℤ◌}
 use Rattle.rounding_spec.specs.Format.{binary32}
 use Rattle.rounding_spec.specs.Value.{Value, nan, infinite, finite, decode, encode, is_finite}
 use Rattle.pattern_spec.specs.Answer.{Answer, refused, done, is_done, refusal_of}

@@ -1,5 +1,6 @@
 -- Words of 32 bits, lowest first, and the numbers that they hold (R6.1).
-use Rattle.std.specs.Prelude.{ℕ, zero, suc, ◌+◌, ◌-◌, ◌*◌, ◌/◌, ◌%◌, ◌^◌, ◌<◌, Bool, true, cond, ◌&&◌, List, [], ◌∷◌, map, eqb, ltb, length, get_or, ℤ, pos, negsuc, ◌-ℤ◌}
+use Rattle.std.specs.Prelude.{ℕ, zero, suc, ◌+◌, ◌-◌, ◌*◌, ◌/◌, ◌%◌, ◌^◌, ◌<◌, Bool, true, cond, ◌&&◌, List}
+use Rattle.std.specs.Prelude.{[], ◌∷◌, map, eqb, ltb, length, get_or, ℤ, pos, negsuc, ◌-ℤ◌}
 
 -- every one of them is below 2 ^ 32
 abbrev pub Words : List ℕ → Type 0

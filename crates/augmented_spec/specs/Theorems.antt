@@ -1,7 +1,8 @@
 -- What is proved of pairs and flags, beside the contracts. A name of type `Type 0` is a statement; `proofs/Theorems.antt` has its proof.
 -- E counts u * u, so that sums, differences and products read alike; the magnitudes of halves and operands count u. `finer_int` takes the
 -- second unit to the first.
-use Rattle.std.specs.Prelude.{◌≡◌, ◌⊎◌, ◌≢◌, ◌↔◌, Bool, true, false, not, cond, ◌&&◌, ◌||◌, [], ◌∷◌, ℕ, ◌*◌, ◌^◌, ◌≤◌, ◌<◌, eqb, ℤ, pos, nat_abs, ◌+ℤ◌, ◌-ℤ◌, ◌*ℤ◌}
+use Rattle.std.specs.Prelude.{◌≡◌, ◌⊎◌, ◌≢◌, ◌↔◌, Bool, true, false, not, cond, ◌&&◌, ◌||◌, [], ◌∷◌, ℕ}
+use Rattle.std.specs.Prelude.{◌*◌, ◌^◌, ◌≤◌, ◌<◌, eqb, ℤ, pos, nat_abs, ◌+ℤ◌, ◌-ℤ◌, ◌*ℤ◌}
 use Rattle.std.specs.Float.Ieee.{unlike}
 use Rattle.rounding_spec.specs.declared.Ties.TheVariants.{ToZero}
 use Rattle.rounding_spec.specs.Format.{Format, binary32, Proper, low, edge, infinity, sign_bit}
@@ -78,7 +79,8 @@ FirstNearest =
     (o : Operation) (F : Format) (E : ℤ) (z : Bool) (p : Pair) → FiniteOperands o F E z p → (q : Bool) (c : ℕ)
     → decode F p.first ≡ finite q c
     → (w : ℕ) (r : Bool) (b : ℕ) → decode F w ≡ finite r b
-    → (nat_abs (finer_int F q c -ℤ E) ≤ nat_abs (finer_int F r b -ℤ E)) × (nat_abs (finer_int F r b -ℤ E) ≡ nat_abs (finer_int F q c -ℤ E) → c ≤ b)
+    → (nat_abs (finer_int F q c -ℤ E) ≤ nat_abs (finer_int F r b -ℤ E))
+    × (nat_abs (finer_int F r b -ℤ E) ≡ nat_abs (finer_int F q c -ℤ E) → c ≤ b)
 
 -- infinite, with E's sign, exactly where |E| is strictly above the edge (in u * u), 2 ^ 128 - 2 ^ 103 in binary32; at the edge itself it
 -- is finite
@@ -187,7 +189,8 @@ abbrev pub InfiniteOperand : Type 0
 InfiniteOperand =
     (F : Format) (x y : ℕ) → x < 2 * sign_bit F → y < 2 * sign_bit F → (s : Bool) → decode F x ≡ infinite s → decode F y ≢ nan
     → let infinity_of : Bool → ℕ = λ r. signed F r (infinity F) in
-    (decode F y ≢ infinite (not s) → Twice (direct_pair sum F x y) (infinity_of s) none × Twice (direct_pair sum F y x) (infinity_of s) none)
+    (decode F y ≢ infinite (not s) → Twice (direct_pair sum F x y) (infinity_of s) none
+    × Twice (direct_pair sum F y x) (infinity_of s) none)
     × (decode F y ≢ infinite s → Twice (direct_pair difference F x y) (infinity_of s) none
     × Twice (direct_pair difference F y x) (infinity_of (not s)) none)
     × ((t : Bool) (b : ℕ) → (decode F y ≡ infinite t) ⊎ ((decode F y ≡ finite t b) × (b ≢ 0))

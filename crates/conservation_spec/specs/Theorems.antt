@@ -1,7 +1,8 @@
 -- What is proved of lists. `All`, at the end, lists the statements, and `proofs/Theorems.antt` proves them.
 -- What is said of one sheet, its lines, line count, foot and flags, stands in worksheet_spec's Theorems (`EachLine` to `FilledPair`) and
 -- in worksheet_table's (`Agree`).
-use Rattle.std.specs.Prelude.{ℕ, ◌+◌, ◌^◌, ◌≤◌, ◌<◌, ◌≡◌, ◌⊎◌, ◌↔◌, ◌≢◌, Bool, true, false, List, [], ◌∷◌, ◌++◌, map, pos, ◌+ℤ◌, length, take, drop, get_or, replicate}
+use Rattle.std.specs.Prelude.{ℕ, ◌+◌, ◌^◌, ◌≤◌, ◌<◌, ◌≡◌, ◌⊎◌, ◌↔◌, ◌≢◌, Bool, true, false, List, [], ◌∷◌}
+use Rattle.std.specs.Prelude.{◌++◌, map, pos, ◌+ℤ◌, length, take, drop, get_or, replicate}
 use Rattle.pattern_spec.specs.Answer.{Answer, refused, done}
 use Rattle.rounding_spec.specs.Format.{binary32}
 use Rattle.rounding_spec.specs.Value.{finite, decode, is_finite}

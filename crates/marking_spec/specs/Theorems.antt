@@ -141,7 +141,8 @@ FilledSheetRight =
     (o : Operation) (x y : ℕ) (words : List ℕ) (i j : Bool) (line_count : ℕ) (p : Pair) → let n = operation_number o in
     filling n x y words ≡ filled line_count p
     → marking n x y
-    (take (line_size * line_count) (after_filling n x y words) ++ lines_words (added_minus_zero i p.first ∷ added_minus_zero j p.second ∷ []))
+    (take (line_size * line_count) (after_filling n x y words)
+    ++ lines_words (added_minus_zero i p.first ∷ added_minus_zero j p.second ∷ []))
     ≡ judged true
 
 -- ---- examples

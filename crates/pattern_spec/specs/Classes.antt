@@ -28,7 +28,7 @@ both_finite x y = is_finite (decode binary32 x) && is_finite (decode binary32 y)
 abbrev pub flip : Format → ℕ → ℕ
 flip F x = cond (leb (sign_bit F) x) (x - sign_bit F) (x + sign_bit F)
 
--- the positive constant c with the sign of a: IEEE 754's copy_sign
+-- the positive constant c with the sign of a: IEEE 754's copySign
 abbrev pub copy_sign : ℕ → ℕ → ℕ
 copy_sign c a = cond (leb (sign_bit binary32) a) (flip binary32 c) c
 

@@ -1,5 +1,6 @@
 -- Question lines: how one is read, and the text of a question. A line is its bytes, without the newline (R8.3, R8.4).
-use Rattle.std.specs.Prelude.{ℕ, ◌+◌, ◌*◌, ◌-◌, ◌/◌, ◌%◌, ◌^◌, Bool, true, cond, not, ◌&&◌, ◌||◌, List, [], ◌∷◌, ◌++◌, eqb, leb, ltb, length, get_or, take, drop}
+use Rattle.std.specs.Prelude.{ℕ, ◌+◌, ◌*◌, ◌-◌, ◌/◌, ◌%◌, ◌^◌, Bool, true, cond, not, ◌&&◌, ◌||◌, List}
+use Rattle.std.specs.Prelude.{[], ◌∷◌, ◌++◌, eqb, leb, ltb, length, get_or, take, drop}
 use Prim.Native.Char.{code}
 use Rattle.pattern_spec.specs.Answer.{Answer, refused, done}
 use Rattle.augmented_spec.specs.Direct.{Operation, sum, difference, product, operation_number, operation_of}
@@ -21,7 +22,8 @@ operation_letters_by_number operation = operation_letters (operation_of operatio
 
 -- whether the line's first three bytes are these
 abbrev pub starts : List ℕ → List ℕ → Bool
-starts line three = eqb (get_or line 0 0) (get_or three 0 0) && (eqb (get_or line 1 0) (get_or three 1 0) && eqb (get_or line 2 0) (get_or three 2 0))
+starts line three =
+    eqb (get_or line 0 0) (get_or three 0 0) && (eqb (get_or line 1 0) (get_or three 1 0) && eqb (get_or line 2 0) (get_or three 2 0))
 
 -- the number of the operation whose letters the line starts with, or 0 where it starts with no operation's
 unfoldable pub letters_operation : List ℕ → ℕ

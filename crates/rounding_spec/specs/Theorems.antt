@@ -1,5 +1,6 @@
 -- What is proved of patterns and rounding. Each name is a statement; `proofs/Theorems.antt` has its proof.
-use Rattle.std.specs.Prelude.{◌≡◌, ◌⊎◌, ◌≢◌, ◌↔◌, Bool, true, false, cond, ◌&&◌, List, [], ◌∷◌, ◌++◌, ℕ, suc, ◌+◌, ◌-◌, ◌*◌, ◌%◌, ◌^◌, ◌≤◌, ◌<◌, ltb}
+use Rattle.std.specs.Prelude.{◌≡◌, ◌⊎◌, ◌≢◌, ◌↔◌, Bool, true, false, cond, ◌&&◌, List, [], ◌∷◌}
+use Rattle.std.specs.Prelude.{◌++◌, ℕ, suc, ◌+◌, ◌-◌, ◌*◌, ◌%◌, ◌^◌, ◌≤◌, ◌<◌, ltb}
 use Rattle.rounding_spec.specs.declared.Ties.{Ties}
 use Rattle.rounding_spec.specs.declared.Ties.TheVariants.{ToEven, ToZero}
 use Rattle.rounding_spec.specs.Format.{Format, binary32, Proper, low, limit, edge, infinity, sign_bit}

@@ -133,7 +133,8 @@ scaled_down A B =
     let g = mul_step two_to_24 β in
     let r = sub_step g B in
     let tie = rest_tie β r in
-    before (line multiply two_to_minus_24 A first ∷ line multiply two_to_minus_24 B β ∷ line multiply two_to_24 β g ∷ line subtract g B r ∷ [])
+    before
+    (line multiply two_to_minus_24 A first ∷ line multiply two_to_minus_24 B β ∷ line multiply two_to_24 β g ∷ line subtract g B r ∷ [])
     (before (cond tie (lowering β ∷ []) []) (zero_finish first (cond tie (lowered β) β)))
 
 -- a middle product (R5.17): the pair of 2^24 times as much, scaled down

@@ -57,7 +57,8 @@ WellMade = all_well_made (sum_ways ++ product_ways) ≡ true
 -- ---- NaN has its own two ways, which are taken exactly where line 1 is NaN; of which operands that is, binary32_spec says
 abbrev pub NaNTaken : Type 0
 NaNTaken =
-    (x y : ℕ) → (taken sum_nan x y ≡ is_nan (decode binary32 (add_step x y))) × (taken product_nan x y ≡ is_nan (decode binary32 (mul_step x y)))
+    (x y : ℕ) → (taken sum_nan x y ≡ is_nan (decode binary32 (add_step x y)))
+    × (taken product_nan x y ≡ is_nan (decode binary32 (mul_step x y)))
 
 -- ---- all of them
 abbrev pub All : Type 0

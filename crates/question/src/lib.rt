@@ -1,5 +1,6 @@
 // Reading a question line: three letters, a pattern and a pattern, with tabs between.
 #![tactic(auto)]
+
 mod digits;
 mod letters;
 

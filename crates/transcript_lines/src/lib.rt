@@ -1,5 +1,6 @@
 // The printed lines. Each writer puts its text into the buffer, from the byte `at` on, and answers where it ends.
 #![tactic(auto)]
+
 pub mod lengths;
 
 ghost use Rattle.std.specs.Prelude.{[], ◌∷◌, ◌++◌, ◌+◌, ◌*◌, ◌≤◌, ◌<◌, length, drop};

@@ -18,7 +18,7 @@ bounds-out-d c =
 
 pub shape_of-out : goal.shape_of-out
 shape_of-out c =
-    let put_four = c.put_four-a in let put-decimal = c.put_decimal-b in let put-letters = c.put_letters-c in let put-patterns = c.put_patterns-d in length-set put-patterns.new.out put-patterns.result _ ∙ (put-patterns.auto.0 ∙ (put-letters.auto.0 ∙ (put-decimal.auto.0 ∙ put_four.auto.0)))
+    let put_four = c.put_four-a in let put-decimal = c.put_decimal-b in let put-letters = c.put_letters-c in let put-patterns = c.put_patterns-d in length-set put-patterns.new.out put-patterns.result _ ∙ (put-patterns.auto.out ∙ (put-letters.auto.out ∙ (put-decimal.auto.out ∙ put_four.auto.out)))
 
 pub returns : goal.returns
 returns c =

@@ -9,7 +9,7 @@ use Rattle.transcript_lines.proofs.put_counts.Goals as goal
 
 pub shape_of-out : goal.shape_of-out
 shape_of-out c =
-    let put_four = c.put_four-p in let put-decimal = c.put_decimal-q in let put_byte = c.put_byte-r in let put-decimal2 = c.put_decimal-s in length-set put-decimal2.new.out put-decimal2.result _ ∙ (put-decimal2.auto.0 ∙ (put_byte.auto.0 ∙ (put-decimal.auto.0 ∙ put_four.auto.0)))
+    let put_four = c.put_four-p in let put-decimal = c.put_decimal-q in let put_byte = c.put_byte-r in let put-decimal2 = c.put_decimal-s in length-set put-decimal2.new.out put-decimal2.result _ ∙ (put-decimal2.auto.out ∙ (put_byte.auto.out ∙ (put-decimal.auto.out ∙ put_four.auto.out)))
 
 pub returns : goal.returns
 returns c =

@@ -7,18 +7,18 @@ use native.Mathlib.Omega.{arith}
 use Rattle.transcript_lines.proofs.put_step.Goals as goal
 
 pub put_start-a-requires : goal.put_start-a-requires
-put_start-a-requires c = omega (arith, step-length c.args.number c.args.t4, step-letters-length (get_or c.args.t4 0 0))
+put_start-a-requires c = omega (arith, step-length c.args.number c.args.line, step-letters-length (get_or c.args.line 0 0))
 
 pub put_step_letters-b-requires : goal.put_step_letters-b-requires
-put_step_letters-b-requires c = omega (arith, step-length c.args.number c.args.t4, step-letters-length (get_or c.args.t4 0 0))
+put_step_letters-b-requires c = omega (arith, step-length c.args.number c.args.line, step-letters-length (get_or c.args.line 0 0))
 
 pub put_patterns-c-requires : goal.put_patterns-c-requires
 put_patterns-c-requires c =
-    omega (arith, step-length c.args.number c.args.t4, step-letters-length (get_or c.args.t4 0 0))
+    omega (arith, step-length c.args.number c.args.line, step-letters-length (get_or c.args.line 0 0))
 
 pub put_rest-requires : goal.put_rest-requires
 put_rest-requires c =
-    omega (arith, step-length c.args.number c.args.t4, step-letters-length (get_or c.args.t4 0 0))
+    omega (arith, step-length c.args.number c.args.line, step-letters-length (get_or c.args.line 0 0))
 
 pub returns : goal.returns
 unfolding step_text

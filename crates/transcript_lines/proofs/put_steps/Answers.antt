@@ -1,4 +1,4 @@
-use Prim.Native.Nat.{◌+◌, ◌-◌}
+use Prim.Native.Nat.{◌+◌}
 use mathlib.Core.Path.{◌≡◌, refl, sym, ◌∙◌}
 use native.Mathlib.Omega.{arith}
 use Rattle.transcript_spec.specs.Texts.{steps_text}
@@ -18,7 +18,7 @@ put_line-next-requires c =
 
 pub loop-k-preserved : goal.loop-k-preserved
 loop-k-preserved c =
-    let l = c.loop-k in let words = c.args.words.now in (omega arith, rw (one_more l.k words) (then l.invariant.1 c.put_line-next.ensures), c.put_line-next.auto.0 ∙ l.invariant.2)
+    let l = c.loop-k in let words = c.args.words.now in (omega arith, rw (one_more l.k words) (then l.invariant.1 c.put_line-next.ensures), c.put_line-next.auto.out ∙ l.invariant.2)
 
 pub shape_of-out : goal.shape_of-out
 shape_of-out c = c.loop-k.invariant.2

@@ -1,5 +1,5 @@
 use mathlib.Core.Bool.{false}
-use Prim.Native.Nat.{◌+◌, ◌*◌, ◌-◌, ◌^◌, ◌≤◌, ◌<◌}
+use Prim.Native.Nat.{◌≤◌, ◌<◌}
 use mathlib.Core.Path.{◌≡◌, refl, sym, ◌∙◌}
 use native.Mathlib.Omega.{arith}
 use lib.Dec.{lit<}
@@ -7,11 +7,6 @@ use lib.ListN.{length}
 use Rattle.question_spec.specs.Questions.{all_digits}
 use Rattle.question.proofs.OneMore.{pattern-more, all_more, not-all, pattern-done, all_done, room}
 use Rattle.question.proofs.digits.value.Goals as goal
-
--- after a good digit the number still has room
-grown : (c : tie.Else1 invariant-loop decreases-loop) → (c.before.before.before.before.loop.n * 16 + c.before.digit.result < 16 ^ (c.before.before.before.before.loop.i + 1))
-    × (c.before.before.before.before.loop.n * 16 + c.before.digit.result < 2 ^ 32)
-grown c = let l = c.before.before.before.before.loop in room l.n l.i c.before.digit.result l.invariant.1 (omega arith) (omega arith)
 
 pub loop-i-init : goal.loop-i-init
 loop-i-init c = (omega arith, lit< tt, refl, refl)
@@ -26,17 +21,17 @@ returns-then-d-eq16 c =
     rw none
 
 pub overflow_mul-n : goal.overflow_mul-n
-overflow_mul-n c = omega (arith, grown c)
+overflow_mul-n c = let r = room c.loop-i.n c.loop-i.i c.digit-d.result c.loop-i.invariant.1 (omega arith) (omega arith) in omega arith
 
 pub overflow_add-n : goal.overflow_add-n
-overflow_add-n c = omega (arith, grown c)
+overflow_add-n c = let r = room c.loop-i.n c.loop-i.i c.digit-d.result c.loop-i.invariant.1 (omega arith) (omega arith) in omega arith
 
 pub loop-i-preserved : goal.loop-i-preserved
 loop-i-preserved c =
     let l = c.loop-i in let s = c.args.bytes.now in let in' : l.i < length s = omega arith in
     let d = c.digit-d.result in let is = c.digit-d.ensures.0 in (
       omega arith,
-      (grown c).0,
+      (room l.n l.i d l.invariant.1 (omega arith) (omega arith)).0,
       pattern-more s l.i l.n d in' is (omega arith) ∙ l.invariant.2,
       all_more s l.i l.n d in' is (omega arith) ∙ l.invariant.3,
     )

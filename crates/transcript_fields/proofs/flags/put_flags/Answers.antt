@@ -28,7 +28,7 @@ bounds-out-at c =
 
 pub shape_of-out-then-d-at : goal.shape_of-out-then-d-at
 shape_of-out-then-d-at c =
-    let a = c.args in let put-flag-letter = c.put_flag_letter-a in let put-flag-letter2 = c.put_flag_letter-b in let put-flag-letter3 = c.put_flag_letter-c in let put-flag-letter4 = c.put_flag_letter-d in length-set put-flag-letter4.new.out a.at _ ∙ (put-flag-letter4.auto.0 ∙ (put-flag-letter3.auto.0 ∙ (put-flag-letter2.auto.0 ∙ put-flag-letter.auto.0)))
+    let a = c.args in let put-flag-letter = c.put_flag_letter-a in let put-flag-letter2 = c.put_flag_letter-b in let put-flag-letter3 = c.put_flag_letter-c in let put-flag-letter4 = c.put_flag_letter-d in length-set put-flag-letter4.new.out a.at _ ∙ (put-flag-letter4.auto.out ∙ (put-flag-letter3.auto.out ∙ (put-flag-letter2.auto.out ∙ put-flag-letter.auto.out)))
 
 pub returns-then-d-at : goal.returns-then-d-at
 returns-then-d-at c =

@@ -16,7 +16,7 @@ put_half-requires c = omega (arith, length-set c.args.out.now c.args.at tab)
 
 pub shape_of-out : goal.shape_of-out
 shape_of-out c =
-    let a = c.args in let put-half = c.put_half-low in let put-half2 = c.put_half in put-half2.auto.0 ∙ (put-half.auto.0 ∙ length-set a.out.now a.at tab)
+    let a = c.args in let put-half = c.put_half-low in let put-half2 = c.put_half in put-half2.auto.out ∙ (put-half.auto.out ∙ length-set a.out.now a.at tab)
 
 pub returns : goal.returns
 returns c =

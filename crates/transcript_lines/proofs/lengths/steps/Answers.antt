@@ -1,4 +1,4 @@
-use Prim.Native.Nat.{ℕ, ◌+◌, ◌*◌, ◌-◌}
+use Prim.Native.Nat.{ℕ, ◌+◌, ◌*◌}
 use mathlib.Core.Path.{◌≡◌, sym, ap, ◌∙◌}
 use native.Mathlib.Omega.{arith}
 use lib.ListN.{get_or, drop}
@@ -17,7 +17,7 @@ step-n-requires c = tt
 
 pub loop-k-preserved : goal.loop-k-preserved
 loop-k-preserved c =
-    let l = c.loop in let words = c.args.words.now in let at = line_size * l.k in
+    let l = c.loop-k in let words = c.args.words.now in let at = line_size * l.k in
     let e : at + 0 ≡ at = omega arith in
     let first : get_or (drop at words) 0 0 ≡ get_or words at 0 = get_or-drop at words 0 0 ∙ ap (λ (n : ℕ). get_or words n 0) e in
     (omega arith, omega (arith, more-length l.k words, c.step-n.ensures.0 (drop at words) first), omega arith)

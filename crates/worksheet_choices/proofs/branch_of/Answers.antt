@@ -9,13 +9,13 @@ pub returns-in-2139095040 : goal.returns-in-2139095040
 returns-in-2139095040 c = infinite-branch c.args.a c.in-2139095040.is
 
 pub returns-in-1-to-16777215 : goal.returns-in-1-to-16777215
-returns-in-1-to-16777215 c = tiny-branch c.args.a c.in_default-1.rest.0.1 c.if-this-lt16777216.true
+returns-in-1-to-16777215 c = tiny-branch c.args.a (omega arith) (omega arith)
 
 pub returns-in-16777216-to-209715200 : goal.returns-in-16777216-to-209715200
-returns-in-16777216-to-209715200 c = middle-branch c.args.a c.if-this-lt16777216.false (omega arith)
+returns-in-16777216-to-209715200 c = middle-branch c.args.a (omega arith) (omega arith)
 
 pub returns-in-209715201-to-2139095039 : goal.returns-in-209715201-to-2139095039
-returns-in-209715201-to-2139095039 c = other-branch c.args.a c.if-this-lt209715201.false c.if-this-lt2139095040.true
+returns-in-209715201-to-2139095039 c = other-branch c.args.a (omega arith) (omega arith)
 
 pub returns-in_default : goal.returns-in_default
-returns-in_default c = nan-branch c.args.a (omega (arith, c.if-this-lt2139095040.false, c.in_default-1.rest.1))
+returns-in_default c = nan-branch c.args.a (omega arith)

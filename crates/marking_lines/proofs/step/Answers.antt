@@ -1,3 +1,4 @@
+use native.Mathlib.Omega.{arith}
 use Rattle.marking_lines.proofs.Steps.{step-add, step-subtract, step-multiply, step-fused}
 use Rattle.marking_lines.proofs.step.Goals as goal
 
@@ -12,4 +13,4 @@ returns-in-3 c = step-multiply _ _ _ _ _ _ c.in-3.is c.mul.ensures.result_value 
 
 pub returns-in_default : goal.returns-in_default
 returns-in_default c =
-    let others = c.in_default.rest in step-fused _ _ _ _ _ _ others.0.0.1 others.0.1 others.1 c.fma.ensures.result_value c.fma.ensures.mark_value
+    step-fused c.args.number _ _ _ _ _ (omega arith) (omega arith) (omega arith) c.fma.ensures.result_value c.fma.ensures.mark_value

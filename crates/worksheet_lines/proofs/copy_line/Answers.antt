@@ -17,5 +17,5 @@ shape_of-words c = search rules depth 8
 
 pub returns : goal.returns
 returns c =
-    let l = c.args.t1 in let q : length l ≡ line_size = search rules in
+    let l = c.args.line in let q : length l ≡ line_size = search rules in
     line-copied c.args.words.now l c.requires q

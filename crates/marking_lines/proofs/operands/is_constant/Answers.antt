@@ -38,15 +38,15 @@ returns-in-1 c = is-magnitude c.args.p _ (minus_zero ∷ constants) _ (omega ari
 pub returns-in_default : goal.returns-in_default
 returns-in_default c =
     let p = c.args.p in let m = p % 0x8000_0000 in
-    let others = c.in_default.rest in is-magnitude p m (minus_zero ∷ constants) _ (omega arith) refl refl
+    is-magnitude p m (minus_zero ∷ constants) _ (omega arith) refl refl
     (simp (
-      ne_eqb m psi others.0.0.0.0.0.0.0.0.1,
-      ne_eqb m two others.0.0.0.0.0.0.0.1,
-      ne_eqb m half others.0.0.0.0.0.0.1,
-      ne_eqb m kappa others.0.0.0.0.0.1,
-      ne_eqb m two_to_24 others.0.0.0.0.1,
-      ne_eqb m two_to_48 others.0.0.0.1,
-      ne_eqb m two_to_minus_24 others.0.0.1,
-      ne_eqb m plus_zero others.0.1,
-      ne_eqb m smallest others.1,
+      ne_eqb m psi (omega arith),
+      ne_eqb m two (omega arith),
+      ne_eqb m half (omega arith),
+      ne_eqb m kappa (omega arith),
+      ne_eqb m two_to_24 (omega arith),
+      ne_eqb m two_to_48 (omega arith),
+      ne_eqb m two_to_minus_24 (omega arith),
+      ne_eqb m plus_zero (omega arith),
+      ne_eqb m smallest (omega arith),
     ))

@@ -1,3 +1,4 @@
+use native.Mathlib.Omega.{arith}
 use Rattle.marking.proofs.Operations.{sum-direct, difference-direct, product-direct}
 use Rattle.marking.proofs.direct.Goals as goal
 
@@ -8,4 +9,4 @@ pub returns-in-2 : goal.returns-in-2
 returns-in-2 c = difference-direct _ _ _ c.in-2.is c.difference.ensures
 
 pub returns-in_default : goal.returns-in_default
-returns-in_default c = product-direct _ _ _ c.in_default.rest.0.1 c.in_default.rest.1 c.product.ensures
+returns-in_default c = product-direct c.args.operation _ _ (omega arith) (omega arith) c.product.ensures

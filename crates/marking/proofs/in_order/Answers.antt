@@ -2,7 +2,6 @@ use mathlib.Core.Path.{◌≡◌, refl, sym, ap, ◌∙◌}
 use mathlib.Core.Bool.{true, false}
 use Prim.Native.Nat.{◌-◌}
 use native.Mathlib.Omega.{arith}
-use borrow.Author.Tests.{not-true, not-false}
 use native.Mathlib.Nat.{sub-zero}
 use lib.ListN.{take}
 use Rattle.augmented_spec.specs.Direct.{operation_of}
@@ -17,23 +16,23 @@ loop-at-init c = (omega arith, omega arith, refl)
 pub returns-then-not-allowed : goal.returns-then-not-allowed
 returns-then-not-allowed c =
     let q = c.args in let l = c.loop-at in let line = c.line_at-line in let refuted : allowed (known q.x q.y (claims (take (l.at - 0) q.lines.now))) line.result ≡ false =
-    sym c.allowed.ensures ∙ not-true _ c.if-not-allowed.true in
+    sym c.allowed.ensures ∙ c.if-not-allowed.true in
     ap (refused_at 14) c.number.ensures ∙ sym (operands-at (operation_of q.operation) q.x q.y q.lines.now l.at l.invariant.1 (omega arith)
     line.result line.ensures (rw (sub-zero l.at) at refuted)) ∙ l.invariant.2
 
 pub returns-then-not-is_true : goal.returns-then-not-is_true
 returns-then-not-is_true c =
     let q = c.args in let l = c.loop-at in let line = c.line_at-line in let accepted : allowed (known q.x q.y (claims (take (l.at - 0) q.lines.now))) line.result ≡ true =
-    sym c.allowed.ensures ∙ not-false _ c.if-not-allowed.false in
+    sym c.allowed.ensures ∙ c.if-not-allowed.false in
     ap (refused_at 15) c.number-then-not-is_true.ensures ∙ sym (truth-at (operation_of q.operation) q.x q.y q.lines.now l.at l.invariant.1 (omega arith)
-    line.result line.ensures (rw (sub-zero l.at) at accepted) (sym c.is_true.ensures ∙ not-true _ c.if-not-is_true.true)) ∙ l.invariant.2
+    line.result line.ensures (rw (sub-zero l.at) at accepted) (sym c.is_true.ensures ∙ c.if-not-is_true.true)) ∙ l.invariant.2
 
 pub loop-at-preserved : goal.loop-at-preserved
 loop-at-preserved c =
     let q = c.args in let l = c.loop-at in let line = c.line_at-line in let accepted : allowed (known q.x q.y (claims (take (l.at - 0) q.lines.now))) line.result ≡ true =
-    sym c.allowed.ensures ∙ not-false _ c.if-not-allowed.false in
+    sym c.allowed.ensures ∙ c.if-not-allowed.false in
     let passed = passes_at (operation_of q.operation) q.x q.y q.lines.now l.at l.invariant.1 (omega arith) line.result line.ensures
-    (rw (sub-zero l.at) at accepted) (sym c.is_true.ensures ∙ not-false _ c.if-not-is_true.false) in
+    (rw (sub-zero l.at) at accepted) (sym c.is_true.ensures ∙ c.if-not-is_true.false) in
     (omega arith, omega arith, sym passed ∙ l.invariant.2)
 
 pub returns-then-is_right : goal.returns-then-is_right

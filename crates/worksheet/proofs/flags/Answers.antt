@@ -1,3 +1,4 @@
+use native.Mathlib.Omega.{arith}
 use Rattle.worksheet.proofs.Operations.{sum-flags, difference-flags, product-flags}
 use Rattle.worksheet.proofs.flags.Goals as goal
 
@@ -8,4 +9,4 @@ pub returns-in-2 : goal.returns-in-2
 returns-in-2 c = difference-flags _ _ _ c.in-2.is c.difference-direct.ensures
 
 pub returns-in_default : goal.returns-in_default
-returns-in_default c = product-flags _ _ _ c.in_default.rest.0.1 c.in_default.rest.1 c.product_flags.ensures
+returns-in_default c = product-flags c.args.operation _ _ (omega arith) (omega arith) c.product_flags.ensures

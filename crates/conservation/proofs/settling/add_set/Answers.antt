@@ -1,3 +1,4 @@
+use native.Mathlib.Omega.{arith}
 use mathlib.Core.Path.{ap, ◌∙◌}
 use Rattle.accumulator_spec.specs.Columns.{column}
 use Rattle.conservation_spec.proofs.Settled.{one-term, sum-set, difference-set, product-set}
@@ -13,4 +14,4 @@ returns-in-2 c =
 
 pub returns-in_default : goal.returns-in_default
 returns-in_default c =
-    one-term _ _ _ c.add_product.ensures.1 ∙ ap (column c.args.total.now) (product-set _ _ _ c.in_default.rest.0.1 c.in_default.rest.1)
+    one-term _ _ _ c.add_product.ensures.1 ∙ ap (column c.args.total.now) (product-set c.args.operation _ _ (omega arith) (omega arith))

@@ -1,5 +1,6 @@
 // Exact totals of patterns and products of two patterns, in lent words (R6).
 #![tactic(auto)]
+
 pub mod numbers;
 
 ghost use Rattle.std.specs.Prelude.{◌≡◌};

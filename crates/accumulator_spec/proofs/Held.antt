@@ -23,7 +23,8 @@ room m h = doubled m (2 ^ 639) (2 ^ 640) (pow-add 2 1 639) h
 
 -- the word behind the count
 pub sign_at : (ws : List ℕ) (n w : ℕ) → length ws ≡ number_size → sign_word (ws ++ (n ∷ w ∷ [])) ≡ w
-sign_at ws n w l = ap (λ (vs : List ℕ). sign_word vs) (sym (append_assoc ws (n ∷ []) (w ∷ []))) ∙ get_or_at (ws ++ (n ∷ [])) w [] 0 (number_size + 1) (length-append ws (n ∷ []) ∙ ap (λ (k : ℕ). k + 1) l)
+sign_at ws n w l = ap (λ (vs : List ℕ). sign_word vs) (sym (append_assoc ws (n ∷ []) (w ∷ [])))
+    ∙ get_or_at (ws ++ (n ∷ [])) w [] 0 (number_size + 1) (length-append ws (n ∷ []) ∙ ap (λ (k : ℕ). k + 1) l)
 
 module _ (z : ℤ) (n w : ℕ) where
   pub words-full : length (words_of_integer number_size z) ≡ number_size

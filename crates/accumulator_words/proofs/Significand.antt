@@ -1,5 +1,6 @@
 -- A shifted significand in two parts: its lowest 64 digits, and what the shift moves beyond them.
-use Rattle.std.proofs.Common.{◌≡◌, ℕ, ◌+◌, ◌-◌, ◌*◌, ◌/◌, ◌%◌, ◌^◌, ◌<◌, ◌≤◌, sym, ap, ◌∙◌, le_trans, lt_of_lt_of_le, mod-eq_of_lt, div-lt_iff_lt-mul, mul-le-mul_left, mul-lt-mul_of_pos_right, arith, pow_pos, pow_mono, pow-add}
+use Rattle.std.proofs.Common.{◌≡◌, ℕ, ◌+◌, ◌-◌, ◌*◌, ◌/◌, ◌%◌, ◌^◌, ◌<◌, ◌≤◌, sym, ap, ◌∙◌, le_trans, lt_of_lt_of_le, mod-eq_of_lt, div-lt_iff_lt-mul, mul-le-mul_left, mul-lt-mul_of_pos_right, arith}
+use Rattle.std.proofs.Common.{pow_pos, pow_mono, pow-add}
 use native.Mathlib.Nat.{mod-add-div, div-div-eq-div-mul, mul-div-mul_right}
 
 module _ (sig shift : ℕ) (inside : shift < 32) where

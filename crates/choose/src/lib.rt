@@ -1,5 +1,6 @@
 // One of two values by a flag. Each is small enough that the compiler makes a conditional move of it, and no jump to mispredict.
 #![tactic(auto)]
+
 ghost use Rattle.std.specs.Prelude.{◌≡◌, cond};
 
 pub fn choose(c: bool, a: u64, b: u64) -> u64

@@ -1,5 +1,6 @@
 // A list of questions over two totals: one is given the feet of their sheets, the other the terms set.
 #![tactic(auto)]
+
 mod fitting;
 pub mod numbers;
 mod settling;

@@ -51,7 +51,8 @@ product-error t F a b ar br big =
 
 -- ---- Fast2Sum and the fused step
 fast-finite : (F : Format) (s : Bool) (X : ℕ) (t : Bool) (Y : ℕ) → Fits F (finite s X) → Fits F (finite t Y) → Y ≤ X → is_finite (add_value F (finite s X) (finite t Y)) ≡ true
-    → let a = add_value F (finite s X) (finite t Y) in adds_up F (finer F (plus (finite s X) (finite t Y))) (record { first = a; second = sub_value F (finite t Y) (sub_value F a (finite s X)) }) ≡ true
+    → let a = add_value F (finite s X) (finite t Y) in adds_up F (finer F (plus (finite s X) (finite t Y))) (record { first = a; second = sub_value F (finite t Y) (sub_value F a (finite s X)) })
+    ≡ true
 unfolding Fits plus finer
 fast-finite F s X t Y xf yf le f =
     let e = plus-exact s X t Y in
@@ -133,7 +134,8 @@ recomposition F room s n a b z d e ai f bf add zi di ei =
     let left : Is s b n A = up-adds F s n A b (addend-finite F (finite s N) a b add) (subst (λ (v : Value). adds_up F (finite s N) (record { first = v; second = b }) ≡ true) a-is add) in
     let size : q.1 ≡ dist n A = rel-dist s q.0 q.1 n A (subst (λ (v : Value). Is s v n A) q.2 left) in
     let error : Rep (suc F.fraction) 0 (dist n A) = rw (← size) (subst (Fits F) q.2 bf).0 in
-    let h = split.recomposed F room s n A b (record { near = even-at F n; fine = fine; error = error; rest = left }) z d e (zi ∙ ap (mul_value F (psi_value F)) a-is) (di ∙ ap (sub_value F z) a-is) ei in
+    let h = split.recomposed F room s n A b (record { near = even-at F n; fine = fine; error = error; rest = left }) z d e (zi ∙ ap (mul_value F (psi_value F)) a-is) (di ∙ ap (sub_value F z) a-is)
+    ei in
     rw a-is (h.is ∙ sym (round-below ToZero F s N h.fine), rw h.is (adds-up F s n (to_zero F N) (cond (same e d) (negate b) b) h.rest))
 
 pub binary32-roomy : Binary32Roomy

@@ -1,5 +1,6 @@
 // Marks the lines by which a candidate reached a pair: first each line in its order, then the pair that they claim.
 #![tactic(auto)]
+
 pub mod numbers;
 
 ghost use Rattle.std.specs.Prelude.{◌≡◌, [], ◌∷◌, ◌+◌, ◌*◌, ◌/◌, ◌≤◌, length, drop};

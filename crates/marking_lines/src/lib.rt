@@ -1,5 +1,6 @@
 // A candidate's line: whether its operands are allowed behind the lines before it, and whether it is true.
 #![tactic(auto)]
+
 mod operands;
 
 ghost use Rattle.std.specs.Prelude.{◌≡◌};

@@ -1,5 +1,6 @@
 // What is asked of a pattern, and patterns with another sign.
 #![tactic(auto)]
+
 ghost use Rattle.std.specs.Prelude.{◌≡◌, [], ◌∷◌};
 ghost use Rattle.rounding_spec.specs.Format.{binary32};
 ghost use Rattle.rounding_spec.specs.Value.{infinite, decode, is_nan, is_infinite, is_finite, is_zero, signalling, encode, quieted, nan_of};

@@ -82,7 +82,8 @@ as-eight l is =
 pub text-back : (l : List ℕ) (n : ℕ) → length l ≡ 8 → all_digits l ≡ true → pattern_from 0 l ≡ n → (n < 2 ^ 32) × (l ≡ pattern_text n)
 text-back l n len all is =
     let e = as-eight l len in
-    let back = eight-back (get_or l 0 0) (get_or l 1 0) (get_or l 2 0) (get_or l 3 0) (get_or l 4 0) (get_or l 5 0) (get_or l 6 0) (get_or l 7 0) n (sym is ∙ ap (pattern_from 0) (sym e)) (ap all_digits e ∙ all) in
+    let back = eight-back (get_or l 0 0) (get_or l 1 0) (get_or l 2 0) (get_or l 3 0) (get_or l 4 0) (get_or l 5 0) (get_or l 6 0) (get_or l 7 0) n (sym is ∙ ap (pattern_from 0) (sym e))
+    (ap all_digits e ∙ all) in
     (back.0, sym (back.1 ∙ e))
 
 nibble : (n : ℕ) → n % 16 < 16

@@ -52,7 +52,8 @@ both true false e = let z : ◌≡◌ {A = ℕ} 0 1 = cc in absurd (omega arith)
 both false b e = let z : ◌≡◌ {A = ℕ} 0 1 = cc in absurd (omega arith)
 
 -- a line of the right length is its letters, a tab, a pattern, a tab and a pattern
-assembled : (line three first second : List ℕ) → length line ≡ question_size → get_or line 3 0 ≡ tab → get_or line 12 0 ≡ tab → take 3 line ≡ three → first_pattern line ≡ first → second_pattern line ≡ second
+assembled : (line three first second : List ℕ) → length line ≡ question_size → get_or line 3 0 ≡ tab → get_or line 12 0 ≡ tab → take 3 line ≡ three → first_pattern line ≡ first → second_pattern line
+    ≡ second
     → line ≡ three ++ (tab ∷ first ++ (tab ∷ second))
 assembled line three first second full first-tab second-tab e f g =
     let a = take-append-drop 3 line in

@@ -1,5 +1,6 @@
 // Model sheets of the questions on standard input.
 #![tactic(auto)]
+
 use libc::{STDIN_FILENO, STDOUT_FILENO};
 
 fn main() {

@@ -1,6 +1,7 @@
 // The same library as `sheet`, on files of data/: what it prints is held to a model's text. Then on as many empty lines as are taken
 // (R8.11), and on a byte after them: of these texts, which are long, the end is printed.
 #![tactic(auto)]
+
 use libc::STDOUT_FILENO;
 
 // Where the text of line 32,768 begins, after those of 32,767 empty lines.

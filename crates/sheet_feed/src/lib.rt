@@ -1,5 +1,6 @@
 // What the program prints, carried from byte to byte. Nothing is read or written here: the text goes into a lent buffer.
 #![tactic(auto)]
+
 mod last;
 mod step;
 

@@ -1,5 +1,6 @@
 // A line of the input answered: the text of its question's sheet, whose pair is added to the total, or of its refusal.
 #![tactic(auto)]
+
 mod adding;
 pub mod position;
 

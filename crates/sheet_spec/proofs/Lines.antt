@@ -73,7 +73,8 @@ first-bytes line = elim (dec_le (length line) kept_bytes) [ yes h ↦ ap read_qu
     long : kept_bytes < length line → read_question (take kept_bytes line) ≡ read_question line
     long h =
         let n : length (take kept_bytes line) ≡ kept_bytes = length-take-le kept_bytes line (omega arith) in
-        (refused-in-order (take kept_bytes line)).0 (λ (e : length (take kept_bytes line) ≡ question_size). omega arith) ∙ sym ((refused-in-order line).0 (λ (e : length line ≡ question_size). omega arith))
+        (refused-in-order (take kept_bytes line)).0 (λ (e : length (take kept_bytes line) ≡ question_size). omega arith)
+        ∙ sym ((refused-in-order line).0 (λ (e : length line ≡ question_size). omega arith))
 
 pub take_again : (n : ℕ) (xs ys : List ℕ) → take n (take n xs ++ ys) ≡ take n (xs ++ ys)
 take_again zero xs ys = refl

@@ -4,6 +4,7 @@
 // A read or a write that fails is said on standard error, where it failed, and nothing more is printed (R9.12): a text without its last
 // lines is not taken for a whole one.
 #![tactic(auto)]
+
 ghost use Rattle.std.specs.Prelude.{◌≡◌, length};
 ghost use Rattle.sheet_spec.specs.Positions.{state_of};
 ghost use Rattle.sheet_stream.specs.Inner.{halted_at, Closes, AfterRead, TakesAll};

@@ -14,7 +14,8 @@ use Rattle.transcript_spec.proofs.TextLengths.{step-length}
 
 -- a step's text depends on the words of its own line
 pub same_step : (number : ℕ) (words : List ℕ) (i : ℕ)
-    → step_text number (get_or words i 0 ∷ get_or words (i + 1) 0 ∷ get_or words (i + 2) 0 ∷ get_or words (i + 3) 0 ∷ get_or words (i + 4) 0 ∷ get_or words (i + 5) 0 ∷ []) ≡ step_text number (drop i words)
+    → step_text number (get_or words i 0 ∷ get_or words (i + 1) 0 ∷ get_or words (i + 2) 0 ∷ get_or words (i + 3) 0 ∷ get_or words (i + 4) 0 ∷ get_or words (i + 5) 0 ∷ [])
+    ≡ step_text number (drop i words)
 unfolding step_text
 same_step number words i =
     let e : i + 0 ≡ i = omega arith in

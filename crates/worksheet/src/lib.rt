@@ -1,5 +1,6 @@
 // The step sheet of a question in lent words. Each result on a line, with its mark, is a rounding step's.
 #![tactic(auto)]
+
 pub mod numbers;
 
 ghost use Rattle.std.specs.Prelude.{◌≡◌, ◌≤◌, length};

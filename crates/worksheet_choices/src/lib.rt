@@ -1,5 +1,6 @@
 // What the rules of a step sheet ask of patterns (R5.3, R5.4): by the values that they stand for, and without a line.
 #![tactic(auto)]
+
 ghost use Rattle.std.specs.Prelude.{◌≡◌};
 ghost use Rattle.worksheet_spec.specs.Lines.{value, equal};
 ghost use Rattle.worksheet_spec.specs.Sheets.{swaps, at_edge, overflows, tiny_tie, rest_tie, branch_of};

@@ -1,5 +1,6 @@
 // Lines of a sheet, in rows of their own. Each result, with its mark, is a rounding step's.
 #![tactic(auto)]
+
 pub mod blocks;
 
 ghost use Rattle.std.specs.Prelude.{◌≡◌, ◌++◌, ◌<◌, ◌≤◌, length, drop};

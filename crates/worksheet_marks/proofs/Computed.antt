@@ -9,5 +9,6 @@ use Rattle.worksheet_spec.specs.Sheets.{recomposition, zero_finish, recomposed_f
 use Rattle.worksheet_marks.specs.Theorems.{WorkedMarks}
 
 pub worked-marks : WorkedMarks
-unfolding sheet_of sum_sheet swaps sum_in_order sum_from recomposed_finished recomposition zero_finish overflows add_mark sub_mark mul_mark less_magnitude same add_step sub_step mul_step keep last_place size
+unfolding sheet_of sum_sheet swaps sum_in_order sum_from recomposed_finished recomposition zero_finish overflows add_mark sub_mark mul_mark less_magnitude same add_step sub_step mul_step keep
+    last_place size
 worked-marks = refl

@@ -157,8 +157,11 @@ module _ (x y k : ℕ) (o : Factors x y k) (lo : 2 ^ 24 ≤ to_even binary32 (o.
       let head = to_zero binary32 (a * b) in
       let v = scaled two_to_minus_24 (factors.unscale binary32) down-value C (value C) refl
       ∙ middle.first-is binary32 (omega arith) a b o.xr o.yr lo hi r split.n f (value C) (value B) split.product halves in
-      let e = middle.scaled-head binary32 (omega arith) a b o.xr o.yr lo hi r split.n f (value C) (value B) split.product halves in
-      (ap is_finite v, factor-exact two_to_minus_24 C (2 ^ 125) r f head down-value halves.is v (sym (ap (λ (i : ℕ). 2 ^ 125 * i) e ∙ mul_comm (2 ^ 125) (head * 2 ^ 24) ∙ joined head 24 125 149 refl)))
+      let e = middle.scaled-head binary32 (omega arith) a b o.xr o.yr lo hi r split.n f (value C) (value B) split.product halves in (
+        ap is_finite v,
+        factor-exact two_to_minus_24 C (2 ^ 125) r f head down-value halves.is v
+            (sym (ap (λ (i : ℕ). 2 ^ 125 * i) e ∙ mul_comm (2 ^ 125) (head * 2 ^ 24) ∙ joined head 24 125 149 refl)),
+      )
 
   -- B is e units of the sign u
   module _ (u : Bool) (e : ℕ) (Bi : value B ≡ finite u e) where

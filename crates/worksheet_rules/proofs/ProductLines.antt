@@ -7,7 +7,8 @@ use native.Mathlib.Omega.{arith}
 use Rattle.worksheet_spec.specs.Constants.{half, two_to_24, two_to_48, two_to_minus_24, plus_zero, smallest}
 use Rattle.pattern_spec.specs.Classes.{copy_sign}
 use Rattle.worksheet_spec.specs.Lines.{add, subtract, multiply, line, fused_line, value, minus}
-use Rattle.worksheet_spec.specs.Sheets.{recomposition, zero_finish, recomposed_finished, edge_finish, infinite_product, lowered, lowering, tiny_tie, tiny_product, rest_tie, scaled_down, middle_product}
+use Rattle.worksheet_spec.specs.Sheets.{recomposition, zero_finish, recomposed_finished, edge_finish, infinite_product, lowered, lowering, tiny_tie, tiny_product, rest_tie, scaled_down}
+use Rattle.worksheet_spec.specs.Sheets.{middle_product}
 use Rattle.worksheet_spec.specs.Sheets.{other_product, Branch, branch_of, product_by, product_sheet}
 use Rattle.worksheet_lines.specs.Inner.{Written, Follows}
 use Rattle.worksheet_lines.specs.declared.Foot.{Foot}
@@ -28,7 +29,8 @@ module _ (x y a : ℕ) {l₀ l₁ l₂ l₃ l₄ l₅ l₆ l₇ l₈ : Rows} {m 
     (e : f ≡ minus t₁) (c₄ : Written l₃ l₄ 4 (fused_line m n f t₂)) (c₅ : Written l₄ l₅ 5 (line multiply two_to_48 a g)) (c₆ : Written l₅ l₆ 6 (line subtract t₁ g t₃))
     (c₇ : Written l₆ l₇ 7 (line add t₂ t₃ z)) (c₈ : Written l₇ l₈ 8 (line subtract z t₃ w)) where
   eight-lines : Standing l₀ l₈ 1
-      (line multiply two_to_24 x m ∷ line multiply two_to_24 y n ∷ line multiply m n t₁ ∷ fused_line m n f t₂ ∷ line multiply two_to_48 a g ∷ line subtract t₁ g t₃ ∷ line add t₂ t₃ z ∷ line subtract z t₃
+      (line multiply two_to_24 x m ∷ line multiply two_to_24 y n ∷ line multiply m n t₁ ∷ fused_line m n f t₂ ∷ line multiply two_to_48 a g ∷ line subtract t₁ g t₃ ∷ line add t₂ t₃ z
+      ∷ line subtract z t₃
       w ∷ [])
   eight-lines = then-line (then-line (then-line (then-line (then-line (then-line (then-line (then-line (none_yet l₀ 1) c₁ refl) c₂ refl) c₃ refl) c₄ refl) c₅ refl) c₆ refl) c₇ refl) c₈ refl
 

@@ -12,7 +12,8 @@ use Rattle.pattern_spec.specs.Classes.{copy_sign}
 use Rattle.worksheet_spec.specs.Lines.{multiply, line, Sheet, before, ends, value, minus}
 use Rattle.worksheet_spec.specs.Sheets.{Branch, when_nan, when_infinite, when_zero, when_tiny, when_middle, otherwise, recomposition, zero_finish, recomposed_finished, halved_sum, overflows, sum_from}
 use Rattle.worksheet_spec.specs.Sheets.{sum_in_order, swaps}
-use Rattle.worksheet_spec.specs.Sheets.{sum_sheet, infinite_product, lowered, lowering, tiny_product, rest_tie, scaled_down, middle_product, other_product, branch_of, product_by, product_sheet, sheet_of}
+use Rattle.worksheet_spec.specs.Sheets.{sum_sheet, infinite_product, lowered, lowering, tiny_product, rest_tie, scaled_down, middle_product, other_product, branch_of, product_by, product_sheet}
+use Rattle.worksheet_spec.specs.Sheets.{sheet_of}
 use Rattle.worksheet_spec.specs.Theorems.{Among, Known, results, Derived}
 use Rattle.worksheet_spec.proofs.TinyResults as tiny
 use Rattle.worksheet_spec.proofs.Derivation.{here, flipped, there, left, right, after, grown, own, half_in, up_in, up-up-in, down-in, zero_in, Leads, adds, subtracts, lowers, multiplies}

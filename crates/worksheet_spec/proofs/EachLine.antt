@@ -9,7 +9,8 @@ use Rattle.augmented_spec.specs.Direct.{sum, difference, product}
 use Rattle.pattern_spec.specs.Classes.{copy_sign}
 use Rattle.worksheet_spec.specs.Lines.{add, subtract, multiply, Line, line, fused_line, Sheet, before, ends, value, minus, is_zero_pattern}
 use Rattle.worksheet_spec.specs.Constants.{psi, two, minus_two, half, kappa, two_to_24, two_to_48, two_to_minus_24, plus_zero, smallest}
-use Rattle.worksheet_spec.specs.Sheets.{Branch, when_nan, when_infinite, when_zero, when_tiny, when_middle, otherwise, recomposition, zero_finish, recomposed_finished, at_edge, edge_finish, halved_sum}
+use Rattle.worksheet_spec.specs.Sheets.{Branch, when_nan, when_infinite, when_zero, when_tiny, when_middle, otherwise, recomposition, zero_finish, recomposed_finished, at_edge, edge_finish}
+use Rattle.worksheet_spec.specs.Sheets.{halved_sum}
 use Rattle.worksheet_spec.specs.Sheets.{overflows}
 use Rattle.worksheet_spec.specs.Sheets.{sum_from, sum_in_order, swaps, sum_sheet, infinite_product, lowered, lowering, tiny_product, rest_tie, scaled_down, middle_product, other_product, branch_of}
 use Rattle.worksheet_spec.specs.Sheets.{product_by}
@@ -72,7 +73,8 @@ recomposed-each a b =
 edge-each : (a a' b' : ℕ) → Each (edge_finish a a' b').lines
 unfolding edge_finish
 edge-each a a' b' =
-    each-cond (at_edge a' b') (before (line multiply kappa a' (mul_step kappa a') ∷ line multiply minus_two b' (mul_step minus_two b') ∷ []) (ends (mul_step kappa a') (mul_step minus_two b'))) (ends a a)
+    each-cond (at_edge a' b') (before (line multiply kappa a' (mul_step kappa a') ∷ line multiply minus_two b' (mul_step minus_two b') ∷ []) (ends (mul_step kappa a') (mul_step minus_two b')))
+    (ends a a)
     (multiplies kappa a' _ (multiplies minus_two b' _ none)) none
 
 -- ---- sums

@@ -83,7 +83,8 @@ words_append (k ∷ ks) ls = ap (λ (ws : List ℕ). line_words k ++ ws) (words_
 
 pub sheet-words-length : (ls : List Line) → length ls ≤ most_lines → length (sheet_words ls) ≡ sheet_size
 unfolding sheet_words
-sheet-words-length ls h = length-append (lines_words ls) (replicate (sheet_size - line_size * length ls) 0) ∙ omega (arith, words-length ls, length-replicate {A = ℕ} (sheet_size - line_size * length ls) 0)
+sheet-words-length ls h = length-append (lines_words ls) (replicate (sheet_size - line_size * length ls) 0)
+    ∙ omega (arith, words-length ls, length-replicate {A = ℕ} (sheet_size - line_size * length ls) 0)
 
 module _ (ls : List Line) (rest : List ℕ) (most : length ls ≤ most_lines) where
   pub all_words : sheet_words ls ++ rest ≡ lines_words ls ++ (replicate (sheet_size - line_size * length ls) 0 ++ rest)

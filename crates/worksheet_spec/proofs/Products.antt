@@ -139,7 +139,8 @@ module _ (x y : ℕ) (s t : Bool) (a b : ℕ) (xi : value x ≡ finite s a) (yi 
     tiny-foot pos lo =
         let test : (tiny.tie x y p) ≡ same (value (tiny.z x y p)) (finite (not r) (2 ^ 47)) && same (value (tiny.w x y p)) (value (tiny.t2 x y p)) =
         ap (λ (v : Value). same (value (tiny.z x y p)) v && same (value (tiny.w x y p)) (value (tiny.t2 x y p)))
-        (minus-value (copy_sign two_to_minus_102 p) (sign-width p two_to_minus_102 (omega arith)) ∙ ap negate (sign-value p r A pi two_to_minus_102 (2 ^ 47) (omega arith) tie-value) ∙ negate-finite r (2 ^ 47))
+        (minus-value (copy_sign two_to_minus_102 p) (sign-width p two_to_minus_102 (omega arith)) ∙ ap negate (sign-value p r A pi two_to_minus_102 (2 ^ 47) (omega arith) tie-value)
+        ∙ negate-finite r (2 ^ 47))
         in
         let leads : value (cond (tiny.tie x y p) (lowered p) p) ≡ cond (same (value (tiny.z x y p)) (finite (not r) (2 ^ 47)) && same (value (tiny.w x y p)) (value (tiny.t2 x y p)))
         (sub_value binary32 (finite r A) (finite r 1)) (finite r A) =
@@ -154,7 +155,8 @@ module _ (x y : ℕ) (s t : Bool) (a b : ℕ) (xi : value x ≡ finite s a) (yi 
         (scaled two_to_48 (factors.scale_twice binary32) up-up-value p (finite r A) pi) (sub-decodes (tiny.t1 x y p) (tiny.g x y p)) (add-decodes (tiny.t2 x y p) (tiny.t3 x y p))
         (sub-decodes (tiny.z x y p) (tiny.t3 x y p))
         in
-        foots r (a * b) (tiny_product x y p) (width-cond (tiny.tie x y p) (lowered p) p (sub-width p (copy_sign smallest p)) (mul-width x y)) (mul-width plus_zero (cond (tiny.tie x y p) (lowered p) p))
+        foots r (a * b) (tiny_product x y p) (width-cond (tiny.tie x y p) (lowered p) p (sub-width p (copy_sign smallest p)) (mul-width x y))
+        (mul-width plus_zero (cond (tiny.tie x y p) (lowered p) p))
         (leads ∙ pair.0, mul-decodes plus_zero (cond (tiny.tie x y p) (lowered p) p) ∙ ap₂ (mul_value binary32) zero-value leads ∙ pair.1)
 
     -- one factor scaled up, the split recomposed, and scaled down again

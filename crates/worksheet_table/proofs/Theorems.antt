@@ -91,7 +91,8 @@ first_taken sheet x y (w ∷ ws) k n = by (taken w x y) refl (first_taken sheet 
 sum_agrees : (x y : ℕ) → sum_sheet x y ≡ sum_by_table x y
 unfolding sum_sheet swaps sum_by_table
 sum_agrees x y =
-    ap₂ (cond (less_magnitude (decode binary32 x) (decode binary32 y))) (first_taken sum_in_order y x sum_ways sum-ways (one-sum-way y x)) (first_taken sum_in_order x y sum_ways sum-ways (one-sum-way x y))
+    ap₂ (cond (less_magnitude (decode binary32 x) (decode binary32 y))) (first_taken sum_in_order y x sum_ways sum-ways (one-sum-way y x))
+    (first_taken sum_in_order x y sum_ways sum-ways (one-sum-way x y))
 
 pub agree : Agree
 unfolding sheet_of sheet_by_table

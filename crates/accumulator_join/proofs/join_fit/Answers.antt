@@ -32,7 +32,8 @@ bounds-first-21-2 c =
 
 pub returns : goal.returns
 returns c =
-    let w = c.add_words in let f = c.args.first.now in let s = c.args.second.now in let p = c.requires.lengths in let q = c.requires.signs in rw (le-leb (get_or f number_size 0 + get_or s number_size 0) most_terms c.if-n-gt-MOST_TERMS.false) (
+    let w = c.add_words in let f = c.args.first.now in let s = c.args.second.now in let p = c.requires.lengths in let q = c.requires.signs in
+    rw (le-leb (get_or f number_size 0 + get_or s number_size 0) most_terms c.if-n-gt-MOST_TERMS.false) (
       refl,
       sum-placed f s w.new.first _ _ p.0 p.1 w.ensures ∙ ap (total_of (number f +ℤ number s) (count f + count s)) (either-word (sign_word f) (sign_word s) q.0 q.1),
     )

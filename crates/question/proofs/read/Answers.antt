@@ -19,4 +19,5 @@ returns-then-line-ne9-2 c =
 
 pub returns : goal.returns
 returns c =
-    let o = c.operation-operation in let line = c.args.line.now in c.patterns.ensures ∙ tabs-passed line o.result c.if-line-ne-QUESTION_SIZE.false o.ensures c.if-operation-eq0.false c.if-line-ne9.false c.if-line-ne9-2.false
+    let o = c.operation-operation in let line = c.args.line.now in c.patterns.ensures
+    ∙ tabs-passed line o.result c.if-line-ne-QUESTION_SIZE.false o.ensures c.if-operation-eq0.false c.if-line-ne9.false c.if-line-ne9-2.false

@@ -9,4 +9,5 @@ returns-in_default c =
 
 pub returns : goal.returns
 returns c =
-    let fill = c.fill-sheet.ensures in let sheet = c.sheet-1 in let halves = c.halves in sheet-answered _ _ _ _ _ _ _ _ _ _ _ _ (ap answer_filled (sym c.in-Sheet.is) ∙ fill.0) fill.1 halves.ensures c.answered.ensures
+    let fill = c.fill-sheet.ensures in let sheet = c.sheet-1 in let halves = c.halves in
+    sheet-answered _ _ _ _ _ _ _ _ _ _ _ _ (ap answer_filled (sym c.in-Sheet.is) ∙ fill.0) fill.1 halves.ensures c.answered.ensures

@@ -10,7 +10,8 @@ use Rattle.transcript_lines.proofs.put_pair.Goals as goal
 
 pub shape_of-out : goal.shape_of-out
 shape_of-out c =
-    let put_four = c.put_four-a in let put-patterns = c.put_patterns-b in let put_byte = c.put_byte-c in let put-flags = c.put_flags-d in length-set put-flags.new.out put-flags.result _ ∙ (put-flags.auto.out ∙ (put_byte.auto.out ∙ (put-patterns.auto.out ∙ put_four.auto.out)))
+    let put_four = c.put_four-a in let put-patterns = c.put_patterns-b in let put_byte = c.put_byte-c in let put-flags = c.put_flags-d in
+    length-set put-flags.new.out put-flags.result _ ∙ (put-flags.auto.out ∙ (put_byte.auto.out ∙ (put-patterns.auto.out ∙ put_four.auto.out)))
 
 pub returns : goal.returns
 unfolding pair_text

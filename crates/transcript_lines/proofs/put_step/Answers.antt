@@ -23,4 +23,5 @@ put_rest-requires c =
 pub returns : goal.returns
 unfolding step_text
 returns c =
-    let put-start = c.put_start-a in let put-step-letters = c.put_step_letters-b in let put-patterns = c.put_patterns-c in let put_rest = c.put_rest in then put-start.ensures (then put-step-letters.ensures (then put-patterns.ensures put_rest.ensures))
+    let put-start = c.put_start-a in let put-step-letters = c.put_step_letters-b in let put-patterns = c.put_patterns-c in let put_rest = c.put_rest in
+    then put-start.ensures (then put-step-letters.ensures (then put-patterns.ensures put_rest.ensures))

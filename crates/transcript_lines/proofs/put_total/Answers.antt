@@ -10,7 +10,8 @@ use Rattle.transcript_lines.proofs.put_total.Goals as goal
 
 pub shape_of-out : goal.shape_of-out
 shape_of-out c =
-    let put_four = c.put_four-a in let put_byte = c.put_byte-b in let put-patterns = c.put_patterns-c in length-set put-patterns.new.out put-patterns.result _ ∙ (put-patterns.auto.out ∙ (put_byte.auto.out ∙ put_four.auto.out))
+    let put_four = c.put_four-a in let put_byte = c.put_byte-b in let put-patterns = c.put_patterns-c in
+    length-set put-patterns.new.out put-patterns.result _ ∙ (put-patterns.auto.out ∙ (put_byte.auto.out ∙ put_four.auto.out))
 
 pub returns : goal.returns
 unfolding total_text

@@ -7,7 +7,8 @@ use Rattle.worksheet_lines.specs.Inner.{flat}
 use Rattle.worksheet_lines.proofs.copy_out.Given as goal
 
 abbrev pub invariant-loop-i : goal.invariant-loop-i
-invariant-loop-i l = (l.i ≤ most_lines) × (length l.words ≡ length l.initial.words) × (l.words ≡ flat (take l.i l.lines) ++ drop (l.i * line_size) l.initial.words) × (length (flat (take l.i l.lines)) ≡ l.i * line_size)
+invariant-loop-i l = (l.i ≤ most_lines) × (length l.words ≡ length l.initial.words) × (l.words ≡ flat (take l.i l.lines) ++ drop (l.i * line_size) l.initial.words)
+    × (length (flat (take l.i l.lines)) ≡ l.i * line_size)
 
 abbrev pub decreases-loop-i : goal.decreases-loop-i
 decreases-loop-i l = most_lines - l.i

@@ -4,6 +4,6 @@ use Rattle.marking.proofs.numbers.mark.Goals as goal
 
 pub returns : goal.returns
 returns c = record {
-      answer = c.numbers.ensures ∙ ap marked_numbers c.mark.ensures.answer;
-      lines_kept = refl;
-    }
+  answer = c.numbers.ensures ∙ ap marked_numbers c.mark.ensures.answer;
+  lines_kept = refl;
+}

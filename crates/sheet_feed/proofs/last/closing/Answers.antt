@@ -13,7 +13,8 @@ slice_bounds-end-start c =
 
 pub overflow_add-result : goal.overflow_add-result
 overflow_add-result c =
-    let a = c.args in let pre = c.requires in let total-line = c.total_line-used in let end = c.end in omega (arith, closes-short (progress_of a.position a.total.now) _ _ _ total-line.ensures pre.1 _ _ end.ensures)
+    let a = c.args in let pre = c.requires in let total-line = c.total_line-used in let end = c.end in
+    omega (arith, closes-short (progress_of a.position a.total.now) _ _ _ total-line.ensures pre.1 _ _ end.ensures)
 
 pub returns : goal.returns
 returns c =

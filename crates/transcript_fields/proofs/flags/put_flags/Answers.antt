@@ -28,14 +28,19 @@ bounds-out-at c =
 
 pub shape_of-out-then-d-at : goal.shape_of-out-then-d-at
 shape_of-out-then-d-at c =
-    let a = c.args in let put-flag-letter = c.put_flag_letter-a in let put-flag-letter2 = c.put_flag_letter-b in let put-flag-letter3 = c.put_flag_letter-c in let put-flag-letter4 = c.put_flag_letter-d in length-set put-flag-letter4.new.out a.at _ ∙ (put-flag-letter4.auto.out ∙ (put-flag-letter3.auto.out ∙ (put-flag-letter2.auto.out ∙ put-flag-letter.auto.out)))
+    let a = c.args in let put-flag-letter = c.put_flag_letter-a in let put-flag-letter2 = c.put_flag_letter-b in let put-flag-letter3 = c.put_flag_letter-c in
+    let put-flag-letter4 = c.put_flag_letter-d in length-set put-flag-letter4.new.out a.at _
+    ∙ (put-flag-letter4.auto.out ∙ (put-flag-letter3.auto.out ∙ (put-flag-letter2.auto.out ∙ put-flag-letter.auto.out)))
 
 pub returns-then-d-at : goal.returns-then-d-at
 returns-then-d-at c =
-    let a = c.args in let put-flag-letter = c.put_flag_letter-a in let put-flag-letter2 = c.put_flag_letter-b in let put-flag-letter3 = c.put_flag_letter-c in let put-flag-letter4 = c.put_flag_letter-d in dash-put a.flags (then put-flag-letter.ensures (then put-flag-letter2.ensures (then put-flag-letter3.ensures put-flag-letter4.ensures))) c.if-d-at.true
+    let a = c.args in let put-flag-letter = c.put_flag_letter-a in let put-flag-letter2 = c.put_flag_letter-b in let put-flag-letter3 = c.put_flag_letter-c in
+    let put-flag-letter4 = c.put_flag_letter-d in dash-put a.flags (then put-flag-letter.ensures (then put-flag-letter2.ensures (then put-flag-letter3.ensures put-flag-letter4.ensures)))
+    c.if-d-at.true
     (stored put-flag-letter4.new.out a.at (code "-") (a.at + 1) (omega (arith, flags-room a.flags)) refl)
 
 pub returns : goal.returns
 returns c =
-    let a = c.args in let put-flag-letter = c.put_flag_letter-a in let put-flag-letter2 = c.put_flag_letter-b in let put-flag-letter3 = c.put_flag_letter-c in let put-flag-letter4 = c.put_flag_letter-d in let put = then put-flag-letter.ensures (then put-flag-letter2.ensures (then put-flag-letter3.ensures put-flag-letter4.ensures)) in
+    let a = c.args in let put-flag-letter = c.put_flag_letter-a in let put-flag-letter2 = c.put_flag_letter-b in let put-flag-letter3 = c.put_flag_letter-c in
+    let put-flag-letter4 = c.put_flag_letter-d in let put = then put-flag-letter.ensures (then put-flag-letter2.ensures (then put-flag-letter3.ensures put-flag-letter4.ensures)) in
     rw (some-flags a.flags (λ z. c.if-d-at.false (omega (arith, put.ends, z)))) put

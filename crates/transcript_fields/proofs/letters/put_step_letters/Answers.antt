@@ -10,7 +10,8 @@ returns-then-operation-eq-ADD c = rw (eq-eqb c.args.operation (step_number add) 
 pub returns-then-operation-eq-SUBTRACT : goal.returns-then-operation-eq-SUBTRACT
 unfolding step_letters_by_number
 returns-then-operation-eq-SUBTRACT c =
-    let a = c.args in let if1 = c.if-operation-eq-ADD in let if2 = c.if-operation-eq-SUBTRACT in let put-four2 = c.put_four-then-operation-eq-SUBTRACT in rw (ne_eqb a.operation (step_number add) if1.false, eq-eqb a.operation (step_number subtract) if2.true) put-four2.ensures
+    let a = c.args in let if1 = c.if-operation-eq-ADD in let if2 = c.if-operation-eq-SUBTRACT in let put-four2 = c.put_four-then-operation-eq-SUBTRACT in
+    rw (ne_eqb a.operation (step_number add) if1.false, eq-eqb a.operation (step_number subtract) if2.true) put-four2.ensures
 
 pub returns-then-operation-eq-MULTIPLY : goal.returns-then-operation-eq-MULTIPLY
 unfolding step_letters_by_number

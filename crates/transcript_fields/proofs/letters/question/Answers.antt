@@ -10,9 +10,11 @@ returns-then-operation-eq-SUM c = rw (eq-eqb c.args.operation (operation_number 
 pub returns-then-operation-eq-DIFFERENCE : goal.returns-then-operation-eq-DIFFERENCE
 unfolding operation_letters_by_number
 returns-then-operation-eq-DIFFERENCE c =
-    let a = c.args in let if1 = c.if-operation-eq-SUM in let if2 = c.if-operation-eq-DIFFERENCE in rw (ne_eqb a.operation (operation_number sum) if1.false, eq-eqb a.operation (operation_number difference) if2.true)
+    let a = c.args in let if1 = c.if-operation-eq-SUM in let if2 = c.if-operation-eq-DIFFERENCE in
+    rw (ne_eqb a.operation (operation_number sum) if1.false, eq-eqb a.operation (operation_number difference) if2.true)
 
 pub returns : goal.returns
 unfolding operation_letters_by_number
 returns c =
-    let a = c.args in let if1 = c.if-operation-eq-SUM in let if2 = c.if-operation-eq-DIFFERENCE in rw (ne_eqb a.operation (operation_number sum) if1.false, ne_eqb a.operation (operation_number difference) if2.false)
+    let a = c.args in let if1 = c.if-operation-eq-SUM in let if2 = c.if-operation-eq-DIFFERENCE in
+    rw (ne_eqb a.operation (operation_number sum) if1.false, ne_eqb a.operation (operation_number difference) if2.false)

@@ -20,4 +20,5 @@ shape_of-out c =
 
 pub returns : goal.returns
 returns c =
-    let put-half = c.put_half-low in let put-half2 = c.put_half in pattern-put c.args.x (then (stored c.args.out.now c.args.at tab (c.args.at + 1) (omega arith) refl) (then put-half.ensures put-half2.ensures))
+    let put-half = c.put_half-low in let put-half2 = c.put_half in pattern-put c.args.x
+    (then (stored c.args.out.now c.args.at tab (c.args.at + 1) (omega arith) refl) (then put-half.ensures put-half2.ensures))

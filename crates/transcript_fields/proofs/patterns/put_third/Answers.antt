@@ -9,7 +9,12 @@ use Rattle.transcript_fields.proofs.patterns.put_third.Goals as goal
 
 pub bounds-out-at-then-takes_two : goal.bounds-out-at-then-takes_two
 bounds-out-at-then-takes_two c =
-    let a = c.args in let takes_two_lem = c.takes_two in omega (arith, length-set a.out.now a.at tab, ap length (third-unused a.operation a.z takes_two_lem.result c.if-takes_two.true takes_two_lem.ensures))
+    let a = c.args in let takes_two_lem = c.takes_two in omega (
+      arith,
+      length-set a.out.now a.at tab,
+      ap length
+          (third-unused a.operation a.z takes_two_lem.result c.if-takes_two.true takes_two_lem.ensures),
+    )
 
 pub returns-then-takes_two : goal.returns-then-takes_two
 returns-then-takes_two c =
@@ -22,4 +27,5 @@ put_pattern-requires c =
 
 pub returns : goal.returns
 returns c =
-    let a = c.args in let takes_two_lem = c.takes_two in let if1 = c.if-takes_two in let put-pattern = c.put_pattern in rw (third-used a.operation a.z takes_two_lem.result if1.false takes_two_lem.ensures) put-pattern.ensures
+    let a = c.args in let takes_two_lem = c.takes_two in let if1 = c.if-takes_two in let put-pattern = c.put_pattern in
+    rw (third-used a.operation a.z takes_two_lem.result if1.false takes_two_lem.ensures) put-pattern.ensures

@@ -1,5 +1,6 @@
 // An old total, of 21 words, carried over into one of 22 (R6.14). The answer is the refusal's number (R8.17), or 0.
 #![tactic(auto)]
+
 ghost use Rattle.std.specs.Prelude.{◌≡◌, length, take};
 ghost use Rattle.accumulator_spec.specs.Totals.{total_size};
 ghost use Rattle.accumulator_spec.specs.Carrying.{old_size, CarriesNumbered};

@@ -1,5 +1,6 @@
 // Joining two totals (R6.9). The answer is the refusal's number (R8.16), or 0.
 #![tactic(auto)]
+
 ghost use Rattle.std.specs.Prelude.{◌≡◌, ◌+◌, ◌%◌, ◌^◌, ◌≤◌, length};
 ghost use Rattle.accumulator_spec.specs.Totals.{total_size, most_terms, count, sign_word};
 ghost use Rattle.accumulator_spec.specs.Joins.{JoinsNumbered};

@@ -1,5 +1,6 @@
 // What a total reads: RN0 of its number, and RN0 of the number less that; -0 where all its terms have been (R6.5 to R6.8).
 #![tactic(auto)]
+
 mod leading;
 
 ghost use Rattle.std.specs.Prelude.{◌≡◌, not, ◌&&◌, ◌+◌, ◌*◌, ◌^◌, ◌≤◌, ◌<◌, eqb, length, take, nat_abs, ◌+ℤ◌};

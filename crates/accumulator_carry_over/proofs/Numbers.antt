@@ -7,11 +7,11 @@ use native.Mathlib.Decide.{ℕ_discrete}
 use native.Mathlib.Nat.{le_of_eq}
 use native.Mathlib.Omega.{arith}
 use lib.Dec.{eqb}
-use lib.ListN.{length, take, drop, set, drop_of_length-le}
+use lib.ListN.{length, take, set, drop_of_length-le}
 use lib.Seq.{set_split}
 use Rattle.pattern_spec.specs.Answer.{refused, done, refusal_of}
 use Rattle.accumulator_spec.specs.Totals.{total_size, count, within_limits}
-use Rattle.accumulator_spec.specs.Carrying.{old_size, carrying, carried_total, CarriesNumbered}
+use Rattle.accumulator_spec.specs.Carrying.{old_size, carrying, CarriesNumbered}
 use Rattle.accumulator_spec.proofs.Carried.{old-length, new-length, old-unfit, carries, carry-refused, carry-done}
 
 module _ (old new : List ℕ) where

@@ -1,6 +1,5 @@
 use mathlib.Core.Path.{refl, sym, ap, ◌∙◌}
 use native.Mathlib.Omega.{arith}
-use borrow.Author.Tests.{not-false}
 use lib.Seq.{length-take-le}
 use Rattle.rounding_spec.specs.Format.{binary32}
 use Rattle.rounding_spec.specs.Value.{is_finite}
@@ -19,8 +18,8 @@ returns-then-not-has_room c = as-product _ _ _ _ c.admit.ensures
 
 pub slice_bounds-add_short-end : goal.slice_bounds-add_short-end
 slice_bounds-add_short-end c =
-    let t = f.before.before.before.before.args.total.now in
-    let h = c.has_room.ensures (not-false _ c.if-not-has_room.false) in
+    let t = c.args.total.now in
+    let h = c.has_room.ensures (c.if-not-has_room.false) in
     let r = takes-term t _ (sym h.0) refl in
     let l = r.0.0 in
     omega (arith, l)
@@ -32,8 +31,8 @@ overflow_add-exp c =
 
 pub add_short-requires : goal.add_short-requires
 add_short-requires c =
-    let t = f.before.before.before.before.args.total.now in
-    let h = c.has_room.ensures (not-false _ c.if-not-has_room.false) in
+    let t = c.args.total.now in
+    let h = c.has_room.ensures (c.if-not-has_room.false) in
     let r = takes-term t _ (sym h.0) refl in
     let m = r.0.0 in
     let l = length-take-le number_size t (omega (arith, m)) in
@@ -42,19 +41,19 @@ add_short-requires c =
 
 pub count_term-requires : goal.count_term-requires
 count_term-requires c =
-    let t = f.before.before.before.before.args.total.now in
-    let h = c.has_room.ensures (not-false _ c.if-not-has_room.false) in
+    let t = c.args.total.now in
+    let h = c.has_room.ensures (c.if-not-has_room.false) in
     let r = takes-term t _ (sym h.0) refl in
     countable t r.0.0 c.place.result c.add_short.new.number c.add_short.ensures r.1
 
 pub returns-in-Finite : goal.returns-in-Finite
 unfolding finer value_of
 returns-in-Finite c =
-    let a = f.before.before.before.before.args in
+    let a = c.args in
     let t = a.total.now in
-    let h = c.has_room.ensures (not-false _ c.if-not-has_room.false) in
+    let h = c.has_room.ensures (c.if-not-has_room.false) in
     let r = takes-term t _ (sym h.0) refl in
-    let g = c.a-1.given.0 in let p = c.place.ensures in let v = pattern-value _ _ c.classify-a.ensures ∙ ap (λ (v : Class). finer binary32 (value_of v)) c.in-Finite.is ∙ finer-digits _ _ _ in
+    let p = c.place.ensures in let v = pattern-value _ _ c.classify-a.ensures ∙ ap (λ (v : Class). finer binary32 (value_of v)) c.in-Finite.is ∙ finer-digits _ _ _ in
     let e = entered t r.0.0 c.place.result c.add_short.new.number c.add_short.ensures (of_pattern a.x) c.in-Finite.sign c.in-Finite.sig _ v p.0 p.1 p.2 _
     c.count_term.ensures in
     stays t (of_pattern a.x) r c.in-Finite.sign c.in-Finite.sig _ v h.1 _ e
@@ -62,9 +61,9 @@ returns-in-Finite c =
 pub returns-in-Infinite : goal.returns-in-Infinite
 unfolding finer value_of
 returns-in-Infinite c =
-    let a = f.before.before.before.before.args in
+    let a = c.args in
     let t = a.total.now in
-    let h = c.has_room.ensures (not-false _ c.if-not-has_room.false) in
+    let h = c.has_room.ensures (c.if-not-has_room.false) in
     let r = takes-term t _ (sym h.0) refl in
     let v = pattern-value _ _ c.classify-a.ensures ∙ ap (λ (v : Class). finer binary32 (value_of v)) c.in-Infinite.is in
     refused-term t (of_pattern a.x) r (ap is_finite v)
@@ -72,9 +71,9 @@ returns-in-Infinite c =
 pub returns-in-NotANumber : goal.returns-in-NotANumber
 unfolding finer value_of
 returns-in-NotANumber c =
-    let a = f.before.before.before.before.args in
+    let a = c.args in
     let t = a.total.now in
-    let h = c.has_room.ensures (not-false _ c.if-not-has_room.false) in
+    let h = c.has_room.ensures (c.if-not-has_room.false) in
     let r = takes-term t _ (sym h.0) refl in
     let v = pattern-value _ _ c.classify-a.ensures ∙ ap (λ (v : Class). finer binary32 (value_of v)) c.in-NotANumber.is in
     refused-term t (of_pattern a.x) r (ap is_finite v)

@@ -1,6 +1,5 @@
 use mathlib.Core.Path.{refl, sym, ap}
 use native.Mathlib.Omega.{arith}
-use borrow.Author.Tests.{not-false}
 use lib.Seq.{length-take-le}
 use Rattle.rounding_spec.specs.Value.{is_finite}
 use Rattle.pattern_spec.specs.Classes.{value_of}
@@ -11,16 +10,16 @@ use Rattle.accumulator_add.proofs.add_product.Goals as goal
 
 pub slice_bounds-add-end : goal.slice_bounds-add-end
 slice_bounds-add-end c =
-    let t = f.before.before.before.before.args.total.now in
-    let h = c.has_room.ensures (not-false _ c.if-not-has_room.false) in
+    let t = c.args.total.now in
+    let h = c.has_room.ensures (c.if-not-has_room.false) in
     let r = takes-term t _ (sym h.0) refl in
     let l = r.0.0 in
     omega (arith, l)
 
 pub add-requires : goal.add-requires
 add-requires c =
-    let t = f.before.before.before.before.args.total.now in
-    let h = c.has_room.ensures (not-false _ c.if-not-has_room.false) in
+    let t = c.args.total.now in
+    let h = c.has_room.ensures (c.if-not-has_room.false) in
     let r = takes-term t _ (sym h.0) refl in
     let m = r.0.0 in
     let l = length-take-le number_size t (omega (arith, m)) in
@@ -29,19 +28,19 @@ add-requires c =
 
 pub count_term-requires : goal.count_term-requires
 count_term-requires c =
-    let t = f.before.before.before.before.args.total.now in
-    let h = c.has_room.ensures (not-false _ c.if-not-has_room.false) in
+    let t = c.args.total.now in
+    let h = c.has_room.ensures (c.if-not-has_room.false) in
     let r = takes-term t _ (sym h.0) refl in
     countable t r.0.0 c.place.result c.add.new.number c.add.ensures r.1
 
 pub returns-in-Finite : goal.returns-in-Finite
 unfolding value_of
 returns-in-Finite c =
-    let a = f.before.before.before.before.args in
+    let a = c.args in
     let t = a.total.now in
-    let h = c.has_room.ensures (not-false _ c.if-not-has_room.false) in
+    let h = c.has_room.ensures (c.if-not-has_room.false) in
     let r = takes-term t _ (sym h.0) refl in
-    let g = c.p-1.given.0 in let p = c.place.ensures in let v = (rw c.in-Finite.is at c.product-p.ensures).is in
+    let p = c.place.ensures in let v = (rw c.in-Finite.is at c.product-p.ensures).is in
     let e = entered t r.0.0 c.place.result c.add.new.number c.add.ensures (of_product a.x a.y) c.in-Finite.sign c.in-Finite.sig _ v p.0 p.1 p.2 _
     c.count_term.ensures in
     stays t (of_product a.x a.y) r c.in-Finite.sign c.in-Finite.sig _ v h.1 _ e
@@ -49,9 +48,9 @@ returns-in-Finite c =
 pub returns-in-Infinite : goal.returns-in-Infinite
 unfolding value_of
 returns-in-Infinite c =
-    let a = f.before.before.before.before.args in
+    let a = c.args in
     let t = a.total.now in
-    let h = c.has_room.ensures (not-false _ c.if-not-has_room.false) in
+    let h = c.has_room.ensures (c.if-not-has_room.false) in
     let r = takes-term t _ (sym h.0) refl in
     let v = (rw c.in-Infinite.is at c.product-p.ensures).is in
     refused-term t (of_product a.x a.y) r (ap is_finite v)
@@ -59,9 +58,9 @@ returns-in-Infinite c =
 pub returns-in-NotANumber : goal.returns-in-NotANumber
 unfolding value_of
 returns-in-NotANumber c =
-    let a = f.before.before.before.before.args in
+    let a = c.args in
     let t = a.total.now in
-    let h = c.has_room.ensures (not-false _ c.if-not-has_room.false) in
+    let h = c.has_room.ensures (c.if-not-has_room.false) in
     let r = takes-term t _ (sym h.0) refl in
     let v = (rw c.in-NotANumber.is at c.product-p.ensures).is in
     refused-term t (of_product a.x a.y) r (ap is_finite v)

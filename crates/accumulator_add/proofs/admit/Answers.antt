@@ -12,32 +12,32 @@ use Rattle.accumulator_add.proofs.admit.Goals as goal
 
 pub returns-then-wrong-ne0 : goal.returns-then-wrong-ne0
 returns-then-wrong-ne0 c =
-    let a = k.before.before.before.args in
+    let a = c.args in
     fault-adds a.total.now (of_product a.x a.y) _ _ _ c.refusal_to_add-wrong.ensures c.if-wrong-ne0.true c.both_finite.ensures c.in_order.ensures
 
 pub note_sign-requires : goal.note_sign-requires
 note_sign-requires c =
-    let t = f.before.before.before.before.args.total.now in
+    let t = c.args.total.now in
     let r = takes-term t _ c.refusal_to_add-wrong.ensures c.if-wrong-ne0.false in
     (r.0.0, (fit-bounds t r.0.1).sign)
 
 pub slice_bounds-add-end : goal.slice_bounds-add-end
 unfolding value_of
 slice_bounds-add-end c =
-    let a = f.before.before.before.before.args in
+    let a = c.args in
     let t = a.total.now in
     let r = takes-term t _ c.refusal_to_add-wrong.ensures c.if-wrong-ne0.false in
-    let g = c.term-1.given.0 in let v = (rw c.in-Finite.is at c.product-term.ensures).is in
+    let v = (rw c.in-Finite.is at c.product-term.ensures).is in
     let l = (noted-takes t (of_product a.x a.y) r c.in-Finite.sign c.in-Finite.sig _ v c.note_sign.new.total c.note_sign.ensures).0 in
     omega (arith, l)
 
 pub add-requires : goal.add-requires
 unfolding value_of
 add-requires c =
-    let a = f.before.before.before.before.args in
+    let a = c.args in
     let t = a.total.now in
     let r = takes-term t _ c.refusal_to_add-wrong.ensures c.if-wrong-ne0.false in
-    let g = c.term-1.given.0 in let v = (rw c.in-Finite.is at c.product-term.ensures).is in
+    let v = (rw c.in-Finite.is at c.product-term.ensures).is in
     let m = (noted-takes t (of_product a.x a.y) r c.in-Finite.sign c.in-Finite.sig _ v c.note_sign.new.total c.note_sign.ensures).0 in
     let l = length-take-le number_size c.note_sign.new.total (omega (arith, m)) in
     let o = rw c.in-Finite.is at c.product-term.ensures in
@@ -46,20 +46,20 @@ add-requires c =
 pub count_term-requires : goal.count_term-requires
 unfolding value_of
 count_term-requires c =
-    let a = f.before.before.before.before.args in
+    let a = c.args in
     let t = a.total.now in
     let r = takes-term t _ c.refusal_to_add-wrong.ensures c.if-wrong-ne0.false in
-    let g = c.term-1.given.0 in let v = (rw c.in-Finite.is at c.product-term.ensures).is in
+    let v = (rw c.in-Finite.is at c.product-term.ensures).is in
     let m = noted-takes t (of_product a.x a.y) r c.in-Finite.sign c.in-Finite.sig _ v c.note_sign.new.total c.note_sign.ensures in
     countable c.note_sign.new.total m.0 c.place.result c.add.new.number c.add.ensures m.1
 
 pub returns-in-Finite : goal.returns-in-Finite
 unfolding value_of
 returns-in-Finite c =
-    let a = f.before.before.before.before.args in
+    let a = c.args in
     let t = a.total.now in
     let r = takes-term t _ c.refusal_to_add-wrong.ensures c.if-wrong-ne0.false in
-    let g = c.term-1.given.0 in let p = c.place.ensures in let v = (rw c.in-Finite.is at c.product-term.ensures).is in
+    let p = c.place.ensures in let v = (rw c.in-Finite.is at c.product-term.ensures).is in
     let m = noted-takes t (of_product a.x a.y) r c.in-Finite.sign c.in-Finite.sig _ v c.note_sign.new.total c.note_sign.ensures in
     let e = entered c.note_sign.new.total m.0 c.place.result c.add.new.number c.add.ensures (of_product a.x a.y) c.in-Finite.sign c.in-Finite.sig _ v p.0 p.1 p.2 _
     c.count_term.ensures in
@@ -68,7 +68,7 @@ returns-in-Finite c =
 pub returns-in-Infinite : goal.returns-in-Infinite
 unfolding value_of
 returns-in-Infinite c =
-    let a = f.before.before.before.before.args in
+    let a = c.args in
     let t = a.total.now in
     let r = takes-term t _ c.refusal_to_add-wrong.ensures c.if-wrong-ne0.false in
     let v = (rw c.in-Infinite.is at c.product-term.ensures).is in
@@ -77,7 +77,7 @@ returns-in-Infinite c =
 pub returns-in-NotANumber : goal.returns-in-NotANumber
 unfolding value_of
 returns-in-NotANumber c =
-    let a = f.before.before.before.before.args in
+    let a = c.args in
     let t = a.total.now in
     let r = takes-term t _ c.refusal_to_add-wrong.ensures c.if-wrong-ne0.false in
     let v = (rw c.in-NotANumber.is at c.product-term.ensures).is in

@@ -5,7 +5,7 @@ use Rattle.accumulator_join.proofs.join.Goals as goal
 
 pub returns-then-wrong-ne0 : goal.returns-then-wrong-ne0
 returns-then-wrong-ne0 c =
-    let k = c.refusal_of_two-wrong in let a = c.before.before.before.before.before.args in
+    let k = c.refusal_of_two-wrong in let a = c.args in
     let r = one-wrong a.first.now a.second.now (λ e. c.if-wrong-ne0.true (k.ensures ∙ e)) in record {
       joins_numbered = (k.ensures ∙ r.0, r.1);
       second_kept = refl;
@@ -13,7 +13,7 @@ returns-then-wrong-ne0 c =
 
 pub join_fit-requires : goal.join_fit-requires
 join_fit-requires c =
-    let a = c.before.before.before.before.before.before.args in
+    let a = c.args in
     let b = both-sound a.first.now a.second.now (sym c.refusal_of_two-wrong.ensures ∙ c.if-wrong-ne0.false) in
     let f = fit-bounds a.first.now b.0.1 in
     let s = fit-bounds a.second.now b.1.1 in record {
@@ -23,7 +23,7 @@ join_fit-requires c =
 
 pub returns : goal.returns
 returns c =
-    let a = c.before.before.before.before.before.before.before.before.before.args in
+    let a = c.args in
     let b = both-sound a.first.now a.second.now (sym c.refusal_of_two-wrong.ensures ∙ c.if-wrong-ne0.false) in record {
       joins_numbered = both-fit a.first.now a.second.now b.0 b.1 _ _ c.join_fit.ensures;
       second_kept = refl;

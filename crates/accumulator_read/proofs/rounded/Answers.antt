@@ -16,9 +16,9 @@ use Rattle.accumulator_read.proofs.rounded.Goals as goal
 pub returns : goal.returns
 unfolding round
 returns c =
-    let ws = c.args.t1 in let minus = leb (2 ^ 31) (get_or ws 19 0) in
+    let ws = c.args.number in let minus = leb (2 ^ 31) (get_or ws 19 0) in
     let m = c.magnitude in let d = c.first_digits-top in let e : exact_number (integer ws) ≡ finite minus (nat_abs (integer ws)) =
-    exact-top 19 ws (array-length number_size ws _ c.well-formed.0) (array-words number_size ws _ c.well-formed.0) minus refl
+    exact-top 19 ws (array-length number_size ws _ c.well_formed.0) (array-words number_size ws _ c.well_formed.0) minus refl
     in
     c.round.ensures
     ∙ ap (encode binary32)

@@ -1,4 +1,4 @@
-use Rattle.std.proofs.Common.{ℕ, ◌+◌, ◌-◌, get_or, sym, refl, ap, ◌∙◌, arith, length-set}
+use Rattle.std.proofs.Common.{ℕ, ◌+◌, get_or, sym, refl, ap, ◌∙◌, arith, length-set}
 use Rattle.accumulator_spec.specs.Words.{Words}
 use Rattle.accumulator_spec.proofs.Carry.{turned, ended, walked, read-lt, word_sum_lem, word-written}
 use Rattle.accumulator_spec.proofs.Parts.{walk_is, drop-words}

@@ -1,4 +1,4 @@
-use Rattle.std.proofs.Common.{◌≡◌, ◌+◌, ◌-◌, ◌≤◌, cond, ◌++◌, length, take, drop}
+use Rattle.std.proofs.Common.{◌≡◌, ◌-◌, ◌≤◌, cond, ◌++◌, length, take, drop}
 use Rattle.accumulator_spec.proofs.Carry.{walk}
 use Rattle.accumulator_words.proofs.add_one.Given as goal
 

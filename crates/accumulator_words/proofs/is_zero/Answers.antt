@@ -1,4 +1,4 @@
-use Rattle.std.proofs.Common.{◌-◌, refl, ◌∙◌, arith}
+use Rattle.std.proofs.Common.{refl, ◌∙◌, arith}
 use Rattle.accumulator_spec.proofs.Zeros.{zero_more, zero-not, zero-done}
 use Rattle.accumulator_words.proofs.is_zero.Goals as goal
 

@@ -1,5 +1,4 @@
 use mathlib.Core.Path.{◌∙◌}
-use Prim.Native.Nat.{◌-◌}
 use native.Mathlib.Omega.{arith}
 use Rattle.accumulator_spec.specs.Totals.{number_size}
 use Rattle.accumulator_read.proofs.Arrays.{array-length, array-words}
@@ -8,10 +7,10 @@ use Rattle.accumulator_read.proofs.leading.turned.Goals as goal
 
 pub loop-i-preserved : goal.loop-i-preserved
 loop-i-preserved c =
-    let l = c.loop-i in let k = c.well-formed.0 in let e = array-length number_size c.args.number _ k in
+    let l = c.loop-i in let k = c.well_formed.0 in let e = array-length number_size c.args.number _ k in
     (omega arith, next c.args.minus c.args.number l.i (omega arith) l.words _ (array-words number_size c.args.number _ k) c.choose_pattern-mask.ensures l.invariant.1)
 
 pub returns : goal.returns
 returns c =
-    let l = c.loop-i in let e = array-length number_size c.args.number _ c.well-formed.0 in
+    let l = c.loop-i in let e = array-length number_size c.args.number _ c.well_formed.0 in
     l.invariant.1 ∙ whole c.args.minus c.args.number l.i (omega arith)

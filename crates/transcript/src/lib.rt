@@ -1,6 +1,7 @@
 // The lines that are printed. Each function writes its text at the start of the lent buffer and answers its length; where the buffer is too
 // short, no byte is written and the answer is 0.
 #![tactic(auto)]
+
 mod notices;
 
 ghost use Rattle.std.specs.Prelude.{◌≡◌, min};

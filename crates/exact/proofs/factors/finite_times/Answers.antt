@@ -1,9 +1,7 @@
 use Rattle.rounding_spec.specs.Value.{finite}
 use Rattle.pattern_spec.specs.Exact.{times}
 use Rattle.pattern_spec.specs.Classes.{value_of}
-use Rattle.pattern_spec.specs.Inner.{Product}
 use mathlib.Core.Path.{refl, ap}
-use Prim.Native.Nat.{◌+◌, ◌*◌}
 use native.Mathlib.Nat.{le_trans}
 use native.Mathlib.Omega.{arith}
 use lib.Ieee.{unlike}

@@ -1,5 +1,4 @@
 use mathlib.Core.Path.{sym, ap}
-use borrow.Author.Tests.{ne_eqb}
 use Rattle.accumulator.specs.Inner.{numbered}
 use Rattle.accumulator.proofs.named.Goals as goal
 
@@ -14,7 +13,3 @@ returns-in-6 c = sym (ap numbered c.in-6.is)
 
 pub returns-in-7 : goal.returns-in-7
 returns-in-7 c = sym (ap numbered c.in-7.is)
-
-pub returns-in_default : goal.returns-in_default
-returns-in_default c =
-    let n = c.args.number in let r = c.in_default.rest in rw (ne_eqb n 0 r.0.0.0.1, ne_eqb n 5 r.0.0.1, ne_eqb n 6 r.0.1, ne_eqb n 7 r.1)

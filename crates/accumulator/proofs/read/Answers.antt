@@ -1,3 +1,4 @@
+use Rattle.std.proofs.Common.{◌≢◌, arith}
 use mathlib.Core.Path.{sym, ap, ◌∙◌}
 use Prim.Native.Nat.{ℕ}
 use borrow.Author.Tests.{ne_eqb}
@@ -13,4 +14,5 @@ returns-in-5 c = let r = c.read-reply in sym (ap (λ (n : ℕ). replied n r.resu
 
 pub returns-in_default : goal.returns-in_default
 returns-in_default c =
-    let r = c.read-reply in let n = c.read-reply.result.refusal in reading-other _ n (rw (ne_eqb n 0 c.in_default.rest.0.1) at r.ensures) c.in_default.rest.1
+    let r = c.read-reply in let n = r.result.refusal in let other : n ≢ 0 = λ e. omega arith in let also : n ≢ 5 = λ e. omega arith in
+    reading-other _ n (rw (ne_eqb n 0 other) at r.ensures) also

@@ -1,14 +1,12 @@
 use mathlib.Core.Path.{◌≡◌, refl, ap, ◌∙◌}
-use mathlib.Core.List.{◌++◌}
 use Prim.Native.Nat.{ℕ, zero, suc, ◌+◌, ◌≤◌}
 use native.Mathlib.Omega.{arith}
 use borrow.Author.Tests.{le-leb, lt-leb}
 use lib.Bits.{bit_or}
 use lib.IntN.{◌+ℤ◌}
-use lib.ListN.{get_or, drop}
-use lib.Seq.{lt-length-set}
+use lib.ListN.{get_or}
 use Rattle.accumulator_spec.specs.Totals.{number_size, most_terms, number, count, sign_word, total_of, sign_of_both}
-use Rattle.accumulator_spec.proofs.WordSums.{sum-full, sum-placed}
+use Rattle.accumulator_spec.proofs.WordSums.{sum-placed}
 use Rattle.accumulator_join.proofs.join_fit.Goals as goal
 
 -- two words that are 0 or 1
@@ -24,11 +22,6 @@ either-word (suc (suc v)) w h l = absurd (omega (arith, h))
 pub returns-then-n-gt-MOST_TERMS : goal.returns-then-n-gt-MOST_TERMS
 returns-then-n-gt-MOST_TERMS c =
     let a = c.args in rw (lt-leb (get_or a.first.now number_size 0 + get_or a.second.now number_size 0) most_terms c.if-n-gt-MOST_TERMS.true) (refl, refl)
-
-pub bounds-first-21-2 : goal.bounds-first-21-2
-bounds-first-21-2 c =
-    let w = c.add_words in let f = c.args.first.now in let l = sum-full f c.args.second.now w.new.first c.requires.lengths.0 w.ensures in
-    lt-length-set (w.new.first ++ drop number_size f) number_size _ (omega (arith, l))
 
 pub returns : goal.returns
 returns c =

@@ -2,14 +2,12 @@
 use mathlib.Core.Path.{◌≡◌, refl, sym, ap, ◌∙◌, subst}
 use mathlib.Core.Logic.{inl, inr}
 use mathlib.Core.Bool.{true≢false, Bool, true, false}
-use mathlib.Core.List.{List, [], ◌∷◌, ◌++◌}
+use mathlib.Core.List.{List, [], ◌++◌}
 use Prim.Native.Nat.{ℕ, suc, ◌+◌, ◌-◌, ◌≤◌, ◌<◌}
-use native.Mathlib.Nat.{le_trans, le_of_eq}
+use native.Mathlib.Nat.{le_trans}
 use native.Mathlib.Omega.{arith}
 use borrow.Author.Tests.{le-leb, ne_eqb}
 use borrow.Author.Rules.{part_to_end}
-use denote.Enum.Declared.{tag_of}
-use types.Run.{OneOf, miss}
 use lib.Dec.{eqb}
 use lib.ListN.{length, take, drop, length-drop}
 use Rattle.pattern_spec.specs.Answer.{Answer, refused}
@@ -18,7 +16,6 @@ use Rattle.accumulator_spec.specs.Totals.{TwoPatterns, pair_read, reading}
 use Rattle.accumulator.specs.Answers.{answer_read}
 use Rattle.accumulator.specs.declared.Reading.{Reading}
 use Rattle.accumulator.specs.declared.Reading.TheVariants as the-reading
-use Rattle.accumulator.specs.contracts.Reading as reading-type
 use Rattle.transcript_spec.specs.Texts.{total_text, end_text, line_room}
 use Rattle.transcript_spec.specs.Buffers.{written, after_writing, Put, Writes}
 use Rattle.transcript_spec.proofs.Parts.{nothing, wrote, as_long, after-part}
@@ -37,8 +34,8 @@ use Rattle.sheet_feed.specs.Inner.{LastLine}
 use Rattle.sheet_feed.proofs.Stepped.{ends-soundly}
 
 -- ---- the total
-not-read : (r : Reading) → OneOf (1 ∷ 2 ∷ []) (tag_of reading-type.the_type r) → (k : ℕ) × (answer_read r ≡ refused k)
-not-read (the-reading.Pair first second) h = absurd (miss (1 ∷ 2 ∷ []) 0 tt h)
+not-read : (r : Reading) → ((first second : ℕ) → r ≡ the-reading.Pair first second → ⊥) → (k : ℕ) × (answer_read r ≡ refused k)
+not-read (the-reading.Pair first second) h = absurd (h first second refl)
 not-read the-reading.Length h = (5, refl)
 not-read the-reading.Unfit h = (6, refl)
 
@@ -50,7 +47,7 @@ no_text : (out : List ℕ) → Writes out [] 0 out
 unfolding written after_writing
 no_text out = rw (le-leb 0 (length out) (omega arith)) (refl, refl)
 
-pub no-total : (r : Reading) (a : Answer TwoPatterns) (out : List ℕ) → OneOf (1 ∷ 2 ∷ []) (tag_of reading-type.the_type r) → answer_read r ≡ a → Writes out (read_text a) 0 out
+pub no-total : (r : Reading) (a : Answer TwoPatterns) (out : List ℕ) → ((first second : ℕ) → r ≡ the-reading.Pair first second → ⊥) → answer_read r ≡ a → Writes out (read_text a) 0 out
 no-total r a out h e = let k = not-read r h in subst (λ (b : Answer TwoPatterns). Writes out (read_text b) 0 out) (sym k.1 ∙ e) (no_text out)
 
 -- ---- the last two lines

@@ -1,14 +1,12 @@
 -- One line answered: what is added to the total, its text, and the position after it.
 use mathlib.Core.Path.{◌≡◌, refl, sym, ap, ◌∙◌, subst}
 use mathlib.Core.Bool.{Bool, true, false, cond}
-use mathlib.Core.List.{List, [], ◌∷◌}
+use mathlib.Core.List.{List, []}
 use Prim.Native.Nat.{ℕ, suc, ◌+◌, ◌≤◌}
 use native.Mathlib.Nat.{le_trans}
 use native.Mathlib.Numerals.{add-one}
 use native.Mathlib.Omega.{arith}
 use borrow.Author.Tests.{le-leb}
-use denote.Enum.Declared.{tag_of}
-use types.Run.{OneOf, miss}
 use lib.ListN.{length, take}
 use lib.Seq.{length-take-le}
 use Rattle.pattern_spec.specs.Answer.{Answer, refused, refusal_of, is_done}
@@ -18,14 +16,12 @@ use Rattle.worksheet_spec.specs.Filling.{FilledSheet, filled, filling, after_fil
 use Rattle.worksheet.specs.Answers.{answer_filled}
 use Rattle.worksheet.specs.declared.Filled.{Filled}
 use Rattle.worksheet.specs.declared.Filled.TheVariants as the-filled
-use Rattle.worksheet.specs.contracts.Filled as filled-type
 use Rattle.accumulator_spec.specs.Totals.{of_pattern, after_adding}
 use Rattle.accumulator_spec.specs.Columns.{column}
 use Rattle.question_spec.specs.Questions.{Asked, asked, read_question}
 use Rattle.question.specs.Answers.{answer_question}
 use Rattle.question.specs.declared.Question.{Question}
 use Rattle.question.specs.declared.Question.TheVariants as the-question
-use Rattle.question.specs.contracts.Question as question-type
 use Rattle.transcript_spec.specs.Texts.{answered_text, bad_text, line_room}
 use Rattle.transcript_spec.specs.Buffers.{written, after_writing, Writes}
 use Rattle.transcript_spec.proofs.Parts.{wrote}
@@ -50,8 +46,8 @@ nothing : (out : List ℕ) → Writes out [] 0 out
 unfolding written after_writing
 nothing out = rw (le-leb 0 (length out) (omega arith)) (refl, refl)
 
-not-filled : (r : Filled) → OneOf (1 ∷ 2 ∷ []) (tag_of filled-type.the_type r) → (k : ℕ) × (answer_filled r ≡ refused k)
-not-filled (the-filled.Sheet lines pair) h = absurd (miss (1 ∷ 2 ∷ []) 0 tt h)
+not-filled : (r : Filled) → ((lines : ℕ) (pair : Pair) → r ≡ the-filled.Sheet lines pair → ⊥) → (k : ℕ) × (answer_filled r ≡ refused k)
+not-filled (the-filled.Sheet lines pair) h = absurd (h lines pair refl)
 not-filled the-filled.Operation h = (10, refl)
 not-filled the-filled.Words h = (9, refl)
 
@@ -69,7 +65,7 @@ module _ (number o x y : ℕ) (total out : List ℕ) where
   sheet-answered lines p words n total' out' e f t w =
       subst (λ (ws : List ℕ). Asks (filling o x y blank) ws n total' out') f (subst (λ (b : Answer FilledSheet). Asks b words n total' out') e (w, t))
 
-  pub no-sheet : (r : Filled) → OneOf (1 ∷ 2 ∷ []) (tag_of filled-type.the_type r) → answer_filled r ≡ filling o x y blank → Answers 0 total out
+  pub no-sheet : (r : Filled) → ((lines : ℕ) (pair : Pair) → r ≡ the-filled.Sheet lines pair → ⊥) → answer_filled r ≡ filling o x y blank → Answers 0 total out
   unfolding filled_text line_text column
   no-sheet r h e =
       let k = not-filled r h in
@@ -82,8 +78,8 @@ as_many line n h e = sym (length-take-le n line (omega arith))
 progress-is : (m n g h : ℕ) (t u : List ℕ) → m ≡ n → g ≡ h → t ≡ u → ◌≡◌ {A = Progress} (record { lines = m; good = g; total = t }) (record { lines = n; good = h; total = u })
 progress-is m n g h t u e f k = cc
 
-not-asked : (q : Question) → OneOf (1 ∷ 2 ∷ 3 ∷ 4 ∷ []) (tag_of question-type.the_type q) → refused (refusal_of (answer_question q)) ≡ answer_question q
-not-asked (the-question.Asked o x y) h = absurd (miss (1 ∷ 2 ∷ 3 ∷ 4 ∷ []) 0 tt h)
+not-asked : (q : Question) → ((o x y : ℕ) → q ≡ the-question.Asked o x y → ⊥) → refused (refusal_of (answer_question q)) ≡ answer_question q
+not-asked (the-question.Asked o x y) h = absurd (h o x y refl)
 not-asked the-question.Length h = refl
 not-asked the-question.Letters h = refl
 not-asked the-question.Tab h = refl
@@ -114,7 +110,7 @@ module _ (p : Position) (kept total out : List ℕ) (whole : length (take p.leng
       → LineEnds p kept total out (line_ended p 1 n) total' out'
   good-ends o x y e n total' out' s = ends (asked o x y) e n total' out' s.1 s.0
 
-  pub bad-ends : (q : Question) → OneOf (1 ∷ 2 ∷ 3 ∷ 4 ∷ []) (tag_of question-type.the_type q) → answer_question q ≡ read_question (take p.length kept) → (k : ℕ) → k ≡ refusal_of (answer_question q)
+  pub bad-ends : (q : Question) → ((o x y : ℕ) → q ≡ the-question.Asked o x y → ⊥) → answer_question q ≡ read_question (take p.length kept) → (k : ℕ) → k ≡ refusal_of (answer_question q)
       → (n : ℕ) (out' : List ℕ) → Writes out (bad_text (p.lines + 1) k) n out' → LineEnds p kept total out (line_ended p 0 n) total out'
   unfolding line_text column
   bad-ends q h e k f n out' w = ends (refused k) (ap refused f ∙ not-asked q h ∙ e) n total out' refl w

@@ -1,5 +1,4 @@
 use mathlib.Core.Path.{refl}
-use Prim.Native.Nat.{◌-◌}
 use native.Mathlib.Omega.{arith}
 use borrow.Author.Rules.{rules}
 use Rattle.sheet_feed.proofs.Feeding.{none-taken, room-for-line, used-within, one-taken, feeds}
@@ -35,12 +34,11 @@ byte-next-requires c =
 
 pub overflow_add-used : goal.overflow_add-used
 overflow_add-used c =
-    let good = c.well-formed in let l = c.loop-b in let more = c.more in let if1 = c.loop-b-test in let byte = c.byte-next in let h = c.loop-b.invariant.0 in
-    omega (arith, good.1.1.1.1.0, h.long, used-within _ _ _ _ _ _ _ h (more_left _ _ _ _ more.ensures if1.true).1 _ _ _ byte.ensures)
+    let l = c.loop-b in let more = c.more in let if1 = c.loop-b-test in let byte = c.byte-next in let h = c.loop-b.invariant.0 in omega (arith, h.long, used-within _ _ _ _ _ _ _ h (more_left _ _ _ _ more.ensures if1.true).1 _ _ _ byte.ensures)
 
 pub overflow_add-at : goal.overflow_add-at
 overflow_add-at c =
-    let good = c.well-formed in let more = c.more in let if1 = c.loop-b-test in let byte = c.byte-next in omega (arith, good.0, byte.ensures.taken, (more_left _ _ _ _ more.ensures if1.true).0)
+    let more = c.more in let if1 = c.loop-b-test in let byte = c.byte-next in omega (arith, byte.ensures.taken, (more_left _ _ _ _ more.ensures if1.true).0)
 
 pub loop-b-smaller : goal.loop-b-smaller
 loop-b-smaller c =

@@ -5,9 +5,17 @@ use Rattle.sheet_line.proofs.answer.Goals as goal
 
 pub returns-in_default : goal.returns-in_default
 returns-in_default c =
-    let fill = c.fill-sheet in no-sheet _ _ _ _ _ _ fill.result c.in_default.keys2 fill.ensures.0
+    let a = c.args in
+    let fill = c.fill-sheet in
+    let none = no-sheet a.number a.operation a.x a.y a.total.now a.out.now fill.result c.in_default.not-Sheet fill.ensures.0 in
+    record { writes = none.0; total_after = none.1 }
 
 pub returns : goal.returns
 returns c =
-    let fill = c.fill-sheet.ensures in let sheet = c.sheet-1 in let halves = c.halves in
-    sheet-answered _ _ _ _ _ _ _ _ _ _ _ _ (ap answer_filled (sym c.in-Sheet.is) ∙ fill.0) fill.1 halves.ensures c.answered.ensures
+    let a = c.args in
+    let fill = c.fill-sheet.ensures in
+    let sheet = c.in-Sheet in
+    let answered =
+    sheet-answered a.number a.operation a.x a.y a.total.now a.out.now sheet.lines sheet.pair c.fill-sheet.new.words c.answered.result c.halves.new.total c.answered.new.out
+    (ap answer_filled (sym sheet.is) ∙ fill.0) fill.1 c.halves.ensures c.answered.ensures in
+    record { writes = answered.0; total_after = answered.1 }

@@ -4,8 +4,8 @@ use Rattle.sheet_feed.proofs.Closing.{total-written, no-total}
 use Rattle.sheet_feed.proofs.last.total_line.Goals as goal
 
 pub returns-in_default : goal.returns-in_default
-returns-in_default c = no-total c.read.result _ _ c.in_default.keys2 c.read.ensures
+returns-in_default c = no-total c.read.result _ _ c.in_default.not-Pair c.read.ensures
 
 pub returns : goal.returns
 returns c =
-    let read = c.read in let first = c.first-1 in let total = c.total in total-written _ _ _ _ _ _ (ap answer_read (sym c.in-Pair.is) ∙ read.ensures) total.ensures
+    let read = c.read in let total = c.total in total-written _ _ _ _ _ _ (ap answer_read (sym c.in-Pair.is) ∙ read.ensures) total.ensures

@@ -7,8 +7,8 @@ returns-then-position-eq-MOST_INPUT_LINES c = step-stops _ _ _ c.requires.0 _ _ 
 
 pub returns-then-b-eq10 : goal.returns-then-b-eq10
 returns-then-b-eq10 c =
-    let pre = c.before.before.before.before.before.before.before.before.before.before.before.before.before.requires in
-    let if1 = c.if1 in let if2 = c.if2 in let end_line = c.end_line-ended in step-ends _ _ _ pre.0 _ _ _ (not_full _ pre.0 if1.false) _ _ if2.true end_line.ensures
+    let p = c.requires.0 in
+    step-ends _ _ _ p _ _ _ (not_full _ p c.if-position-eq-MOST_INPUT_LINES.false) _ _ c.if-b-eq10.true c.end_line-ended.ensures
 
 pub extended-requires : goal.extended-requires
 extended-requires c = (c.requires.0, not_full _ c.requires.0 c.if-position-eq-MOST_INPUT_LINES.false)

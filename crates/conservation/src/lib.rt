@@ -31,10 +31,10 @@ pub fn replay(
     other: &mut [u32],
 ) -> Replayed
     ensures { Replays
-        (record { operations = operations.entry.now; xs = xs.now; ys = ys.now; counts = counts.now })
-        (record { words = words.entry.now; totals = record { first = first.entry.now; other = other.old } })
+        (record { operations = operations.now; xs = xs.now; ys = ys.now; counts = counts.now })
+        (record { words = words.old; totals = record { first = first.old; other = other.old } })
         (answer_replayed result)
-        (record { words = words.exit.now; totals = record { first = first.exit.now; other = other.new } }) }
+        (record { words = words.new; totals = record { first = first.new; other = other.new } }) }
 {
     let answer = fitting::answer(operations, xs, ys, counts, words, first, other);
     if fitting::is_refusal(answer) {
@@ -57,10 +57,10 @@ fn ask_all(
     requires lengths { (length xs.now ≡ length operations.now) × (length ys.now ≡ length operations.now)
         × (length counts.now ≡ length operations.now) }
     requires within { all_within counts.now (length words.old) ≡ true }
-    ensures { record { words = words.exit.now; totals = record { first = first.exit.now; other = other.new } }
-        ≡ after_asking
-        (record { operations = operations.entry.now; xs = xs.now; ys = ys.now; counts = counts.now })
-        (record { words = words.entry.now; totals = record { first = first.entry.now; other = other.old } }) }
+    ensures { after_asking
+        (record { operations = operations.now; xs = xs.now; ys = ys.now; counts = counts.now })
+        (record { words = words.old; totals = record { first = first.old; other = other.old } })
+        ≡ record { words = words.new; totals = record { first = first.new; other = other.new } } }
 {
     let mut i: usize = 0;
     while i < operations.len() {

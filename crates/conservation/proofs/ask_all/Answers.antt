@@ -4,16 +4,10 @@ use Prim.Native.Nat.{ℕ, ◌-◌, ◌<◌}
 use native.Mathlib.Omega.{arith}
 use lib.ListN.{get_or, length}
 use lib.Seq.{length-take-le, length_front}
-use Rattle.conservation_spec.specs.Replay.{Asking, Lent}
+use Rattle.conservation.proofs.Records.{asking, lent}
 use Rattle.conservation_spec.proofs.Events.{nothing_left, next-question}
 use Rattle.conservation_spec.proofs.Misfits.{within-at}
 use Rattle.conservation.proofs.ask_all.Goals as goal
-
-abbrev lent : List ℕ → List ℕ → List ℕ → Lent
-lent words first other = record { words = words; totals = record { first = first; other = other } }
-
-abbrev asking : List ℕ → List ℕ → List ℕ → List ℕ → Asking
-asking operations xs ys counts = record { operations = operations; xs = xs; ys = ys; counts = counts }
 
 pub loop-i-init : goal.loop-i-init
 loop-i-init c = (omega arith, refl, refl, refl, refl)
@@ -36,10 +30,10 @@ loop-i-preserved c =
     let l = c.loop-i in let a = c.args in let inside : l.i < length a.operations.now = omega arith in
     let p = c.requires.lengths in let s = c.settle in let q = asking a.operations.now a.xs.now a.ys.now a.counts.now in
     let k = next-question q l.i inside p.0 p.1 p.2 l.words _ _ _ s.ensures in
-    let long = length_front l.words s.new.first.1.1.0 (get_or a.counts.now l.i 0) s.auto.1.1.1.0 in
-    (omega arith, long ∙ l.invariant.1, s.auto.1.1.1.1.0 ∙ l.invariant.2, s.auto.1.1.1.1.1.0 ∙ l.invariant.3, k ∙ l.invariant.4)
+    let long = length_front l.words s.new.words (get_or a.counts.now l.i 0) s.auto.words in
+    (omega arith, long ∙ l.invariant.1, s.auto.first ∙ l.invariant.2, s.auto.other ∙ l.invariant.3, k ∙ l.invariant.4)
 
 pub returns : goal.returns
 returns c =
     let l = c.loop-i in let a = c.args in let k = nothing_left (asking a.operations.now a.xs.now a.ys.now a.counts.now) l.i (lent l.words l.first l.other) (omega arith) in
-    sym k ∙ l.invariant.4
+    sym l.invariant.4 ∙ k

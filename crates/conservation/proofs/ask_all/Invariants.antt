@@ -2,6 +2,7 @@ use mathlib.Core.Path.{◌≡◌}
 use Prim.Native.Nat.{◌-◌, ◌≤◌}
 use lib.ListN.{length}
 use Rattle.conservation_spec.proofs.Events.{left_from}
+use Rattle.conservation.proofs.Records.{asking, lent}
 use Rattle.conservation.proofs.ask_all.Given as goal
 
 abbrev pub invariant-loop-i : goal.invariant-loop-i

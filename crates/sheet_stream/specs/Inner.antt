@@ -1,7 +1,6 @@
 -- What is done with a read's answer and at the input's end (R9.1, R9.12). What the calls themselves read and wrote, `Written` says where a
 -- reader or a writer says it.
-use Rattle.std.specs.Prelude.{ℕ, zero, suc, ◌≤◌, ◌≡◌, ◌⊎◌, Bool, true, false, not, List, take, Ok, Err}
-use Rattle.core.specs.declared.result.Result.{Result}
+use Rattle.std.specs.Prelude.{ℕ, zero, suc, ◌≤◌, ◌≡◌, ◌⊎◌, Bool, true, false, not, List, take, Ok, Err, Result}
 use Rattle.transcript_spec.specs.Texts.{line_room}
 use Rattle.sheet_spec.specs.States.{State, take_bytes}
 use Rattle.sheet_spec.specs.Calls.{Ends}

@@ -1,8 +1,6 @@
 -- What a run writes (R9, R9.12), where the reader says which bytes it has left, and the writer which bytes it holds.
-use Rattle.std.specs.Prelude.{ℕ, ◌≤◌, ◌<◌, ◌≡◌, ◌⊎◌, Bool, true, false, List, ◌++◌, length, take, IfSome, Ok, Err}
+use Rattle.std.specs.Prelude.{ℕ, ◌≤◌, ◌<◌, ◌≡◌, ◌⊎◌, Bool, true, false, List, ◌++◌, length, take, IfSome, Ok, Err, Option, Result}
 use Rattle.std.specs.Io.KnownBytes.{Keeps, Appends}
-use Rattle.core.specs.declared.option.Option.{Option}
-use Rattle.core.specs.declared.result.Result.{Result}
 use Rattle.transcript_spec.specs.Texts.{line_room}
 use Rattle.sheet_spec.specs.Printed.{output}
 use Rattle.sheet_spec.specs.States.{State, bytes_text, close_text}

@@ -6,6 +6,7 @@
 // A read or a write that fails is said on standard error, where it failed, and nothing more is printed (R9.12): a text without its last
 // lines is not taken for a whole one.
 #![tactic(auto)]
+
 mod saying;
 
 ghost use Rattle.std.specs.Prelude.{◌≡◌, ◌≤◌, ◌&&◌, true, false, not, length, OnOk, OnErr};
@@ -151,7 +152,8 @@ fn take<W: Write, E: Write>(
                 whole: false,
             };
         }
-        if taken == 0 {
+        let none = taken == 0;
+        if none {
             return Passed {
                 position: here,
                 whole: true,

@@ -1,6 +1,7 @@
 // The same library as `sheet`, on files of data/: what it prints is held to a model's text. Then on as many empty lines as are taken
 // (R8.11), and on a byte after them: of these texts, which are long, the end is printed.
 #![tactic(auto)]
+
 use std::fs::File;
 use std::io;
 use std::io::{Read, Seek, SeekFrom, Write};

@@ -64,7 +64,8 @@ going s b e h = rw (e, h) (by _)
     by true = refl
     by false = refl
 
-left-more : (s : State) (b : ℕ) (bs : List ℕ) → s.stopped ≡ false → (c : Bool) → full s ≡ c → ((take_byte s b).stopped ≡ false → 0 < length (left_text (take_byte s b) bs)) → 0 < length (left_text s (b ∷ bs))
+left-more : (s : State) (b : ℕ) (bs : List ℕ) → s.stopped ≡ false → (c : Bool) → full s ≡ c
+    → ((take_byte s b).stopped ≡ false → 0 < length (left_text (take_byte s b) bs)) → 0 < length (left_text s (b ∷ bs))
 unfolding bytes_text take_bytes
 left-more s b bs e c h more = by c h
   where

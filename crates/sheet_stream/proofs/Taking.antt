@@ -62,7 +62,8 @@ module _ (bytes : List ℕ) (s : State) (at : ℕ) where
     pub wrote_after-stop : (t : State) → t ≡ take_bytes s (take at bytes) → t.stopped ≡ true → Appends w v (bytes_text s (take at bytes)) → Wrote w v true (bytes_text s bytes)
     wrote_after-stop t e h a = wrote_all w v (bytes_text s bytes) (subst (λ (l : List ℕ). Appends w v l) (text-after-stop t e h) a)
 
-    pub wrote_by-stop : (p : Position) (line total : List ℕ) → state_of p line total ≡ take_bytes s (take at bytes) → p.stopped ≡ true → Appends w v (bytes_text s (take at bytes)) → Wrote w v true (bytes_text s bytes)
+    pub wrote_by-stop : (p : Position) (line total : List ℕ) → state_of p line total ≡ take_bytes s (take at bytes) → p.stopped ≡ true
+        → Appends w v (bytes_text s (take at bytes)) → Wrote w v true (bytes_text s bytes)
     wrote_by-stop p line total e h a = wrote_after-stop (state_of p line total) e (halted p line total (has-stopped p h)) a
 
     pub wrote_part-so_far : AppendsPart w v (bytes_text s (take at bytes)) → Wrote w v false (bytes_text s bytes)

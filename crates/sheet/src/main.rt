@@ -1,8 +1,6 @@
 // Model sheets of the questions on standard input.
 #![tactic(auto)]
 
-use libc::{STDIN_FILENO, STDOUT_FILENO};
-
-fn main() {
-    sheet_stream::run(STDIN_FILENO, STDOUT_FILENO);
+fn main(rt: HostRuntime) {
+    sheet_stream::run(&mut rt.stdin(), &mut rt.stdout(), &mut rt.stderr());
 }

@@ -2,66 +2,54 @@
 // (R8.11), and on a byte after them: of these texts, which are long, the end is printed.
 #![tactic(auto)]
 
-use libc::STDOUT_FILENO;
+use std::fs::File;
+use std::io;
+use std::io::{Read, Seek, SeekFrom, Write};
 
 // Where the text of line 32,768 begins, after those of 32,767 empty lines.
-const LAST_LINE: i64 = 382098;
+const LAST_LINE: u64 = 382098;
 
-fn of_file(name: &[u8], output: i32) {
-    let file = os::open_read(name);
-    if file < 0 {
-        os::fail(name);
-        return;
-    }
-    sheet_stream::run(file, output);
-    libc::close(file);
+fn of_file<W: Write>(rt: &HostRuntime, name: &str, output: &mut W) -> io::Result<()> {
+    let mut file = File::open(rt, name)?;
+    sheet_stream::run(&mut file, output, &mut rt.stderr());
+    Ok(())
 }
 
 // 32,768 newlines, and the bytes after them. The files are made in the folder that the program is run in, which has a copy of data/.
-fn of_newlines(after: &[u8]) {
-    let input = os::open_overwrite(b"input");
-    if input < 0 {
-        os::fail(b"input");
-        return;
-    }
+fn of_newlines(rt: &HostRuntime, after: &[u8]) -> io::Result<()> {
+    write_newlines(rt, after)?;
+    let mut output = File::create(rt, "output")?;
+    of_file(rt, "input", &mut output)?;
+    show_from(rt, "output", LAST_LINE)
+}
+
+fn write_newlines(rt: &HostRuntime, after: &[u8]) -> io::Result<()> {
+    let mut input = File::create(rt, "input")?;
     let newlines = [b'\n'; 32768];
-    io::write_all(input, &newlines);
-    io::write_all(input, after);
-    libc::close(input);
-    let output = os::open_overwrite(b"output");
-    if output < 0 {
-        os::fail(b"output");
-        return;
-    }
-    of_file(b"input", output);
-    libc::close(output);
-    show_from(b"output", LAST_LINE);
+    input.write_all(&newlines)?;
+    input.write_all(after)
 }
 
 // The bytes of a file from this one on, 64 at most.
-fn show_from(name: &[u8], at: i64) {
-    let file = os::open_read(name);
-    if file < 0 {
-        os::fail(name);
-        return;
-    }
+fn show_from(rt: &HostRuntime, name: &str, at: u64) -> io::Result<()> {
+    let mut file = File::open(rt, name)?;
+    file.seek(SeekFrom::Start(at))?;
     let mut bytes = [0u8; 64];
-    let got = libc::pread(file, &mut bytes, at);
-    let n = io::count(got, &bytes);
-    io::write_all(STDOUT_FILENO, &bytes[..n]);
-    libc::close(file);
+    let n = file.read(&mut bytes)?;
+    rt.stdout().write_all(&bytes[..n])
 }
 
-fn main() {
-    of_file(b"example", STDOUT_FILENO);
-    of_file(b"branches", STDOUT_FILENO);
-    of_file(b"refusals", STDOUT_FILENO);
-    of_file(b"cases", STDOUT_FILENO);
-    of_file(b"unended", STDOUT_FILENO);
-    of_file(b"empty", STDOUT_FILENO);
-    of_file(b"minus_zero", STDOUT_FILENO);
-    of_file(b"minus_zeros", STDOUT_FILENO);
-    of_file(b"plus_zero", STDOUT_FILENO);
-    of_newlines(b"");
-    of_newlines(b"x");
+fn main(rt: HostRuntime) -> io::Result<()> {
+    let mut output = rt.stdout();
+    of_file(&rt, "example", &mut output)?;
+    of_file(&rt, "branches", &mut output)?;
+    of_file(&rt, "refusals", &mut output)?;
+    of_file(&rt, "cases", &mut output)?;
+    of_file(&rt, "unended", &mut output)?;
+    of_file(&rt, "empty", &mut output)?;
+    of_file(&rt, "minus_zero", &mut output)?;
+    of_file(&rt, "minus_zeros", &mut output)?;
+    of_file(&rt, "plus_zero", &mut output)?;
+    of_newlines(&rt, b"")?;
+    of_newlines(&rt, b"x")
 }

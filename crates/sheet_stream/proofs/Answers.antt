@@ -1,51 +1,28 @@
 -- What a read's answer leads to, and what is left to print.
-use mathlib.Core.Path.{◌≡◌, refl, sym, ap, ◌∙◌}
+use mathlib.Core.Path.{◌≡◌, refl, sym, ap, ◌∙◌, subst}
 use mathlib.Core.Logic.{◌⊎◌, inl, inr}
 use mathlib.Core.Bool.{true≢false, Bool, true, false, not}
-use mathlib.Core.List.{List}
+use mathlib.Core.List.{List, []}
 use Prim.Native.Nat.{ℕ, zero, suc, ◌≤◌, min}
 use native.Mathlib.Omega.{arith}
 use native.Mathlib.Decide.{dec_le}
-use borrow.Author.Tests.{ltb-true, not-false}
-use lib.IntN.{ℤ, pos, negsuc}
-use lib.Signed.{lt_z}
 use lib.ListN.{length, take}
 use lib.Seq.{take_all}
-use Rattle.io.specs.Counts.{clamp_len}
+use Rattle.std.specs.Prelude.{Option, Result, Ok}
 use Rattle.transcript_spec.specs.Texts.{line_room}
-use Rattle.sheet_spec.specs.States.{State, take_bytes}
+use Rattle.sheet_spec.specs.States.{State, take_bytes, bytes_text}
 use Rattle.sheet_spec.specs.Positions.{goes_on, state_of}
 use Rattle.sheet_spec.specs.Calls.{Ends}
 use Rattle.sheet_spec.specs.declared.Position.{Position}
 use Rattle.sheet_stream.specs.declared.Passed.{Passed}
 use Rattle.sheet_stream.specs.declared.Standing.{Standing}
-use Rattle.sheet_stream.specs.Inner.{halted_at, TakesAll, AfterRead, Closes}
+use Rattle.sheet_stream.specs.Inner.{TakesAll, AfterRead, Closes}
+use Rattle.sheet_stream.specs.Written.{Wrote, PassWrites}
+use Rattle.sheet_stream.proofs.Writing.{wrote_none, wrote_at}
 
 -- ---- a read's answer
-module _ (bytes : List ℕ) (room : ℕ) (p : Position) (line total : List ℕ) (r : Standing) where
-  -- where nothing is taken the lent arrays stay
-  state-kept : (whole : Bool) → r ≡ halted_at p whole → (r ≡ halted_at r.position whole) × (state_of r.position line total ≡ state_of p line total)
-  state-kept whole e = let q : r.position ≡ p = ap (λ (t : Standing). t.position) e in (e ∙ ap (λ (v : Position). halted_at v whole) (sym q), ap (λ (v : Position). state_of v line total) q)
-
-  pub failed-follows : (z : ℤ) → lt_z z (pos 0) ≡ true → r ≡ halted_at p false → AfterRead z bytes room (state_of p line total) r (state_of r.position line total)
-  failed-follows (pos n) h e = absurd (omega (arith, ltb-true n 0 h))
-  failed-follows (negsuc k) h e = state-kept false e
-
-  pub ended-follows : (z : ℤ) → z ≡ pos 0 → r ≡ halted_at p true → AfterRead z bytes room (state_of p line total) r (state_of r.position line total)
-  ended-follows (pos zero) h e = state-kept true e
-  ended-follows (pos (suc k)) h e = absurd (omega (arith, ap size h))
-    where
-      size : ℤ → ℕ
-      size (pos n) = n
-      size (negsuc n) = 0
-  ended-follows (negsuc k) h e = absurd (true≢false (ap sign h))
-    where
-      sign : ℤ → Bool
-      sign (pos n) = false
-      sign (negsuc n) = true
-
 -- so many bytes as there are
-take-least : (k : ℕ) (bytes : List ℕ) → take (min k (length bytes)) bytes ≡ take k bytes
+pub take-least : (k : ℕ) (bytes : List ℕ) → take (min k (length bytes)) bytes ≡ take k bytes
 take-least k bytes =
     elim (dec_le k (length bytes)) [
       | yes h ↦ let e : min k (length bytes) ≡ k = omega (arith, h) in ap (λ (n : ℕ). take n bytes) e
@@ -63,21 +40,32 @@ not_stopped p line total = by (goes_on p)
     by true = refl
     by false = refl
 
-module _ (bytes : List ℕ) (room : ℕ) (s : State) (r : Passed) (line total : List ℕ) where
-  abbrev after : State
-  after = state_of r.position line total
-
+module _ {E : Type 0} (got : Result ℕ E) (bytes : List ℕ) (room : ℕ) (s : State) (r : Passed) (line total : List ℕ) where
   -- bytes that were taken, with all that they print written or not
-  pub taken : (z : ℤ) → (lt_z z (pos 0) ≡ false) → (z ≡ pos 0 → ⊥) → (n : ℕ) → n ≡ clamp_len z (length bytes) → TakesAll (take n bytes) room s r after
+  pub taken : (n : ℕ) → got ≡ Ok n → (n ≡ 0 → ⊥) → (k : ℕ) → k ≡ min n (length bytes) → TakesAll (take k bytes) room s r (state_of r.position line total)
       → (m : Bool) → (r.whole ≡ true → m ≡ goes_on r.position) → (r.whole ≡ false → m ≡ false)
-      → AfterRead z bytes room s (record { position = r.position; whole = r.whole; more = m }) after
-  taken (negsuc k) h z n e t m going stops = absurd (true≢false h)
-  taken (pos zero) h z n e t m going stops = absurd (z refl)
-  taken (pos (suc k)) h z n e t m going stops = (
-    stops,
-    (λ w. going w ∙ not_stopped r.position line total),
-    (λ room w. t room w ∙ ap (λ (l : List ℕ). take_bytes s l) (ap (λ (n : ℕ). take n bytes) e ∙ take-least (suc k) bytes)),
-  )
+      → AfterRead got bytes room s (record { position = r.position; whole = r.whole; more = m }) (state_of r.position line total)
+  taken zero is z k e t m going stops = absurd (z refl)
+  taken (suc n) is z k e t m going stops =
+      subst (λ (g : Result ℕ E). AfterRead g bytes room s (record { position = r.position; whole = r.whole; more = m }) (state_of r.position line total)) (sym is) (
+        stops,
+        (λ w. going w ∙ not_stopped r.position line total),
+        (λ room w. t room w ∙ ap (λ (l : List ℕ). take_bytes s l) (ap (λ (n : ℕ). take n bytes) e ∙ take-least (suc n) bytes)),
+      )
+
+-- ---- what is written after a read's answer
+module _ {E : Type 0} (got : Result ℕ E) (n : ℕ) (is : got ≡ Ok n) (bytes : List ℕ) (room : ℕ) (s : State) where
+  module _ (w v : Option (List ℕ)) (r : Standing) where
+    pub wrote_so-many : (k : ℕ) → k ≡ min n (length bytes) → (line_room ≤ room → Wrote w v r.whole (bytes_text s (take k bytes))) → PassWrites got bytes room s w v r
+    wrote_so-many k e h =
+        subst (λ (g : Result ℕ E). PassWrites g bytes room s w v r) (sym is)
+        (λ f. wrote_at w v r.whole (bytes_text s (take k bytes)) (bytes_text s (take n bytes)) (ap (bytes_text s) (ap (λ (n : ℕ). take n bytes) e ∙ take-least n bytes)) (h f))
+
+  pub wrote_none-read : (w : Option (List ℕ)) (r : Standing) → n ≡ 0 → r.whole ≡ true → PassWrites got bytes room s w w r
+  unfolding bytes_text
+  wrote_none-read w r e h =
+      subst (λ (g : Result ℕ E). PassWrites g bytes room s w w r) (sym (is ∙ ap {B = Result ℕ E} (λ (k : ℕ). Ok k) e))
+      (λ f. subst (λ (b : Bool). Wrote w w b []) (sym h) (wrote_none w))
 
 -- ---- what is left to print
 module _ (h : Standing) (line total out : List ℕ) where

@@ -1,3 +1,6 @@
 pub mod Within
+pub mod Writing
+pub mod LastText
 pub mod Taking
 pub mod Answers
+pub mod Running

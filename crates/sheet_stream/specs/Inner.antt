@@ -1,5 +1,6 @@
--- What is done with a read's answer and at the input's end (R9.1, R9.12). What the calls themselves read and wrote no contract says.
-use Rattle.std.specs.Prelude.{ℕ, zero, suc, ◌≤◌, ◌≡◌, ◌⊎◌, Bool, true, false, not, List, ℤ, pos, negsuc, take}
+-- What is done with a read's answer and at the input's end (R9.1, R9.12). What the calls themselves read and wrote, `Written` says where a
+-- reader or a writer says it.
+use Rattle.std.specs.Prelude.{ℕ, zero, suc, ◌≤◌, ◌≡◌, ◌⊎◌, Bool, true, false, not, List, take, Ok, Err, Result}
 use Rattle.transcript_spec.specs.Texts.{line_room}
 use Rattle.sheet_spec.specs.States.{State, take_bytes}
 use Rattle.sheet_spec.specs.Calls.{Ends}
@@ -15,13 +16,13 @@ TakesAll bytes room s r after = line_room ≤ room → r.whole ≡ true → afte
 abbrev pub halted_at : Position → Bool → Standing
 halted_at p whole = record { position = p; whole = whole; more = false }
 
--- From a read's answer to what is done next. Below 0 the read failed: nothing is taken, and neither a read nor the last lines follow. At 0
+-- From a read's answer to what is done next. Where the read failed nothing is taken, and neither a read nor the last lines follow. At 0
 -- the input has ended. Of any other number so many bytes are taken, given room for a line's text, and another read follows unless the run
--- has stopped or is not whole. That a run is not whole where a write failed is the code's: no contract says what was written.
-abbrev pub AfterRead : ℤ → List ℕ → ℕ → State → Standing → State → Type 0
-AfterRead (negsuc k) bytes room s r after = (r ≡ halted_at r.position false) × (after ≡ s)
-AfterRead (pos zero) bytes room s r after = (r ≡ halted_at r.position true) × (after ≡ s)
-AfterRead (pos (suc k)) bytes room s r after =
+-- has stopped or is not whole.
+abbrev pub AfterRead : {E : Type 0} → Result ℕ E → List ℕ → ℕ → State → Standing → State → Type 0
+AfterRead (Err e) bytes room s r after = (r ≡ halted_at r.position false) × (after ≡ s)
+AfterRead (Ok zero) bytes room s r after = (r ≡ halted_at r.position true) × (after ≡ s)
+AfterRead (Ok (suc k)) bytes room s r after =
     (r.whole ≡ false → r.more ≡ false)
     × (r.whole ≡ true → r.more ≡ not after.stopped)
     × (line_room ≤ room → r.whole ≡ true → after ≡ take_bytes s (take (suc k) bytes))

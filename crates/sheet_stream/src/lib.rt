@@ -1,17 +1,30 @@
 // Reads questions to the input's end and writes their model sheets. Below the programs only this crate reads and writes; the text is
 // sheet_feed's.
-// No contract can say what a call read or wrote. What is done next, `pass` says of a read's answer, and `closing` of the input's end.
+// Where a reader says which bytes it has left, and a writer which bytes it holds, as those in memory do, `run`'s contract says what was
+// written. Of a file, a pipe or a terminal no contract can say what a call read or wrote. What is done next, `pass` says of any read's
+// answer, and `closing` of the input's end.
 // A read or a write that fails is said on standard error, where it failed, and nothing more is printed (R9.12): a text without its last
 // lines is not taken for a whole one.
 #![tactic(auto)]
 
-ghost use Rattle.std.specs.Prelude.{◌≡◌, length};
+mod saying;
+
+ghost use Rattle.std.specs.Prelude.{◌≡◌, ◌≤◌, ◌&&◌, true, false, not, length, OnOk, OnErr};
+ghost use Rattle.std.specs.Io.KnownBytes.{Keeps, Appends};
+ghost use Rattle.transcript_spec.specs.Texts.{line_room};
+ghost use Rattle.sheet_spec.specs.States.{bytes_text};
 ghost use Rattle.sheet_spec.specs.Positions.{state_of};
 ghost use Rattle.sheet_stream.specs.Inner.{halted_at, Closes, AfterRead, TakesAll};
+ghost use Rattle.sheet_stream.specs.Written.{AppendsPart, Wrote, PassWrites, CloseWrites, RunWrites};
 
 use accumulator_spec::TOTAL_SIZE;
 use sheet_line::position;
 use sheet_spec::{KEPT_BYTES, Position};
+use std::io;
+use std::io::{ErrorKind, Read, Write};
+
+// Bytes that are read at once, and that are written at once.
+const BUFFER_SIZE: usize = 65536;
 
 // A position, and whether every write on the way to it has done its work.
 #[derive(Clone, Copy)]
@@ -28,10 +41,15 @@ pub struct Standing {
     pub more: bool,
 }
 
+// Answers whether the whole text was written. Where a call failed, `errors` was told so.
 // A loop that is proved has to end: this one counts down from a number of reads that no run uses up, and then would close nothing.
-pub fn run(input: i32, output: i32) {
-    let mut bytes = io::large_buffer();
-    let mut out = io::large_buffer();
+pub fn run<R: Read, W: Write, E: Write>(input: &mut R, output: &mut W, errors: &mut E) -> bool
+    ensures writes { RunWrites (R.remaining input.old) (W.contents output.old) (W.contents output.new)
+        result }
+    ensures says { result ≡ true → Keeps (E.contents errors.old) (E.contents errors.new) }
+{
+    let mut bytes = [0u8; BUFFER_SIZE];
+    let mut out = [0u8; BUFFER_SIZE];
     let mut line = [0u8; KEPT_BYTES];
     let mut total = [0u32; TOTAL_SIZE];
     let mut here = Standing {
@@ -41,10 +59,11 @@ pub fn run(input: i32, output: i32) {
     };
     let mut reads = u64::MAX;
     while reads > 0 && here.more {
-        let got = libc::read(input, &mut bytes);
+        let got = input.read(&mut bytes);
         here = pass(
             got,
             output,
+            errors,
             &bytes,
             here.position,
             &mut line,
@@ -53,31 +72,38 @@ pub fn run(input: i32, output: i32) {
         );
         reads -= 1;
     }
-    close(output, here, &line, &mut total, &mut out);
+    close(output, errors, here, &line, &mut total, &mut out)
 }
 
-// From what a read answered to what is done next: below 0 it failed, and 0 is the input's end.
-fn pass(
-    got: isize,
-    output: i32,
+// From what a read answered to what is done next: it failed, or it read so many bytes, and 0 is the input's end.
+fn pass<W: Write, E: Write>(
+    got: io::Result<usize>,
+    output: &mut W,
+    errors: &mut E,
     bytes: &[u8],
     position: Position,
     line: &mut [u8; KEPT_BYTES],
     total: &mut [u32],
     out: &mut [u8],
 ) -> Standing
-    ensures { AfterRead got bytes.now (length out.old)
+    ensures next { AfterRead got bytes.now (length out.old)
         (state_of position line.old total.old) result (state_of result.position line.new total.new) }
+    ensures writes { PassWrites got bytes.now (length out.old) (state_of position line.old total.old)
+        (W.contents output.old) (W.contents output.new) result }
+    ensures says { result.whole ≡ true → Keeps (E.contents errors.old) (E.contents errors.new) }
 {
-    if got < 0 {
-        say_unread();
-        return halted(position, false);
-    }
+    let got = match got {
+        Ok(got) => got,
+        Err(why) => {
+            saying::unread(errors, why);
+            return halted(position, false);
+        }
+    };
     if got == 0 {
         return halted(position, true);
     }
-    let n = io::count(got, bytes);
-    let passed = take(output, &bytes[..n], position, line, total, out);
+    let n = got.min(bytes.len());
+    let passed = take(output, errors, &bytes[..n], position, line, total, out);
     Standing {
         position: passed.position,
         whole: passed.whole,
@@ -98,16 +124,20 @@ fn halted(position: Position, whole: bool) -> Standing
 
 // Takes all the bytes. What they print is written whenever the buffer is full, and at the last byte. A write that fails ends the run at
 // once, and so does `stop`.
-fn take(
-    output: i32,
+fn take<W: Write, E: Write>(
+    output: &mut W,
+    errors: &mut E,
     bytes: &[u8],
     position: Position,
     line: &mut [u8; KEPT_BYTES],
     total: &mut [u32],
     out: &mut [u8],
 ) -> Passed
-    ensures { TakesAll bytes.now (length out.old) (state_of position line.old total.old) result
+    ensures takes { TakesAll bytes.now (length out.old) (state_of position line.old total.old) result
         (state_of result.position line.new total.new) }
+    ensures writes { line_room ≤ length out.old → Wrote (W.contents output.old) (W.contents output.new)
+        result.whole (bytes_text (state_of position line.old total.old) bytes.now) }
+    ensures says { result.whole ≡ true → Keeps (E.contents errors.old) (E.contents errors.new) }
 {
     let mut here = position;
     let mut at: usize = 0;
@@ -116,13 +146,14 @@ fn take(
         let taken = fed.taken;
         let n = fed.written;
         here = fed.position;
-        if !wrote_all(output, &out[..n]) {
+        if !wrote_all(output, errors, &out[..n]) {
             return Passed {
                 position: here,
                 whole: false,
             };
         }
-        if taken == 0 {
+        let none = taken == 0;
+        if none {
             return Passed {
                 position: here,
                 whole: true,
@@ -136,15 +167,24 @@ fn take(
     }
 }
 
-fn close(
-    output: i32,
+// Answers whether the text is whole then.
+fn close<W: Write, E: Write>(
+    output: &mut W,
+    errors: &mut E,
     standing: Standing,
     line: &[u8; KEPT_BYTES],
     total: &mut [u32],
     out: &mut [u8],
-) {
+) -> bool
+    ensures writes { CloseWrites standing (length out.old) (state_of standing.position line.now total.old)
+        (W.contents output.old) (W.contents output.new) result }
+    ensures says { result ≡ true → Keeps (E.contents errors.old) (E.contents errors.new) }
+{
     let n = closing(standing, line, total, out);
-    wrote_all(output, &out[..n]);
+    if !wrote_all(output, errors, &out[..n]) {
+        return false;
+    }
+    ended(standing)
 }
 
 // What is left to print: nothing where a call failed, and nothing before the input's end.
@@ -161,15 +201,41 @@ fn closing(standing: Standing, line: &[u8; KEPT_BYTES], total: &mut [u32], out: 
     sheet_feed::finish(standing.position, line, total, out)
 }
 
-// Whether all of the text was written; where it was not, this is said.
-fn wrote_all(output: i32, text: &[u8]) -> bool {
-    if io::write_all(output, text) {
-        return true;
-    }
-    os::fail(b"sheet: the sheets cannot be written");
-    false
+// Whether every call has done its work, up to the input's end or to `stop`.
+fn ended(standing: Standing) -> bool
+    ensures { result ≡ (standing.whole && not standing.more) }
+{
+    standing.whole && !standing.more
 }
 
-fn say_unread() {
-    os::fail(b"sheet: the questions cannot be read");
+// Whether all of the text was written; where it was not, this is said.
+fn wrote_all<W: Write, E: Write>(output: &mut W, errors: &mut E, text: &[u8]) -> bool
+    ensures writes { Wrote (W.contents output.old) (W.contents output.new) result text.now }
+    ensures says { result ≡ true → Keeps (E.contents errors.old) (E.contents errors.new) }
+{
+    match write_text(output, text) {
+        Ok(()) => true,
+        Err(why) => {
+            saying::unwritten(errors, why);
+            false
+        }
+    }
+}
+
+// The text's bytes in order, each once, up to the first write that fails or takes none. One that a signal interrupts before it takes a
+// byte has failed.
+fn write_text<W: Write>(output: &mut W, text: &[u8]) -> io::Result<()>
+    ensures all { OnOk result (Appends (W.contents output.old) (W.contents output.new) text.now) }
+    ensures part { OnErr result (AppendsPart (W.contents output.old) (W.contents output.new)
+        text.now) }
+{
+    let mut done: usize = 0;
+    while done < text.len() {
+        let n = output.write(&text[done..])?;
+        if n == 0 {
+            return Err(io::Error::from(ErrorKind::WriteZero));
+        }
+        done += n;
+    }
+    Ok(())
 }

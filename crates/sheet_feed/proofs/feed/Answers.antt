@@ -34,7 +34,8 @@ byte-next-requires c =
 
 pub overflow_add-used : goal.overflow_add-used
 overflow_add-used c =
-    let l = c.loop-b in let more = c.more in let if1 = c.loop-b-test in let byte = c.byte-next in let h = c.loop-b.invariant.0 in omega (arith, h.long, used-within _ _ _ _ _ _ _ h (more_left _ _ _ _ more.ensures if1.true).1 _ _ _ byte.ensures)
+    let l = c.loop-b in let more = c.more in let if1 = c.loop-b-test in let byte = c.byte-next in let h = c.loop-b.invariant.0 in
+    omega (arith, h.long, used-within _ _ _ _ _ _ _ h (more_left _ _ _ _ more.ensures if1.true).1 _ _ _ byte.ensures)
 
 pub overflow_add-at : goal.overflow_add-at
 overflow_add-at c =

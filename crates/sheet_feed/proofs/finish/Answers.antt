@@ -20,11 +20,13 @@ slice_bounds-closing-start c =
 
 pub closing-requires : goal.closing-requires
 closing-requires c =
-    let ready = c.ready in let if1 = c.if-not-ready in let open-line = c.open_line-here in (open-line.ensures.sound, room-behind _ _ _ _ _ open-line.ensures (is-ready _ _ _ _ ready.ensures if1.false).0)
+    let ready = c.ready in let if1 = c.if-not-ready in let open-line = c.open_line-here in
+    (open-line.ensures.sound, room-behind _ _ _ _ _ open-line.ensures (is-ready _ _ _ _ ready.ensures if1.false).0)
 
 pub overflow_add-result : goal.overflow_add-result
 overflow_add-result c =
-    let ready = c.ready in let if1 = c.if-not-ready in let open-line = c.open_line-here in let closing = c.closing in omega (arith, ends-most _ _ _ _ _ open-line.ensures (is-ready _ _ _ _ ready.ensures if1.false).0 _ _ closing.ensures)
+    let ready = c.ready in let if1 = c.if-not-ready in let open-line = c.open_line-here in let closing = c.closing in
+    omega (arith, ends-most _ _ _ _ _ open-line.ensures (is-ready _ _ _ _ ready.ensures if1.false).0 _ _ closing.ensures)
 
 pub returns : goal.returns
 returns c =

@@ -17,7 +17,8 @@ returns-in_default c =
     let a = c.args in
     let whole = sym (as_many a.line.now a.position.length (counts _ p.0).length c.told-line) in
     rw c.ended.ensures
-    (bad-ends a.position a.line.now a.total.now a.out.now whole p.1 c.read-question.result c.in_default.not-Asked c.read-question.ensures c.refusal.result c.refusal.ensures c.bad-written.result c.bad-written.new.out c.bad-written.ensures)
+    (bad-ends a.position a.line.now a.total.now a.out.now whole p.1 c.read-question.result c.in_default.not-Asked c.read-question.ensures c.refusal.result c.refusal.ensures c.bad-written.result
+    c.bad-written.new.out c.bad-written.ensures)
 
 pub returns : goal.returns
 returns c =
@@ -27,4 +28,5 @@ returns c =
     let s = c.answer-written in
     let whole = sym (as_many a.line.now a.position.length (counts _ p.0).length c.told-line) in
     rw c.ended-2.ensures
-    (good-ends a.position a.line.now a.total.now a.out.now whole p.1 q.operation q.x q.y (ap answer_question (sym q.is) ∙ c.read-question.ensures) s.result s.new.total s.new.out (s.ensures.writes, s.ensures.total_after))
+    (good-ends a.position a.line.now a.total.now a.out.now whole p.1 q.operation q.x q.y (ap answer_question (sym q.is) ∙ c.read-question.ensures) s.result s.new.total s.new.out
+    (s.ensures.writes, s.ensures.total_after))

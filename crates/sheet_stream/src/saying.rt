@@ -21,14 +21,18 @@ fn say<E: Write>(errors: &mut E, what: &str, why: io::Error) {
     let _ = writeln!(errors, "{what}: {why}");
 }
 
-// The system's words for the fault, without the number that std puts behind them.
+// The system's words for the fault, without the number that std puts behind them, and without the room that is left.
 fn in_words(fault: &[u8]) -> &str {
     let text = match str::from_utf8(fault) {
         Ok(text) => text,
         Err(_) => "",
     };
-    match text.split_once(" (os error ") {
-        Some((words, _)) => words,
+    let said = match text.split_once("\0") {
+        Some((said, _)) => said,
         None => text,
+    };
+    match said.split_once(" (os error ") {
+        Some((words, _)) => words,
+        None => said,
     }
 }

@@ -14,7 +14,7 @@ use Rattle.pattern_spec.specs.Answer.{refused, done}
 use Rattle.pattern_spec.specs.Exact.{whole}
 use Rattle.accumulator_spec.specs.Words.{integer}
 use Rattle.accumulator_spec.specs.Totals.{number_size, total_size, most_terms, number, count, sign_word, total_of}
-use Rattle.accumulator_spec.specs.Totals.{Term, finite_operands, exact_term, is_minus_zero, term_sign, sign_of_both, total_with, AddsNumbered}
+use Rattle.accumulator_spec.specs.Totals.{Term, finite_operands, exact_term, is_minus_zero, term_sign, sign_of_both, total_with, Adds}
 use Rattle.accumulator_spec.proofs.Answers.{adding-done, after-done}
 use Rattle.accumulator_spec.proofs.Held.{total-same}
 use Rattle.accumulator_spec.proofs.Signs.{sign-comm, sign-one}
@@ -23,10 +23,12 @@ use Rattle.rounding_spec.proofs.Multiple.{digits-zero}
 use Rattle.accumulator_spec.proofs.Terms.{term-finite, special}
 use Rattle.accumulator_words.specs.Inner.{after_placed}
 use Rattle.accumulator_words.specs.declared.Placed.{Placed}
-use Rattle.accumulator_fit.proofs.Lent.{Takes}
+use Rattle.std.proofs.Common.{Ok, inl, inr, eq-or-lt_of_le}
+use Rattle.accumulator_fit.specs.Inner.{fault}
+use Rattle.accumulator_fit.proofs.Lent.{Sound, Takes, sound}
 use Rattle.accumulator_words.proofs.Placing.{same-integer}
+use Rattle.accumulator_spec.proofs.Adding.{fit-bounds}
 use Rattle.accumulator_add.specs.Inner.{noted}
-use Rattle.accumulator_add.proofs.Numbers.{by-refusal}
 
 -- ---- number and count
 module _ (t : List ℕ) (full : length t ≡ total_size) (term : Placed) (new : List ℕ) (moved : new ≡ after_placed (take number_size t) term) where
@@ -45,19 +47,27 @@ module _ (t : List ℕ) (full : length t ≡ total_size) (term : Placed) (new : 
       e ∙ m.2 ∙ ap (λ (y : ℤ). total_of (number t +ℤ y) (suc (count t)) (sign_word t)) (same-integer p q r ∙ ap whole (sym value))
 
 -- ---- with the sign word
-module _ (t : List ℕ) (x : Term) (takes : Takes t) where
-  pub refused-term : is_finite (exact_term x) ≡ false → AddsNumbered t x 7 t
-  refused-term o = by-refusal (refused 7) refl (special t x takes.0.0 takes.0.1 o)
+pub refused-term : (t : List ℕ) (x : Term) → Sound t → is_finite (exact_term x) ≡ false → Adds t x (refused 7) t
+refused-term t x k o = special t x k.0 k.1 o
 
+-- a sound total that is not full,
+pub takes : (t : List ℕ) → fault t ≡ Ok tt → (count t ≡ most_terms → ⊥) → Takes t
+takes t h n = let k = sound t h in let few = (fit-bounds t k.1).few in (k, elim (eq-or-lt_of_le few) [ inl e ↦ absurd (n e) | inr l ↦ l ])
+
+-- and what is told of one with room
+pub has-takes : (t : List ℕ) → (fault t ≡ Ok tt) × (count t < most_terms) × (sign_word t ≡ 1) → Takes t
+has-takes t h = (sound t h.0, h.1)
+
+module _ (t : List ℕ) (x : Term) (takes : Takes t) where
   module _ (s : Bool) (sig exp : ℕ) (value : exact_term x ≡ finite s (sig * 2 ^ exp)) where
-    added-as : (after : List ℕ) → after ≡ total_with t x → AddsNumbered t x 0 after
+    added-as : (after : List ℕ) → after ≡ total_with t x → Adds t x (done tt) after
     added-as after e =
         let f : finite_operands x ≡ true = term-finite x ∙ ap is_finite value in
         let d = adding-done t x takes.0.0 takes.0.1 f (λ k. let l = takes.1 in omega (arith, k, l)) in
-        by-refusal (done tt) refl (sym d, e ∙ sym (after-done t x d))
+        (sym d, e ∙ sym (after-done t x d))
 
     -- 1 stays as it is
-    pub stays : sign_word t ≡ 1 → (after : List ℕ) → after ≡ total_of (number t +ℤ whole (exact_term x)) (suc (count t)) (sign_word t) → AddsNumbered t x 0 after
+    pub stays : sign_word t ≡ 1 → (after : List ℕ) → after ≡ total_of (number t +ℤ whole (exact_term x)) (suc (count t)) (sign_word t) → Adds t x (done tt) after
     stays w after e =
         let same = w ∙ sym (sign-comm (sign_word t) (term_sign x) ∙ sign-one (term_sign x) (sign_word t) (λ z. omega (arith, z, w))) in
         added-as after (e ∙ total-same refl refl same)
@@ -82,5 +92,5 @@ module _ (t : List ℕ) (x : Term) (takes : Takes t) where
       pub noted-takes : (length now ≡ total_size) × (count now < most_terms)
       noted-takes = (ap (λ (ws : List ℕ). length ws) is ∙ length-set t (number_size + 1) _ ∙ full, le_trans (le_of_eq (ap suc same_count)) takes.1)
 
-      pub written : (after : List ℕ) → after ≡ total_of (number now +ℤ whole (exact_term x)) (suc (count now)) (sign_word now) → AddsNumbered t x 0 after
+      pub written : (after : List ℕ) → after ≡ total_of (number now +ℤ whole (exact_term x)) (suc (count now)) (sign_word now) → Adds t x (done tt) after
       written after e = added-as after (e ∙ total-same (ap (λ (z : ℤ). z +ℤ whole (exact_term x)) same_number) (ap suc same_count) new_word)

@@ -1,3 +1,3 @@
 pub mod Scaled
-pub mod Numbers
+pub mod Refusals
 pub mod Entered

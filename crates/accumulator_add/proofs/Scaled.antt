@@ -7,11 +7,12 @@ use native.Mathlib.Nat.{mul_assoc}
 use lib.Pow.{pow-add}
 use Rattle.rounding_spec.specs.Format.{binary32}
 use Rattle.rounding_spec.specs.Value.{Value, nan, infinite, finite, fields, magnitude, unsigned, decode, is_finite}
+use Rattle.pattern_spec.specs.Answer.{Answer}
 use Rattle.pattern_spec.specs.declared.Class.{Class}
 use Rattle.pattern_spec.specs.Exact.{times, finer}
 use Rattle.pattern_spec.specs.Classes.{class_of, value_of}
 use Rattle.pattern_spec.proofs.Classified.{class-value}
-use Rattle.accumulator_spec.specs.Totals.{of_pattern, of_product, finite_operands, exact_term, adding, after_adding, AddsNumbered}
+use Rattle.accumulator_spec.specs.Totals.{of_pattern, of_product, finite_operands, exact_term, adding, after_adding, Adds}
 
 -- a pattern counts u
 module _ (x : ℕ) (c : Class) (is : c ≡ class_of x) where
@@ -31,9 +32,9 @@ one_value (infinite false) = refl
 one_value (finite true a) = refl
 one_value (finite false a) = refl
 
-pub as-product : (t : List ℕ) (x n : ℕ) (after : List ℕ) → AddsNumbered t (of_product x 0x3f80_0000) n after → AddsNumbered t (of_pattern x) n after
+pub as-product : (t : List ℕ) (x : ℕ) (a : Answer (Unit {0})) (after : List ℕ) → Adds t (of_product x 0x3f80_0000) a after → Adds t (of_pattern x) a after
 unfolding adding after_adding decode unsigned magnitude fields
-as-product t x n after h =
+as-product t x a after h =
     let f : finite_operands (of_product x 0x3f80_0000) ≡ finite_operands (of_pattern x) = and-true (is_finite (decode binary32 x)) in
     let v : exact_term (of_product x 0x3f80_0000) ≡ exact_term (of_pattern x) = one_value (decode binary32 x) in
     rw (f, v) at h

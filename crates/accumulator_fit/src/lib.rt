@@ -4,14 +4,15 @@
 
 pub mod old;
 
-ghost use Rattle.std.specs.Prelude.{◌≡◌, ◌<◌, true, length, if◌then◌else◌};
+ghost use Rattle.std.specs.Prelude.{◌≡◌, ◌<◌, true, length, if◌then◌else◌, Ok};
 ghost use Rattle.accumulator_spec.specs.Words.{complement};
-ghost use Rattle.accumulator_spec.specs.Totals.{number_size, total_size, sign_word, within_limits, sign_fits, fit};
-ghost use Rattle.accumulator_fit.specs.Inner.{fault, fault_to_add, below_limit};
+ghost use Rattle.accumulator_spec.specs.Totals.{number_size, total_size, most_terms, count, sign_word};
+ghost use Rattle.accumulator_spec.specs.Totals.{within_limits, sign_fits, fit};
+ghost use Rattle.accumulator_fit.specs.Inner.{fault, below_limit};
 
-use accumulator_spec::{MOST_TERMS, NUMBER_SIZE, SIGN_WORD, TOTAL_SIZE};
+use accumulator_spec::{MOST_TERMS, NUMBER_SIZE, NotDone, SIGN_WORD, TOTAL_SIZE};
 use accumulator_words::{is_zero, wide};
-use choose::choose_pattern;
+use choose::choose;
 
 // The top three words of the number: the limit counts the weight of the third.
 const TOP: usize = NUMBER_SIZE - 1;
@@ -20,35 +21,25 @@ const NEXT: usize = NUMBER_SIZE - 2;
 
 const THIRD: usize = NUMBER_SIZE - 3;
 
-// What is tried first of lent words, by its refusal: 5, 6, or 0 for a fit total (R8.7, R8.8, R8.16).
-pub fn refusal(total: &[u32]) -> u32
+// What is tried first of lent words: whether they are a fit total (R8.7, R8.8, R8.16).
+#[inline(always)]
+pub fn refusal(total: &[u32]) -> Result<(), NotDone>
     ensures { result ≡ fault total.now }
 {
     if total.len() != TOTAL_SIZE {
-        return 5;
+        return Err(NotDone::Length);
     }
     if !is_fit(total) {
-        return 6;
+        return Err(NotDone::Unfit);
     }
-    0
-}
-
-// Of a total that a term is to go into: 5, 6, 8 or 0 (R8.7); 7, which stands before 8, is the operand's.
-pub fn refusal_to_add(total: &[u32]) -> u32
-    ensures { result ≡ fault_to_add total.now }
-{
-    let wrong = refusal(total);
-    if wrong != 0 {
-        return wrong;
-    }
-    choose_pattern(total[NUMBER_SIZE] == MOST_TERMS, 8, 0)
+    Ok(())
 }
 
 // Nothing is to be refused, and the sign word is 1: told by length, count, sign word and top words, of which nearly every total's top two
 // have nothing but the sign, all zeros or all ones. False leaves it open: where the total is empty, full, at its limit or unfit, or its
 // terms have been -0.
 pub fn has_room(total: &[u32]) -> bool
-    ensures { result ≡ true → (fault_to_add total.now ≡ 0) × (sign_word total.now ≡ 1) }
+    ensures { result ≡ true → (fault total.now ≡ Ok tt) × (count total.now < most_terms) × (sign_word total.now ≡ 1) }
 {
     if total.len() != TOTAL_SIZE {
         return false;
@@ -67,6 +58,8 @@ pub fn has_room(total: &[u32]) -> bool
     (total[THIRD] ^ total[TOP]) < n * 1024
 }
 
+// Compiled into what asks: as a call it took a join 15 % more instructions.
+#[inline(always)]
 fn is_fit(total: &[u32]) -> bool
     requires { length total.now ≡ total_size }
     ensures { result ≡ fit total.now }
@@ -78,6 +71,7 @@ fn is_fit(total: &[u32]) -> bool
 }
 
 // The sign word is 0 or 1; with 0 the number is 0, and with 1 there are terms.
+#[inline(always)]
 fn sign_fits(total: &[u32]) -> bool
     requires { length total.now ≡ total_size }
     ensures { result ≡ sign_fits total.now }
@@ -93,6 +87,7 @@ fn sign_fits(total: &[u32]) -> bool
 
 // Of a total or of an old one. The limit is count * 1024 times the weight of the third. A negative number is below it where its complement,
 // which is smaller by one, is: no negation, so that -2^639 needs no care.
+#[inline(always)]
 pub fn within_limits(total: &[u32]) -> bool
     requires { number_size < length total.now }
     ensures { result ≡ within_limits total.now }
@@ -132,5 +127,5 @@ fn within(low: &[u32], minus: bool, top: u32, limit: u32) -> bool
 fn turned(minus: bool, w: u32) -> u32
     ensures { result ≡ (if minus then complement w else w) }
 {
-    choose_pattern(minus, 0xffff_ffff - w, w)
+    choose(minus, 0xffff_ffff - w, w)
 }

@@ -1,23 +1,23 @@
 // What is tried of an old total, and of the words that it is to be carried over into.
 ghost use Rattle.std.specs.Prelude.{◌≡◌};
-ghost use Rattle.pattern_spec.specs.Answer.{refusal_of};
+ghost use Rattle.accumulator_spec.specs.Answers.{answer_of};
 ghost use Rattle.accumulator_spec.specs.Carrying.{carrying};
 
 use crate::within_limits;
-use accumulator_spec::{OLD_SIZE, TOTAL_SIZE};
+use accumulator_spec::{NotDone, OLD_SIZE, TOTAL_SIZE};
 
-// 5, 6 or 0 (R8.17). What the new words hold is not asked.
-pub fn refusal_to_carry(old: &[u32], new: &[u32]) -> u32
-    ensures { result ≡ refusal_of (carrying old.now new.now) }
+// In the order of R8.17. What the new words hold is not asked.
+pub fn refusal_to_carry(old: &[u32], new: &[u32]) -> Result<(), NotDone>
+    ensures { answer_of result ≡ carrying old.now new.now }
 {
     if old.len() != OLD_SIZE {
-        return 5;
+        return Err(NotDone::Length);
     }
     if new.len() != TOTAL_SIZE {
-        return 5;
+        return Err(NotDone::Length);
     }
     if !within_limits(old) {
-        return 6;
+        return Err(NotDone::Unfit);
     }
-    0
+    Ok(())
 }

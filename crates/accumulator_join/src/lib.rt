@@ -1,55 +1,44 @@
-// Joining two totals (R6.9). The answer is the refusal's number (R8.16), or 0.
+// Joining two totals (R6.9), with the refusals of R8.16.
 #![tactic(auto)]
 
 ghost use Rattle.std.specs.Prelude.{◌≡◌, ◌+◌, ◌%◌, ◌^◌, ◌≤◌, length};
 ghost use Rattle.accumulator_spec.specs.Totals.{total_size, most_terms, count, sign_word};
-ghost use Rattle.accumulator_spec.specs.Joins.{JoinsNumbered};
-ghost use Rattle.accumulator_join.specs.Inner.{fault_of_two, JoinsFit, word_sum};
+ghost use Rattle.accumulator_spec.specs.Joins.{Joins};
+ghost use Rattle.accumulator_spec.specs.Answers.{answer_of};
+ghost use Rattle.accumulator_join.specs.Inner.{JoinsFit, word_sum};
 
 use accumulator_fit::refusal;
-use accumulator_spec::{MOST_TERMS, NUMBER_SIZE, SIGN_WORD};
+use accumulator_spec::{MOST_TERMS, NUMBER_SIZE, NotDone, SIGN_WORD};
 use accumulator_words::wide;
-use choose::choose_pattern;
+use choose::choose;
 
-pub fn join(first: &mut [u32], second: &[u32]) -> u32
-    ensures joins_numbered { JoinsNumbered first.old second.now result first.new }
+pub fn join(first: &mut [u32], second: &[u32]) -> Result<(), NotDone>
+    ensures joins { Joins first.old second.now (answer_of result) first.new }
     ensures second_kept { second.exit.now ≡ second.entry.now }
 {
-    let wrong = refusal_of_two(first, second);
-    if wrong != 0 {
-        return wrong;
-    }
+    // What is wrong with the first is told before anything of the second.
+    refusal(first)?;
+    refusal(second)?;
     join_fit(first, second)
 }
 
-// What is wrong with the first is told before anything of the second.
-fn refusal_of_two(first: &[u32], second: &[u32]) -> u32
-    ensures { result ≡ fault_of_two first.now second.now }
-{
-    let wrong = refusal(first);
-    if wrong != 0 {
-        return wrong;
-    }
-    refusal(second)
-}
-
 // Two fit totals, if there is room for the terms of both.
-fn join_fit(first: &mut [u32], second: &[u32]) -> u32
+fn join_fit(first: &mut [u32], second: &[u32]) -> Result<(), NotDone>
     requires lengths { (length first.old ≡ total_size) × (length second.now ≡ total_size)
         × (count first.old ≤ most_terms) × (count second.now ≤ most_terms) }
     requires signs { (sign_word first.old ≤ 1) × (sign_word second.now ≤ 1) }
-    ensures { JoinsFit first.old second.now result first.new }
+    ensures { JoinsFit first.old second.now (answer_of result) first.new }
 {
     let n = first[NUMBER_SIZE] + second[NUMBER_SIZE];
     if n > MOST_TERMS {
-        return 12;
+        return Err(NotDone::TooMany);
     }
     // Each is 0 or 1.
     let sign = first[SIGN_WORD] | second[SIGN_WORD];
     add_words(&mut first[0..NUMBER_SIZE], &second[0..NUMBER_SIZE]);
     first[NUMBER_SIZE] = n;
     first[SIGN_WORD] = sign;
-    0
+    Ok(())
 }
 
 // Adds the second's words to the first's, lowest first, in one pass. What goes beyond the last word is lost, so that two's complement needs
@@ -59,15 +48,13 @@ fn add_words(first: &mut [u32], second: &[u32])
     ensures { first.new ≡ word_sum first.old second.now }
 {
     let mut carry: u32 = 0;
-    let mut i: usize = 0;
-    while i < first.len() {
+    for i in 0..first.len() {
         let word = first[i];
         let low = low_word(word, second[i]);
         let sum = low_word(low, carry);
         first[i] = sum;
         // At most one of the two sums goes beyond a word. Written so, the compiler makes one add with carry of it.
-        carry = choose_pattern(low < word, 1, 0) | choose_pattern(sum < low, 1, 0);
-        i += 1;
+        carry = choose(low < word, 1, 0) | choose(sum < low, 1, 0);
     }
 }
 

@@ -1,3 +1,3 @@
-pub mod Replies
+pub mod Refusals
 pub mod Arrays
 pub mod TurnedWords

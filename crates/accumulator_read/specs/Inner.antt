@@ -1,8 +1,8 @@
--- The numbers that a reply goes by below the calls of `accumulator`.
-use Rattle.std.specs.Prelude.{ℕ, cond, eqb}
-use Rattle.pattern_spec.specs.Answer.{Answer, refused}
+-- What the halves of a pair stand for below the calls of `accumulator`.
+use Rattle.pattern_spec.specs.Answer.{Answer}
+use Rattle.augmented_spec.specs.declared.Halves.{Halves}
 use Rattle.accumulator_spec.specs.Totals.{TwoPatterns, pair_read}
 
--- what a reply says: 0 that the pair was read, and any other number the refusal by it (R8.8)
-abbrev pub replied : ℕ → ℕ → ℕ → Answer TwoPatterns
-replied refusal first second = cond (eqb refusal 0) (pair_read first second) (refused refusal)
+-- what is answered where a total is not refused (R8.8)
+abbrev pub pair_of_halves : Halves → Answer TwoPatterns
+pair_of_halves p = pair_read p.first p.second

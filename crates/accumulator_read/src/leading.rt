@@ -5,7 +5,8 @@ ghost use Rattle.accumulator_spec.specs.Inner.{Leading};
 
 use accumulator_spec::NUMBER_SIZE;
 use accumulator_words::{place, wide};
-use choose::{choose, choose_pattern};
+use choose::choose;
+use rounding_spec::Number;
 
 // The word that shows the sign.
 pub const TOP: usize = NUMBER_SIZE - 1;
@@ -19,10 +20,12 @@ pub fn magnitude(number: [u32; NUMBER_SIZE]) -> [u32; NUMBER_SIZE]
 {
     let minus = number[TOP] >= 0x8000_0000;
     let mut words = turned(number, minus);
-    accumulator_words::add(
-        &mut words[0..NUMBER_SIZE],
-        place(false, choose(minus, 1, 0), 0),
-    );
+    let one = Number {
+        sign: false,
+        sig: choose(minus, 1, 0),
+        exp: 0,
+    };
+    accumulator_words::add(&mut words[0..NUMBER_SIZE], place(one));
     words
 }
 
@@ -30,12 +33,10 @@ pub fn magnitude(number: [u32; NUMBER_SIZE]) -> [u32; NUMBER_SIZE]
 fn turned(number: [u32; NUMBER_SIZE], minus: bool) -> [u32; NUMBER_SIZE]
     ensures { result ≡ cond minus (map complement number) number }
 {
-    let mask = choose_pattern(minus, 0xffff_ffff, 0);
+    let mask = choose(minus, 0xffff_ffff, 0);
     let mut words = number;
-    let mut i: usize = 0;
-    while i < NUMBER_SIZE {
-        words[i] = words[i] ^ mask;
-        i += 1;
+    for i in 0..NUMBER_SIZE {
+        words[i] ^= mask;
     }
     words
 }
@@ -54,9 +55,7 @@ pub fn first_digits(words: [u32; NUMBER_SIZE]) -> Digits
 {
     let mut sig: u64 = 0;
     let mut exp: u16 = DIGITS;
-    let mut i: usize = NUMBER_SIZE;
-    while i > 0 {
-        i -= 1;
+    for i in (0..NUMBER_SIZE).rev() {
         let w = wide(words[i]);
         if sig < 0x1_0000_0000 {
             sig = sig * 0x1_0000_0000 + w;

@@ -10,40 +10,27 @@ ghost use Rattle.rounding_spec.specs.Value.{encode, round};
 ghost use Rattle.pattern_spec.specs.Exact.{int};
 ghost use Rattle.augmented_spec.specs.Pairs.{pair_of};
 ghost use Rattle.accumulator_spec.specs.Words.{integer, words_of_integer};
-ghost use Rattle.accumulator_spec.specs.Totals.{number_size, total_size, count, sign_word, pair_read, exact_number, pair_answer, reading};
-ghost use Rattle.accumulator_read.specs.Inner.{replied};
+ghost use Rattle.accumulator_spec.specs.Totals.{number_size, total_size, count, sign_word, exact_number, pair_answer, reading};
+ghost use Rattle.accumulator_spec.specs.Answers.{answer_read};
+ghost use Rattle.accumulator_read.specs.Inner.{pair_of_halves};
 
 use accumulator_fit::refusal;
-use accumulator_spec::{NUMBER_SIZE, SIGN_WORD};
+use accumulator_spec::{NUMBER_SIZE, NotDone, SIGN_WORD};
 use accumulator_words::place;
+use augmented_spec::Halves;
 use leading::{TOP, first_digits, magnitude};
 use pattern::{classify, zero_takes};
 use pattern_spec::Class;
-use rounding_spec::Ties;
+use rounding_spec::{Number, Ties};
 
-// The refusal's number (R8.8); or 0, and the pair. Free are the halves of a refusal (`replied`).
-#[derive(Clone, Copy)]
-pub struct Reply {
-    pub refusal: u32,
-    pub first: u32,
-    pub second: u32,
-}
-
-pub fn read(total: &[u32]) -> Reply
-    ensures { replied result.refusal result.first result.second ≡ reading total.now }
+pub fn read(total: &[u32]) -> Result<Halves, NotDone>
+    ensures { answer_read result ≡ reading total.now }
 {
-    let wrong = refusal(total);
-    if wrong != 0 {
-        return Reply {
-            refusal: wrong,
-            first: 0,
-            second: 0,
-        };
-    }
+    refusal(total)?;
     if is_minus_zero(total) {
-        return twice(0x8000_0000);
+        return Ok(twice(0x8000_0000));
     }
-    of_number(copied(total))
+    Ok(of_number(copied(total)))
 }
 
 // A fit total with terms, all of which have been -0. Its number is 0.
@@ -51,17 +38,13 @@ fn is_minus_zero(total: &[u32]) -> bool
     requires { length total.now ≡ total_size }
     ensures { result ≡ (eqb (sign_word total.now) 0 && not (eqb (count total.now) 0)) }
 {
-    if total[SIGN_WORD] != 0 {
-        return false;
-    }
-    total[NUMBER_SIZE] != 0
+    total[SIGN_WORD] == 0 && total[NUMBER_SIZE] != 0
 }
 
-fn twice(half: u32) -> Reply
-    ensures { replied result.refusal result.first result.second ≡ pair_read half half }
+fn twice(half: u32) -> Halves
+    ensures { (result.first ≡ half) × (result.second ≡ half) }
 {
-    Reply {
-        refusal: 0,
+    Halves {
         first: half,
         second: half,
     }
@@ -73,42 +56,39 @@ fn copied(total: &[u32]) -> [u32; NUMBER_SIZE]
     ensures { result ≡ take number_size total.now }
 {
     let mut number = [0; NUMBER_SIZE];
-    let mut i: usize = 0;
-    while i < NUMBER_SIZE {
-        number[i] = total[i];
-        i += 1;
-    }
+    number.copy_from_slice(&total[0..NUMBER_SIZE]);
     number
 }
 
 // Second is rounded from the words that are left when first is taken away. RN0 of a number is never NaN.
-fn of_number(number: [u32; NUMBER_SIZE]) -> Reply
+fn of_number(number: [u32; NUMBER_SIZE]) -> Halves
     requires { nat_abs (integer number) < 2 ^ 639 }
-    ensures { replied result.refusal result.first result.second ≡ pair_answer (pair_of binary32 (exact_number (integer number))) }
+    ensures { pair_of_halves result ≡ pair_answer (pair_of binary32 (exact_number (integer number))) }
 {
     let first = rounded(number);
-    let a = classify(first);
-    match a {
-        Class::Finite { sign, sig, exp } => {
-            let second = rounded(moved(number, !sign, sig, exp + 149));
-            Reply {
-                refusal: 0,
-                first,
-                second: zero_takes(sign, second),
-            }
-        }
-        Class::Infinite(_) => twice(first),
-        Class::NotANumber => twice(first),
+    let Class::Finite(n) = classify(first) else {
+        return twice(first);
+    };
+    // A pattern counts 2^-149.
+    let taken = Number {
+        sign: !n.sign,
+        sig: n.sig,
+        exp: n.exp + 149,
+    };
+    let second = rounded(moved(number, taken));
+    Halves {
+        first,
+        second: zero_takes(n.sign, second),
     }
 }
 
-// The number and ±sig * 2^exp, which may reach into three words: all of them the number's.
-fn moved(number: [u32; NUMBER_SIZE], minus: bool, sig: u64, exp: u16) -> [u32; NUMBER_SIZE]
-    requires { exp + 96 ≤ 32 * number_size }
-    ensures { result ≡ words_of_integer number_size (integer number +ℤ int minus (sig * 2 ^ exp)) }
+// The number and another, which may reach into three words: all of them the first one's.
+fn moved(number: [u32; NUMBER_SIZE], by: Number) -> [u32; NUMBER_SIZE]
+    requires { by.exp + 96 ≤ 32 * number_size }
+    ensures { result ≡ words_of_integer number_size (integer number +ℤ int by.sign (by.sig * 2 ^ by.exp)) }
 {
     let mut sum = number;
-    accumulator_words::add(&mut sum[0..NUMBER_SIZE], place(minus, sig, exp));
+    accumulator_words::add(&mut sum[0..NUMBER_SIZE], place(by));
     sum
 }
 
@@ -118,5 +98,10 @@ fn rounded(number: [u32; NUMBER_SIZE]) -> u32
 {
     let minus = number[TOP] >= 0x8000_0000;
     let top = first_digits(magnitude(number));
-    rounding::round(Ties::ToZero, minus, top.sig, top.exp)
+    let leading = Number {
+        sign: minus,
+        sig: top.sig,
+        exp: top.exp,
+    };
+    rounding::round(Ties::ToZero, leading)
 }

@@ -1,5 +1,5 @@
 -- A term of a fit total, by its class as the code has it: what is answered, and the words as they end.
-use mathlib.Core.Path.{◌≡◌, sym, ap, ◌∙◌}
+use mathlib.Core.Path.{◌≡◌, refl, sym, ap, ◌∙◌}
 use mathlib.Core.Bool.{Bool, true, false, cond, ◌&&◌}
 use mathlib.Core.List.{List}
 use Prim.Native.Nat.{ℕ, suc, ◌*◌, ◌^◌, ◌<◌}
@@ -10,12 +10,23 @@ use lib.ListN.{length}
 use Rattle.pattern_spec.specs.Answer.{Answer, refused, done}
 use Rattle.rounding_spec.specs.Format.{binary32}
 use Rattle.rounding_spec.specs.Value.{Value, finite, decode, is_finite}
+use Rattle.rounding_spec.specs.declared.Number.{Number}
+use Rattle.pattern_spec.specs.declared.Class.{Class}
+use Rattle.pattern_spec.specs.declared.Class.TheVariants.{Finite, Infinite, NotANumber}
+use Rattle.pattern_spec.specs.Classes.{value_of}
 use Rattle.pattern_spec.specs.Exact.{whole, int}
 use Rattle.pattern_spec.proofs.Finiteness.{finer-finite, times-finite}
 use Rattle.rounding_spec.proofs.Multiple.{digits-zero}
 use Rattle.accumulator_spec.specs.Totals.{total_size, most_terms, number, count, sign_word, total_of, fit}
 use Rattle.accumulator_spec.specs.Totals.{Term, of_pattern, of_product, finite_operands, exact_term, is_minus_zero, sign_of_both, adding, after_adding}
 use Rattle.accumulator_spec.proofs.Answers.{adding-special, adding-done, after-refused, after-done}
+
+-- whatever is no finite class has no finite value
+pub not-finite : (c : Class) → ((n : Number) → c ≡ Finite n → ⊥) → is_finite (value_of c) ≡ false
+unfolding value_of
+not-finite (Finite n) h = absurd (h n refl)
+not-finite (Infinite s) h = refl
+not-finite NotANumber h = refl
 
 -- ---- a term is refused by its exact value
 pub term-finite : (x : Term) → finite_operands x ≡ is_finite (exact_term x)

@@ -1,5 +1,6 @@
 -- All that specs/Theorems states, proved.
 use mathlib.Core.Path.{refl}
+use Rattle.accumulator_spec.specs.AnswerTheorems.{AnswersOfOne, AnswersOfTwo}
 use Rattle.accumulator_spec.specs.Theorems.{TotalSizes, All}
 use Rattle.accumulator_spec.proofs.EachWord.{word_at, natural-words}
 use Rattle.accumulator_spec.proofs.TwosComplement.{words-formed, integer-held, words-unique}
@@ -21,6 +22,12 @@ use Rattle.accumulator_spec.proofs.ReadPairs.{read-overflow, read-sum, read-prod
 
 pub total-sizes : TotalSizes
 total-sizes = (refl, refl, refl, refl)
+
+pub answers-of-one : AnswersOfOne
+answers-of-one = (refl, refl, refl, refl, refl, λ first second. refl, refl, refl)
+
+pub answers-of-two : AnswersOfTwo
+answers-of-two = (refl, refl, refl, refl)
 
 pub all : All
 all = (
@@ -98,4 +105,6 @@ all = (
   carried-terms-are,
   carried-column,
   sign-landmarks,
+  answers-of-one,
+  answers-of-two,
 )

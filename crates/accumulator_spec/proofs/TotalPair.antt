@@ -12,6 +12,7 @@ use Rattle.rounding_spec.specs.Format.{binary32}
 use Rattle.rounding_spec.specs.Value.{Value, nan, infinite, finite, Fits, decode, encode, round, is_finite, RN0}
 use Rattle.rounding_spec.proofs.Codec.{decode-encode}
 use Rattle.rounding_spec.proofs.RoundValue.{round-fits}
+use Rattle.rounding_spec.specs.Numbers.{number}
 use Rattle.pattern_spec.specs.declared.Class.{Class}
 use Rattle.pattern_spec.specs.declared.Class.TheVariants.{Finite}
 use Rattle.pattern_spec.specs.Classes.{class_of, value_of, zero_pattern}
@@ -52,14 +53,14 @@ module _ (z : ℤ) (first : ℕ) (is : first ≡ encode binary32 (round ToZero b
       same (infinite s) h = refl
       same (finite s a) h = absurd (true≢false h)
 
-  module _ (s : Bool) (sig exp : ℕ) (class : Finite s sig exp ≡ class_of first) where
+  module _ (s : Bool) (sig exp : ℕ) (class : Finite (number s sig exp) ≡ class_of first) where
     -- the number less the first half
     abbrev left : ℤ
     left = z +ℤ int (not s) (sig * 2 ^ (exp + 149))
 
     first-is : RN0 binary32 (exact_number z) ≡ finite s (sig * 2 ^ exp)
     unfolding value_of
-    first-is = class-first (Finite s sig exp) class
+    first-is = class-first (Finite (number s sig exp)) class
 
     scaled : sig * 2 ^ exp * 2 ^ 149 ≡ sig * 2 ^ (exp + 149)
     scaled = mul_assoc sig (2 ^ exp) (2 ^ 149) ∙ ap (λ (x : ℕ). sig * x) (sym (pow-add 2 exp 149))

@@ -5,5 +5,7 @@ pub mod Carrying
 pub mod Joins
 pub mod JoinTheorems
 pub mod SignTheorems
+pub mod Answers
+pub mod AnswerTheorems
 pub mod Theorems
 pub mod Inner

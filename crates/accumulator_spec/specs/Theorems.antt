@@ -1,6 +1,6 @@
 -- What holds of words and of totals: that the definitions mean what is asked (R6, R8.7 to R8.9). Each name is a statement, proved in
 -- proofs/ (proofs/Theorems.antt has them together). Those of joining stand in JoinTheorems.antt, those of the sign word and of totals
--- that are carried over in SignTheorems.antt.
+-- that are carried over in SignTheorems.antt, those of the answers' cases in AnswerTheorems.antt.
 use Rattle.std.specs.Prelude.{ℕ, suc, ◌-◌, ◌*◌, ◌/◌, ◌%◌, ◌^◌, ◌≤◌, ◌<◌, ◌≡◌, ◌≢◌, ◌↔◌, ◌⊎◌, Bool, true, false, not, ◌&&◌}
 use Rattle.std.specs.Prelude.{ltb, length, get_or, replicate, ℤ, pos, negsuc, nat_abs, neg_ℤ, ◌+ℤ◌, ◌*ℤ◌}
 use mathlib.Core.List.{List, [], ◌∷◌, ◌++◌, Perm}
@@ -26,6 +26,7 @@ use Rattle.accumulator_spec.specs.SignTheorems.{SignOfBothIs, PatternMinusZero, 
 use Rattle.accumulator_spec.specs.SignTheorems.{ColumnSignIs, ColumnMinusZero, CarryingRefused, CarriesMeans, CarriesNumberedMeans}
 use Rattle.accumulator_spec.specs.SignTheorems.{FitOldIs, OldReads, CarriedFit, OldColumnIs, OldBuiltIs, CarriedTermsAre}
 use Rattle.accumulator_spec.specs.SignTheorems.{CarriedColumn, SignLandmarks}
+use Rattle.accumulator_spec.specs.AnswerTheorems.{AnswersOfOne, AnswersOfTwo}
 
 -- ---- words, however many (R6.1)
 -- word i counts 2 ^ (32 i); the words of -(n + 1) are the complements of n's
@@ -329,4 +330,4 @@ All =
     × RefusedJoin × JoinsMeans × JoinsNumberedMeans × BuiltBy × BuiltIsColumn × JoinedIsColumn × ColumnsJoin × ColumnBuilt × EmptyJoins
     × JoinLandmarks × SignOfBothIs × PatternMinusZero × ProductMinusZero × WithinIs × UnfitSigns × ColumnSignIs × ColumnMinusZero
     × CarryingRefused × CarriesMeans × CarriesNumberedMeans × FitOldIs × OldReads × CarriedFit × OldColumnIs × OldBuiltIs
-    × CarriedTermsAre × CarriedColumn × SignLandmarks
+    × CarriedTermsAre × CarriedColumn × SignLandmarks × AnswersOfOne × AnswersOfTwo

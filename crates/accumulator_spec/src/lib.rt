@@ -1,6 +1,9 @@
-// Exact totals as definitions and theorems, the sizes that they name, and a reading as numbers. No function is here: the code stands above,
-// in `accumulator` and the crates between, so that a change of it proves little anew.
+// Exact totals as definitions and theorems, the sizes that they name, what the calls on them answer, and a reading as numbers. The code
+// stands above, in `accumulator` and the crates between, so that a change of it proves little anew.
 #![tactic(auto)]
+
+ghost use Rattle.std.specs.Prelude.{◌≡◌};
+ghost use Rattle.accumulator_spec.specs.Answers.{refusal_number};
 
 // R6.1: the words of a total's number.
 pub const NUMBER_SIZE: usize = 20;
@@ -12,6 +15,31 @@ pub const TOTAL_SIZE: usize = 22;
 pub const OLD_SIZE: usize = 21;
 // R6.3: the most terms that a total takes.
 pub const MOST_TERMS: u32 = 65536;
+
+// Why a call on a total is not carried out. Of two totals, `Length` and `Unfit` don't tell which.
+#[derive(Clone, Copy, PartialEq, Eq)]
+pub enum NotDone {
+    Length,
+    Unfit,
+    NotFinite,
+    Full,
+    TooMany,
+}
+
+// Refusal numbers (R8.7 to R8.9, R8.16, R8.17).
+impl From<NotDone> for u32 {
+    ghost from_gives = { λ reason number. number ≡ refusal_number reason };
+
+    fn from(reason: NotDone) -> u32 {
+        match reason {
+            NotDone::Length => 5,
+            NotDone::Unfit => 6,
+            NotDone::NotFinite => 7,
+            NotDone::Full => 8,
+            NotDone::TooMany => 12,
+        }
+    }
+}
 
 // What reading answers, as numbers: the refusal's and two zeros, or 0 and the pair.
 #[repr(C)]

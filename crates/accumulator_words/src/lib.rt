@@ -6,7 +6,8 @@ ghost use Rattle.accumulator_spec.specs.Words.{all_zero};
 ghost use Rattle.accumulator_spec.specs.Inner.{after_walk};
 ghost use Rattle.accumulator_words.specs.Inner.{after_placed, TwoWordsAdded};
 
-use choose::{choose, choose_pattern};
+use choose::choose;
+use rounding_spec::Number;
 
 // A term and where it goes in the words of a number: ±sig * 2^shift from `word` on. All that the walk over the words asks of a term (R6.4).
 #[derive(Clone, Copy)]
@@ -17,15 +18,16 @@ pub struct Placed {
     pub shift: u16,
 }
 
-// The place of ±sig * 2^exp: the word that has its lowest digit, and the shift within that word.
-pub fn place(minus: bool, sig: u64, exp: u16) -> Placed
-    ensures { (result.minus ≡ minus) × (result.sig ≡ sig) × (32 * result.word + result.shift ≡ exp) × (result.shift < 32) }
+// The place of a number: the word that has its lowest digit, and the shift within that word.
+pub fn place(number: Number) -> Placed
+    ensures { (result.minus ≡ number.sign) × (result.sig ≡ number.sig) × (32 * result.word + result.shift ≡ number.exp)
+        × (result.shift < 32) }
 {
     Placed {
-        minus,
-        sig,
-        word: (exp / 32) as usize,
-        shift: exp % 32,
+        minus: number.sign,
+        sig: number.sig,
+        word: (number.exp / 32) as usize,
+        shift: number.exp % 32,
     }
 }
 
@@ -59,7 +61,7 @@ fn walk(words: &mut [u32], minus: bool, sig: u64, shift: u16)
     add_word(&mut words[2..], minus, high + carry);
 }
 
-// The same over two words and seldom more.
+// The same over two words and seldom more. Not one function with `walk`, by the size of the significand: terms took 1.2 times as long.
 fn walk_short(words: &mut [u32], minus: bool, sig: u64, shift: u16)
     requires { (2 ≤ length words.old) × (shift < 32) × (sig < 2 ^ 32) }
     ensures { words.new ≡ after_walk words.old minus (sig * 2 ^ shift) }
@@ -89,7 +91,7 @@ fn add_word(words: &mut [u32], minus: bool, n: u64)
     requires { (1 ≤ length words.old) × (n < 2 ^ 32) }
     ensures { words.new ≡ after_walk words.old minus n }
 {
-    let mask = choose_pattern(minus, 0xffff_ffff, 0);
+    let mask = choose(minus, 0xffff_ffff, 0);
     let sum = wide(words[0] ^ mask) + n;
     words[0] = (sum % 0x1_0000_0000) as u32 ^ mask;
     if sum >= 0x1_0000_0000 {
@@ -101,15 +103,13 @@ fn add_word(words: &mut [u32], minus: bool, n: u64)
 fn add_one(words: &mut [u32], minus: bool)
     ensures { words.new ≡ after_walk words.old minus 1 }
 {
-    let mask = choose_pattern(minus, 0xffff_ffff, 0);
-    let mut i: usize = 0;
-    while i < words.len() {
+    let mask = choose(minus, 0xffff_ffff, 0);
+    for i in 0..words.len() {
         let sum = wide(words[i] ^ mask) + 1;
         words[i] = (sum % 0x1_0000_0000) as u32 ^ mask;
         if sum < 0x1_0000_0000 {
             return;
         }
-        i += 1;
     }
 }
 
@@ -122,12 +122,5 @@ pub fn wide(w: u32) -> u64
 pub fn is_zero(words: &[u32]) -> bool
     ensures { result ≡ all_zero words.now }
 {
-    let mut i: usize = 0;
-    while i < words.len() {
-        if words[i] != 0 {
-            return false;
-        }
-        i += 1;
-    }
-    true
+    words.iter().all(|w| *w == 0)
 }

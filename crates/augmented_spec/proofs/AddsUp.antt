@@ -20,7 +20,9 @@ use Rattle.pattern_spec.specs.Exact.{int}
 use Rattle.pattern_spec.proofs.Integers.{int-scale}
 use Rattle.augmented_spec.specs.declared.Pair.{Pair}
 use Rattle.augmented_spec.specs.Pairs.{pair_of, overflowed, underflowed, answer, exact_product, product_pair}
-use Rattle.augmented_spec.specs.Direct.{Operation, sum, difference, product, direct_pair, exact_result}
+use Rattle.augmented_spec.specs.declared.Operation.{Operation}
+use Rattle.augmented_spec.specs.declared.Operation.TheVariants.{Sum as sum, Difference as difference, Product as product}
+use Rattle.augmented_spec.specs.Direct.{direct_pair, exact_result}
 use Rattle.augmented_spec.specs.Theorems.{finer_int, FiniteOperands}
 use Rattle.augmented_spec.proofs.Second.{head, first-finite, underflowed-is}
 use Rattle.augmented_spec.proofs.Distance.{int-one, int-zero, scaled-size, sum-size, difference-size, left_is}

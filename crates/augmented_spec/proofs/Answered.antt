@@ -2,7 +2,7 @@
 use mathlib.Core.Path.{◌≡◌, refl, sym, ap, ◌∙◌}
 use mathlib.Core.Bool.{Bool, true, false, beq, cond, ◌&&◌}
 use mathlib.Core.List.{[], ◌∷◌}
-use Prim.Native.Nat.{ℕ, ◌+◌, ◌*◌, ◌/◌, ◌%◌, ◌^◌, ◌<◌}
+use Prim.Native.Nat.{ℕ, ◌<◌}
 use native.Mathlib.Decide.{dec_le}
 use native.Mathlib.Omega.{arith}
 use lib.Dec.{eqb}
@@ -15,12 +15,13 @@ use Rattle.rounding_spec.proofs.RoundValue.{round-fits}
 use Rattle.pattern_spec.specs.Exact.{plus, times, finer}
 use Rattle.pattern_spec.proofs.Sums.{sum-finite}
 use Rattle.binary32_spec.specs.Steps.{result}
-use Rattle.binary32_spec.proofs.Result.{result-number, decode-result, result-width}
+use Rattle.binary32_spec.proofs.Result.{result-number, decode-result}
 use Rattle.augmented_spec.specs.declared.Flags.{Flags}
+use Rattle.augmented_spec.specs.declared.Halves.{Halves as Patterns}
 use Rattle.augmented_spec.specs.declared.Pair.{Pair}
 use Rattle.augmented_spec.specs.Pairs.{Halves, zero_takes, second_of, pair_of, invalid, overflowed, underflowed, flags_of, answer, exact_sum, sum_pair, exact_product, product_pair}
 use Rattle.augmented_spec.specs.Direct.{none}
-use Rattle.augmented_spec.specs.Inner.{in_one_word, flags_without_u, pair_without_u, finite_answer, product_answer}
+use Rattle.augmented_spec.specs.Inner.{patterns_of, flags_without_u, pair_without_u, finite_answer, product_answer}
 use Rattle.augmented_spec.proofs.Second.{head, first-finite, first-infinite, second-infinite, second_is, side, gap}
 use Rattle.augmented_spec.proofs.FlagSets.{finite_number, finite-flags, underflow-none}
 
@@ -166,14 +167,8 @@ module _ (x y : ℕ) where
   special-flags v e h f c i =
       ap (λ (k : ℕ). flagged x y (decode binary32 k)) i ∙ ap (flagged x y) (decode-encode binary32 (omega arith) v f) ∙ sym (ap (λ (p : Pair). p.flags) (product-twice v e h))
 
--- ---- of a sum, from both halves in one word
-word_first : (a b : ℕ) → a < 2 ^ 32 → (a + b * 2 ^ 32) % 2 ^ 32 ≡ a
-word_first a b h = omega arith
-
-word-second : (a b : ℕ) → a < 2 ^ 32 → (a + b * 2 ^ 32) / 2 ^ 32 ≡ b
-word-second a b h = omega arith
-
-module _ (x y both : ℕ) (is : both ≡ in_one_word (x ∷ y ∷ []) (pair_of binary32 (exact_sum binary32 x y))) where
+-- ---- of a sum, from both halves
+module _ (x y : ℕ) (both : Patterns) (is : both ≡ patterns_of (x ∷ y ∷ []) (pair_of binary32 (exact_sum binary32 x y))) where
   abbrev p : Halves
   p = pair_of binary32 (exact_sum binary32 x y)
 
@@ -181,16 +176,13 @@ module _ (x y both : ℕ) (is : both ≡ in_one_word (x ∷ y ∷ []) (pair_of b
   unfolding pair_of
   first_fits_lem = round-fits ToZero binary32 (exact_sum binary32 x y)
 
-  first_width : shown x y p.first < 2 ^ 32
-  first_width = result-width binary32 (x ∷ y ∷ []) (omega arith) p.first first_fits_lem
+  first-is : both.first ≡ shown x y p.first
+  first-is = ap (λ (h : Patterns). h.first) is
 
-  first-is : both % 2 ^ 32 ≡ shown x y p.first
-  first-is = ap (λ (w : ℕ). w % 2 ^ 32) is ∙ word_first (shown x y p.first) (shown x y p.second) first_width
+  second-part : both.second ≡ shown x y p.second
+  second-part = ap (λ (h : Patterns). h.second) is
 
-  second-part : both / 2 ^ 32 ≡ shown x y p.second
-  second-part = ap (λ (w : ℕ). w / 2 ^ 32) is ∙ word-second (shown x y p.first) (shown x y p.second) first_width
-
-  first-decodes : decode binary32 (both % 2 ^ 32) ≡ p.first
+  first-decodes : decode binary32 both.first ≡ p.first
   first-decodes = ap (decode binary32) first-is ∙ decode-result binary32 (x ∷ y ∷ []) (omega arith) p.first first_fits_lem
 
   -- a finite first comes from finite operands
@@ -203,9 +195,9 @@ module _ (x y both : ℕ) (is : both ≡ in_one_word (x ∷ y ∷ []) (pair_of b
       let first = (pair_of binary32 (finite s N)).first in
       finite-flags binary32 x y first false k.0 k.1 (finite_number first h) ∙ ap (λ (o : Bool). flags_of false o false) (finite-not-infinite first h)
 
-  pub none-raised : is_finite (decode binary32 (both % 2 ^ 32)) ≡ true → flagged x y (decode binary32 (both % 2 ^ 32)) ≡ none
+  pub none-raised : is_finite (decode binary32 both.first) ≡ true → flagged x y (decode binary32 both.first) ≡ none
   none-raised = rw first-decodes (sum-raises-none (exact_sum binary32 x y) refl)
 
-  pub sum-answer : (r : Pair) → r ≡ record { first = both % 2 ^ 32; second = both / 2 ^ 32; flags = flagged x y (decode binary32 (both % 2 ^ 32)) } → r ≡ sum_pair binary32 x y
+  pub sum-answer : (r : Pair) → r ≡ record { first = both.first; second = both.second; flags = flagged x y (decode binary32 both.first) } → r ≡ sum_pair binary32 x y
   unfolding sum_pair answer
   sum-answer r e = e ∙ same-pair first-is second-part (ap (flagged x y) first-decodes)

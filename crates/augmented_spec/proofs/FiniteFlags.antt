@@ -12,7 +12,9 @@ use Rattle.pattern_spec.proofs.Classified.{decode-flip}
 use Rattle.augmented_spec.specs.declared.Pair.{Pair}
 use Rattle.augmented_spec.specs.Pairs.{pair_of, invalid, overflowed, flags_of, answer}
 use Rattle.pattern_spec.proofs.Finiteness.{negate-finite}
-use Rattle.augmented_spec.specs.Direct.{Operation, sum, difference, product, none, OX, UX}
+use Rattle.augmented_spec.specs.declared.Operation.{Operation}
+use Rattle.augmented_spec.specs.declared.Operation.TheVariants.{Sum as sum, Difference as difference, Product as product}
+use Rattle.augmented_spec.specs.Direct.{none, OX, UX}
 use Rattle.augmented_spec.specs.Theorems.{FiniteOperands, second_operand}
 use Rattle.augmented_spec.proofs.Second.{head, first-finite, first-infinite}
 use Rattle.augmented_spec.proofs.FlagSets.{finite-flags}

@@ -18,7 +18,9 @@ use Rattle.pattern_spec.proofs.Classified.{decode-flip}
 use Rattle.pattern_spec.proofs.Integers.{plus-exact, times-exact, int-not, int-scale}
 use Rattle.augmented_spec.specs.declared.Pair.{Pair}
 use Rattle.augmented_spec.specs.Pairs.{pair_of, exact_product}
-use Rattle.augmented_spec.specs.Direct.{Operation, sum, difference, product, exact_result}
+use Rattle.augmented_spec.specs.declared.Operation.{Operation}
+use Rattle.augmented_spec.specs.declared.Operation.TheVariants.{Sum as sum, Difference as difference, Product as product}
+use Rattle.augmented_spec.specs.Direct.{exact_result}
 use Rattle.augmented_spec.specs.Theorems.{zero_sign, FiniteOperands}
 use Rattle.pattern_spec.proofs.Integers.{int-size}
 use Rattle.augmented_spec.proofs.Read.{exact_for, first_read_lem, second-read}

@@ -15,7 +15,9 @@ use Rattle.pattern_spec.proofs.Classified.{decode-flip, nan-negated}
 use Rattle.pattern_spec.proofs.Finiteness.{number-of}
 use Rattle.augmented_spec.specs.declared.Pair.{Pair}
 use Rattle.augmented_spec.specs.Pairs.{pair_of, invalid, overflowed, underflowed, answer, exact_product}
-use Rattle.augmented_spec.specs.Direct.{Operation, sum, difference, product, direct_pair}
+use Rattle.augmented_spec.specs.declared.Operation.{Operation}
+use Rattle.augmented_spec.specs.declared.Operation.TheVariants.{Sum as sum, Difference as difference, Product as product}
+use Rattle.augmented_spec.specs.Direct.{direct_pair}
 use Rattle.augmented_spec.specs.Theorems.{finer_int, FiniteOperands, FinitePattern, FlagSetFields, InvalidRaised, OverflowRaised, UnderflowRaised, InexactRaised, second_operand}
 use Rattle.augmented_spec.proofs.FlagSets.{underflow-none}
 use Rattle.augmented_spec.proofs.Answered.{Operands, product-operands}

@@ -10,7 +10,8 @@ use Rattle.pattern_spec.specs.Classes.{flip}
 use Rattle.pattern_spec.proofs.Exchanged.{plus_comm}
 use Rattle.augmented_spec.specs.declared.Flags.{Flags}
 use Rattle.augmented_spec.specs.Pairs.{Halves, pair_of, invalid, overflowed, underflowed, flags_of, answer, exact_sum, sum_pair, difference_pair, exact_product, product_pair}
-use Rattle.augmented_spec.specs.Direct.{sum, difference, product, direct_pair, none, I, OX, UX}
+use Rattle.augmented_spec.specs.declared.Operation.TheVariants.{Sum as sum, Difference as difference, Product as product}
+use Rattle.augmented_spec.specs.Direct.{direct_pair, none, I, OX, UX}
 use Rattle.augmented_spec.specs.Theorems.{FlagSets}
 
 abbrev OneOf : Flags → Type 0

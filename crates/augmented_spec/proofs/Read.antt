@@ -12,7 +12,9 @@ use Rattle.binary32_spec.specs.Steps.{result}
 use Rattle.binary32_spec.proofs.Result.{decode-result}
 use Rattle.augmented_spec.specs.declared.Pair.{Pair}
 use Rattle.augmented_spec.specs.Pairs.{rest, zero_takes, second_of, pair_of, underflowed, answer, exact_sum, sum_pair, difference_pair, exact_product, product_pair}
-use Rattle.augmented_spec.specs.Direct.{Operation, sum, difference, product, direct_pair}
+use Rattle.augmented_spec.specs.declared.Operation.{Operation}
+use Rattle.augmented_spec.specs.declared.Operation.TheVariants.{Sum as sum, Difference as difference, Product as product}
+use Rattle.augmented_spec.specs.Direct.{direct_pair}
 use Rattle.augmented_spec.specs.Theorems.{second_operand}
 use Rattle.augmented_spec.proofs.FlagSets.{underflow-none}
 

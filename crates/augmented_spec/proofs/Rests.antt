@@ -1,7 +1,7 @@
 -- Pairs of finite operands as the code makes them, from a rounded number and what it left over.
 use mathlib.Core.Path.{◌≡◌, refl, sym, ap, ap₂, ◌∙◌}
 use mathlib.Core.Bool.{Bool, true, false, not, cond}
-use mathlib.Core.List.{List}
+use mathlib.Core.List.{List, []}
 use Prim.Native.Nat.{ℕ, suc, ◌+◌, ◌-◌, ◌*◌, ◌^◌, ◌≤◌, ◌<◌}
 use native.Mathlib.Nat.{le_trans, le_of_eq, le_of_lt, lt_of_le_of_lt, lt_of_lt_of_le, lt_of_mul-lt-mul_right, eq_of_mul-eq-mul_right, mul-one}
 use native.Mathlib.Decide.{dec_le}
@@ -14,20 +14,22 @@ use Rattle.rounding_spec.specs.declared.Ties.TheVariants.{ToZero}
 use Rattle.rounding_spec.specs.Format.{binary32, limit}
 use Rattle.rounding_spec.specs.Round.{last_place, rounded, left_over, rounded_up}
 use Rattle.rounding_spec.specs.Nearest.{dist}
-use Rattle.rounding_spec.specs.Value.{Value, finite, decode, encode, round_finite, is_finite, is_infinite}
+use Rattle.rounding_spec.specs.Value.{Value, finite, decode, encode, round_finite, round, is_finite, is_infinite}
 use Rattle.rounding_spec.proofs.Multiple.{joined, mult-dist}
 use Rattle.rounding_spec.proofs.LastPlace.{place-le}
 use Rattle.rounding_spec.proofs.Bounds.{rounded-le}
 use Rattle.rounding_spec.proofs.NearLaws.{near-mult}
 use Rattle.rounding_spec.proofs.Rounded.{rounded-near, rounded-half, rounded-exact}
 use Rattle.rounding_spec.proofs.Scaled.{rounded-rep}
-use Rattle.rounding_spec.proofs.RoundValue.{round-below, round-above}
+use Rattle.rounding_spec.proofs.Codec.{decode-encode}
+use Rattle.rounding_spec.proofs.RoundValue.{round-fits, round-below, round-above}
 use Rattle.pattern_spec.specs.Classes.{zero_pattern}
 use Rattle.pattern_spec.proofs.Products.{none, some_left}
+use Rattle.augmented_spec.specs.declared.Halves.{Halves as Patterns}
 use Rattle.augmented_spec.specs.declared.Pair.{Pair}
 use Rattle.binary32_spec.proofs.Result.{result-number}
 use Rattle.augmented_spec.specs.Pairs.{zero_takes, pair_of, underflowed, flags_of}
-use Rattle.augmented_spec.specs.Inner.{in_one_word, finite_answer, product_answer, ShortRest}
+use Rattle.augmented_spec.specs.Inner.{both, patterns_of, finite_answer, product_answer, ShortRest}
 use Rattle.augmented_spec.proofs.Second.{head, left, up, tail, tail-le, first-finite, pair-second, first-infinite, second-infinite, underflowed-is}
 use Rattle.augmented_spec.proofs.Patterns.{finite-shows, infinite-shows, zero_pattern_lem}
 use Rattle.augmented_spec.proofs.Answered.{same-pair, first-number, second-number}
@@ -67,14 +69,25 @@ module _ (s : Bool) (N : ℕ) where
   halved-finite h c d e g =
       record { first = e ∙ first-encodes; second = g ∙ sym (ap (encode binary32) (pair-second binary32 s N h)); infinite = sym (ap is_infinite (first-finite binary32 s N h)) }
 
-  -- as a pair with flags, and in one word
+  -- as a pair with flags, and without
   pub halved-pair : {c d : ℕ} {over : Bool} (u : Bool) → Halved c d over → record { first = c; second = d; flags = flags_of false over u } ≡ finite_answer (pair_of binary32 (finite s N)) u
   halved-pair u h = same-pair h.first h.second (ap (λ (o : Bool). flags_of false o u) h.infinite)
 
-  pub halved_word : {c d : ℕ} {over : Bool} → Halved c d over → (operands : List ℕ) → c + d * 2 ^ 32 ≡ in_one_word operands (pair_of binary32 (finite s N))
-  halved_word h operands =
-      ap₂ (λ (a b : ℕ). a + b * 2 ^ 32) (h.first ∙ sym (result-number binary32 operands _ (first-number binary32 s N)))
+  pub halved-patterns : {c d : ℕ} {over : Bool} → Halved c d over → (operands : List ℕ) → both c d ≡ patterns_of operands (pair_of binary32 (finite s N))
+  halved-patterns h operands =
+      ap₂ both (h.first ∙ sym (result-number binary32 operands _ (first-number binary32 s N)))
       (h.second ∙ sym (result-number binary32 operands _ (second-number binary32 s N)))
+
+  pub plain-patterns : (h : Patterns) → ((operands : List ℕ) → h ≡ patterns_of operands (pair_of binary32 (finite s N)))
+      → (h.first ≡ encode binary32 (pair_of binary32 (finite s N)).first) × (h.second ≡ encode binary32 (pair_of binary32 (finite s N)).second)
+  plain-patterns h e = (
+    ap (λ (k : Patterns). k.first) (e []) ∙ result-number binary32 [] _ (first-number binary32 s N),
+    ap (λ (k : Patterns). k.second) (e []) ∙ result-number binary32 [] _ (second-number binary32 s N),
+  )
+
+  pub first-shows : is_infinite (decode binary32 (encode binary32 (pair_of binary32 (finite s N)).first)) ≡ is_infinite (pair_of binary32 (finite s N)).first
+  unfolding pair_of round
+  first-shows = ap is_infinite (decode-encode binary32 (omega arith) (round_finite ToZero binary32 s N) (round-fits ToZero binary32 (finite s N)))
 
   pub infinite-loses-nothing : limit binary32 ≤ head binary32 s N → underflowed binary32 (finite s N) (pair_of binary32 (finite s N)) ≡ false
   infinite-loses-nothing h = underflow-none binary32 (finite s N) (pair_of binary32 (finite s N)) (ap is_finite (first-infinite binary32 s N h))

@@ -13,7 +13,9 @@ use Rattle.pattern_spec.specs.Exact.{negate, plus, times, finer}
 use Rattle.pattern_spec.proofs.Classified.{decode-flip}
 use Rattle.pattern_spec.proofs.Exchanged.{plus_comm}
 use Rattle.augmented_spec.specs.Pairs.{flags_of}
-use Rattle.augmented_spec.specs.Direct.{Operation, sum, difference, product, direct_pair, none, I}
+use Rattle.augmented_spec.specs.declared.Operation.{Operation}
+use Rattle.augmented_spec.specs.declared.Operation.TheVariants.{Sum as sum, Difference as difference, Product as product}
+use Rattle.augmented_spec.specs.Direct.{direct_pair, none, I}
 use Rattle.augmented_spec.specs.Theorems.{Twice, second_operand, NaNOperand, OppositeInfinities, ZeroTimesInfinity, InfiniteOperand}
 use Rattle.augmented_spec.proofs.Read.{exact_for}
 use Rattle.augmented_spec.proofs.FlagSets.{times-nan}

@@ -9,7 +9,9 @@ use Rattle.rounding_spec.specs.Value.{Value, nan, infinite, finite, decode, is_n
 use Rattle.pattern_spec.specs.Exact.{plus, times, finer}
 use Rattle.binary32_spec.specs.Steps.{result}
 use Rattle.augmented_spec.specs.Pairs.{second_of, pair_of, invalid, overflowed, flags_of, answer}
-use Rattle.augmented_spec.specs.Direct.{Operation, sum, difference, product, direct_pair, none}
+use Rattle.augmented_spec.specs.declared.Operation.{Operation}
+use Rattle.augmented_spec.specs.declared.Operation.TheVariants.{Sum as sum, Difference as difference, Product as product}
+use Rattle.augmented_spec.specs.Direct.{direct_pair, none}
 use Rattle.augmented_spec.specs.Theorems.{Twice, second_operand}
 use Rattle.augmented_spec.proofs.FlagSets.{invalid-none}
 use Rattle.augmented_spec.proofs.Answered.{Operands, same-pair, sum-operands, product-operands}

@@ -19,7 +19,8 @@ use Rattle.binary32_spec.specs.Steps.{result}
 use Rattle.binary32_spec.proofs.Result.{result-nan, result-width}
 use Rattle.augmented_spec.specs.Pairs.{second_of, pair_of, sum_pair, difference_pair, product_pair}
 use Rattle.augmented_spec.specs.Cases.{Table}
-use Rattle.augmented_spec.specs.Direct.{Operation, direct_pair}
+use Rattle.augmented_spec.specs.declared.Operation.{Operation}
+use Rattle.augmented_spec.specs.Direct.{direct_pair}
 use Rattle.augmented_spec.specs.Theorems.{EveryFinite, DirectPairs, FirstRounded, FirstNearest, Overflow, SecondRounded, SecondNearest, HalfUnit, SumAddsUp, ProductAddsUp, FlagsOfFinite}
 use Rattle.augmented_spec.specs.Theorems.{OperationNumbers, second_operand, NaNOperand, OppositeInfinities, ZeroTimesInfinity, NaNLandmarks, InfiniteOperand, FlagSets, InfiniteTwice, NaNTwice}
 use Rattle.augmented_spec.specs.Theorems.{DifferenceIsSum, PatternWidth, All}

@@ -20,6 +20,8 @@ use Rattle.rounding_spec.proofs.Compare.{tri}
 use Rattle.rounding_spec.proofs.Rounded.{rounded-exact}
 use Rattle.rounding_spec.proofs.Codec.{unsigned-finite, unsigned-infinite, unsigned-nan, encode-decode, decode-fits, pattern-rep}
 use Rattle.rounding_spec.proofs.RoundValue.{round-below}
+use Rattle.rounding_spec.specs.declared.Number.{Number}
+use Rattle.rounding_spec.specs.Numbers.{number_value}
 use Rattle.pattern_spec.specs.Exact.{plus_finite, plus, finer}
 use Rattle.pattern_spec.specs.declared.Class.{Class}
 use Rattle.pattern_spec.specs.declared.Class.TheVariants.{Finite}
@@ -32,7 +34,7 @@ use Rattle.pattern_spec.proofs.Finiteness.{finer-finite, plus-finite}
 use Rattle.pattern_spec.proofs.Sums.{like?, like-eq, sum_same, sum_left, finer-sum}
 use Rattle.binary32_spec.specs.Steps.{result}
 use Rattle.augmented_spec.specs.Pairs.{zero_takes, second_of, pair_of, exact_sum}
-use Rattle.augmented_spec.specs.Inner.{in_one_word, Apart}
+use Rattle.augmented_spec.specs.Inner.{both, patterns_of, Apart}
 use Rattle.augmented_spec.proofs.Patterns.{zero_pattern_lem}
 use Rattle.augmented_spec.proofs.Second.{second_is, side, unlike-true, unlike-false}
 
@@ -100,9 +102,9 @@ sign-shows x s a e =
 finite-encodes : (x : ℕ) (s : Bool) (a : ℕ) → x < 2 ^ 32 → decode binary32 x ≡ finite s a → encode binary32 (finite s a) ≡ x
 finite-encodes x s a h e = ap (encode binary32) (sym e) ∙ encode-decode binary32 x h (λ n. let k : ◌≡◌ {A = ℕ} 0 1 = cc in omega arith)
 
-pub apart-word : (p q : ℕ) → p < 2 ^ 32 → q < 2 ^ 32 → Apart p q → p + zero_pattern (leb (2 ^ 31) p) q * 2 ^ 32 ≡ in_one_word (p ∷ q ∷ []) (pair_of binary32 (exact_sum binary32 p q))
+pub apart-patterns : (p q : ℕ) → p < 2 ^ 32 → q < 2 ^ 32 → Apart p q → both p (zero_pattern (leb (2 ^ 31) p) q) ≡ patterns_of (p ∷ q ∷ []) (pair_of binary32 (exact_sum binary32 p q))
 unfolding pair_of Fits result zero_takes
-apart-word p q hp hq k =
+apart-patterns p q hp hq k =
     let a = k.m * 2 ^ k.e in
     let b = k.n * 2 ^ k.d in
     let exact = exact_sum binary32 p q in
@@ -114,25 +116,25 @@ apart-word p q hp hq k =
     ap₂ (second_of binary32) same first
     ∙ apart-second binary32 k.s a k.t b (far-below k.m k.e k.n k.d k.operands.0 k.operands.1 k.far) (pattern-rep binary32 (omega arith) q k.t b k.right) fits.1
     in
-    sym (ap₂ (λ (c d : ℕ). c + d * 2 ^ 32) (ap (result binary32 (p ∷ q ∷ [])) first ∙ finite-encodes p k.s a hp k.left)
+    sym (ap₂ both (ap (result binary32 (p ∷ q ∷ [])) first ∙ finite-encodes p k.s a hp k.left)
     (ap (result binary32 (p ∷ q ∷ [])) second ∙ sym (zero_pattern_lem k.s k.t b fits.0 fits.1)
     ∙ ap₂ zero_pattern (sign-shows p k.s a k.left) (finite-encodes q k.t b hq k.right)))
 
 -- ---- an infinite or NaN sum is that of the step
-pub special-word : (operands : List ℕ) (v : Value) → is_finite v ≡ false → (r : ℕ) → r ≡ result binary32 operands (round ToEven binary32 v)
-    → r + r * 2 ^ 32 ≡ in_one_word operands (pair_of binary32 v)
+pub special-patterns : (operands : List ℕ) (v : Value) → is_finite v ≡ false → (r : ℕ) → r ≡ result binary32 operands (round ToEven binary32 v)
+    → both r r ≡ patterns_of operands (pair_of binary32 v)
 unfolding pair_of second_of round
-special-word operands nan h r e = rw e
-special-word operands (infinite s) h r e = rw e
-special-word operands (finite s N) h r e = absurd (let k : ◌≡◌ {A = ℕ} 0 1 = ap (λ (b : Bool). cond b 0 1) h in omega arith)
+special-patterns operands nan h r e = rw e
+special-patterns operands (infinite s) h r e = rw e
+special-patterns operands (finite s N) h r e = absurd (let k : ◌≡◌ {A = ℕ} 0 1 = ap (λ (b : Bool). cond b 0 1) h in omega arith)
 
 pub infinite-sum : (v w : Value) → is_finite v && is_finite w ≡ false → is_finite (finer binary32 (plus v w)) ≡ false
 infinite-sum v w h = finer-finite binary32 (plus v w) ∙ plus-finite v w ∙ h
 
 -- ---- operands by their class
-pub finite-class : (q : ℕ) (c : Class) (t : Bool) (n d : ℕ) → c ≡ class_of q → c ≡ Finite t n d → Operand n d × (decode binary32 q ≡ finite t (n * 2 ^ d))
+pub finite-class : (q : ℕ) (c : Class) (n : Number) → c ≡ class_of q → c ≡ Finite n → Operand n.sig n.exp × (decode binary32 q ≡ number_value n)
 unfolding value_of
-finite-class q c t n d e g = (class-operand q (Finite t n d) (sym g ∙ e), sym (class-value q (Finite t n d) (sym g ∙ e)))
+finite-class q c n e g = (class-operand q (Finite n) (sym g ∙ e), sym (class-value q (Finite n) (sym g ∙ e)))
 
 pub special-class : (q : ℕ) (c : Class) → c ≡ class_of q → is_finite (value_of c) ≡ false → is_finite (decode binary32 q) ≡ false
 special-class q c e h = ap is_finite (sym (class-value q c e)) ∙ h
@@ -144,8 +146,8 @@ second-special p q s a e h = infinite-sum (decode binary32 p) (decode binary32 q
 pub first-special : (p q : ℕ) → is_finite (decode binary32 p) ≡ false → is_finite (exact_sum binary32 p q) ≡ false
 first-special p q h = infinite-sum (decode binary32 p) (decode binary32 q) (rw h refl)
 
-pub below-class : (q : ℕ) (c : Class) (e : ℕ) (t : Bool) (n d : ℕ) → c ≡ class_of q → c ≡ Finite t n d → Below e (class_of q) → d ≤ e
-below-class q c e t n d i g b = rw (sym i ∙ g) at b
+pub below-class : (q : ℕ) (c : Class) (e : ℕ) (n : Number) → c ≡ class_of q → c ≡ Finite n → Below e (class_of q) → n.exp ≤ e
+below-class q c e n i g b = rw (sym i ∙ g) at b
 
 -- ---- two operands at one exponent
 pub near-short : (s : Bool) (m e : ℕ) (t : Bool) (n d : ℕ) → Operand m e → Operand n d → d ≤ e → e - d ≤ 31 → (r : Bool) (c : ℕ)

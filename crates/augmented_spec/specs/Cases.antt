@@ -2,7 +2,9 @@
 use Rattle.std.specs.Prelude.{ℕ, ◌≡◌, List, [], ◌∷◌}
 use Rattle.rounding_spec.specs.Format.{binary32}
 use Rattle.augmented_spec.specs.declared.Flags.{Flags}
-use Rattle.augmented_spec.specs.Direct.{Operation, sum, product, direct_pair, none, I, OX, UX}
+use Rattle.augmented_spec.specs.declared.Operation.{Operation}
+use Rattle.augmented_spec.specs.declared.Operation.TheVariants.{Sum as sum, Product as product}
+use Rattle.augmented_spec.specs.Direct.{direct_pair, none, I, OX, UX}
 
 -- operation, operands, first, second, flags
 pub data Case : Type 0 where

@@ -1,26 +1,11 @@
 -- The direct pair of any operation, its exact result, and the flag sets that occur, for statements about all of them.
-use Rattle.std.specs.Prelude.{ℕ, ◌^◌, Bool, true, false, cond, ◌&&◌, eqb, leb, ℤ, pos, ◌+ℤ◌, ◌-ℤ◌, ◌*ℤ◌}
+use Rattle.std.specs.Prelude.{ℕ, ◌^◌, true, false, ℤ, pos, ◌+ℤ◌, ◌-ℤ◌, ◌*ℤ◌}
 use Rattle.rounding_spec.specs.Format.{Format, low}
 use Rattle.augmented_spec.specs.declared.Flags.{Flags}
 use Rattle.augmented_spec.specs.declared.Pair.{Pair}
+use Rattle.augmented_spec.specs.declared.Operation.{Operation}
+use Rattle.augmented_spec.specs.declared.Operation.TheVariants.{Sum as sum, Difference as difference, Product as product}
 use Rattle.augmented_spec.specs.Pairs.{sum_pair, difference_pair, product_pair}
-
-pub data Operation : Type 0 where
-  sum : Operation
-  difference : Operation
-  product : Operation
-
--- ---- operation numbers (R8.5): 1 sum, 2 difference, 3 product; any other number is none
-abbrev pub is_operation : ℕ → Bool
-is_operation n = leb 1 n && leb n 3
-
-abbrev pub operation_number : Operation → ℕ
-operation_number sum = 1
-operation_number difference = 2
-operation_number product = 3
-
-abbrev pub operation_of : ℕ → Operation
-operation_of n = cond (eqb n 1) sum (cond (eqb n 2) difference product)
 
 -- R3.1, R3.5, R3.2
 unfoldable pub direct_pair : Operation → Format → ℕ → ℕ → Pair

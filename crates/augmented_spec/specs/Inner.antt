@@ -7,12 +7,16 @@ use Rattle.rounding_spec.specs.Value.{finite, decode, encode, is_infinite}
 use Rattle.pattern_spec.specs.Inner.{Operand}
 use Rattle.binary32_spec.specs.Steps.{result}
 use Rattle.augmented_spec.specs.declared.Flags.{Flags}
+use Rattle.augmented_spec.specs.declared.Halves.{Halves as Patterns}
 use Rattle.augmented_spec.specs.declared.Pair.{Pair}
 use Rattle.augmented_spec.specs.Pairs.{Halves, pair_of, invalid, overflowed, underflowed, flags_of}
 
--- both patterns in one word; only a NaN's goes by the operands
-abbrev pub in_one_word : List ℕ → Halves → ℕ
-in_one_word operands p = result binary32 operands p.first + result binary32 operands p.second * 2 ^ 32
+-- both patterns; only a NaN's goes by the operands
+abbrev pub both : ℕ → ℕ → Patterns
+both a b = record { first = a; second = b }
+
+abbrev pub patterns_of : List ℕ → Halves → Patterns
+patterns_of operands p = both (result binary32 operands p.first) (result binary32 operands p.second)
 
 -- ---- answers
 -- the flags of two operands whose first has the pattern c, but for U

@@ -14,7 +14,9 @@ use Rattle.augmented_spec.specs.declared.Flags.{Flags}
 use Rattle.augmented_spec.specs.declared.Pair.{Pair}
 use Rattle.augmented_spec.specs.Pairs.{sum_pair, difference_pair, product_pair}
 use Rattle.augmented_spec.specs.Cases.{Table}
-use Rattle.augmented_spec.specs.Direct.{Operation, sum, difference, product, operation_number, operation_of}
+use Rattle.augmented_spec.specs.declared.Operation.{Operation}
+use Rattle.augmented_spec.specs.declared.Operation.TheVariants.{Sum as sum, Difference as difference, Product as product}
+use Rattle.augmented_spec.specs.Operations.{operation_number, operation_of}
 use Rattle.augmented_spec.specs.Direct.{direct_pair, exact_result, none, I, OX, UX}
 
 -- ---- what the statements are about

@@ -8,7 +8,7 @@ ghost use Rattle.binary32_spec.specs.Marks.{add_mark, sub_mark, mul_mark, fma_ma
 
 use binary32_add::marks::{rounded, special};
 pub use binary32_spec::Outcome;
-use pattern::{flipped, infinity, is_nan, nan_of_two};
+use pattern::{flipped, infinity, is_nan, nan_of};
 use pattern_spec::Class;
 
 pub fn add(x: u32, y: u32) -> Outcome
@@ -24,7 +24,7 @@ pub fn sub(x: u32, y: u32) -> Outcome
     ensures mark_value { result.mark ≡ sub_mark x y }
 {
     if is_nan(y) {
-        return special(nan_of_two(x, y));
+        return special(nan_of([x, y]));
     }
     binary32_add::of_patterns(x, flipped(y))
 }
@@ -33,15 +33,10 @@ pub fn mul(x: u32, y: u32) -> Outcome
     ensures result_value { result.result ≡ mul_step x y }
     ensures mark_value { result.mark ≡ mul_mark x y }
 {
-    let product = exact::product(x, y);
-    match product {
-        Class::NotANumber => special(nan_of_two(x, y)),
+    match exact::product(x, y) {
+        Class::NotANumber => special(nan_of([x, y])),
         Class::Infinite(s) => special(infinity(s)),
-        Class::Finite {
-            sign: s,
-            sig: m,
-            exp: e,
-        } => rounded(s, m, e),
+        Class::Finite(n) => rounded(n),
     }
 }
 

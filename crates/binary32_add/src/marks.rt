@@ -1,22 +1,22 @@
 // A step's result with its mark.
-ghost use Rattle.std.specs.Prelude.{◌≡◌, ◌*◌, ◌^◌};
-ghost use Rattle.rounding_spec.specs.Value.{finite};
+ghost use Rattle.std.specs.Prelude.{◌≡◌};
+ghost use Rattle.rounding_spec.specs.Numbers.{number_value};
 ghost use Rattle.binary32_spec.specs.Inner.{outcome};
 
 use binary32_spec::{EXACT, Outcome, ROUNDED, SPECIAL};
-use choose::{choose_pattern, choose_sign};
+use choose::choose;
 use pattern::is_finite;
-use rounding_spec::Ties;
+use rounding_spec::{Number, Ties};
 
-// Rounds sig * 2^exp, counted in 2^-298. Nothing is lost where the rounding leaves nothing over, unless it overflows.
-pub fn rounded(sign: bool, sig: u64, exp: u16) -> Outcome
-    ensures { result ≡ outcome (finite sign (sig * 2 ^ exp)) }
+// Rounds a number that counts 2^-298. Nothing is lost where the rounding leaves nothing over, unless it overflows.
+pub fn rounded(n: Number) -> Outcome
+    ensures { result ≡ outcome (number_value n) }
 {
-    let number = rounding::round_with_rest(Ties::ToEven, sign, sig, exp);
-    let kept = choose_sign(number.none, is_finite(number.pattern), false);
+    let number = rounding::round_with_rest(Ties::ToEven, n);
+    let kept = number.none & is_finite(number.pattern);
     Outcome {
         result: number.pattern,
-        mark: choose_pattern(kept, EXACT, ROUNDED),
+        mark: choose(kept, EXACT, ROUNDED),
     }
 }
 

@@ -2,7 +2,8 @@
 // back.
 #![tactic(auto)]
 
-// Marks (R2.8): nothing was lost; something was, by rounding or by overflow; there was an infinity or a NaN among the operands.
+// Marks (R2.8): nothing was lost; something was, by rounding or by overflow; there was an infinity or a NaN among the operands. They are
+// numbers, since an `Outcome` goes to C as it is (`jirmeklo_add`), and an enum of a word's size is no type here.
 pub const EXACT: u32 = 0;
 
 pub const ROUNDED: u32 = 1;

@@ -1,1 +1,1 @@
-pub mod Records
+pub mod Asked

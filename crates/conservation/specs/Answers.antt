@@ -1,11 +1,9 @@
--- The answers of `replay`: the number of each case of its enum (R8.12, R11.4).
+-- The answers of `replay`: done, or the refusal's number (R8.12, R11.4).
+use Rattle.std.specs.Prelude.{Result, Ok, Err}
 use Rattle.pattern_spec.specs.Answer.{Answer, refused, done}
-use Rattle.conservation.specs.declared.Replayed.{Replayed}
-use Rattle.conservation.specs.declared.Replayed.TheVariants as the-replayed
+use Rattle.conservation_spec.specs.declared.NotReplayed.{NotReplayed}
+use Rattle.conservation_spec.specs.Refusals.{refusal_number}
 
-abbrev pub answer_replayed : Replayed → Answer (Unit {0})
-answer_replayed the-replayed.Done = done tt
-answer_replayed the-replayed.Unequal = refused 101
-answer_replayed the-replayed.TooMany = refused 102
-answer_replayed the-replayed.NotCleared = refused 103
-answer_replayed the-replayed.PastWords = refused 104
+abbrev pub answer_replayed : Result (Unit {0}) NotReplayed → Answer (Unit {0})
+answer_replayed (Ok u) = done tt
+answer_replayed (Err why) = refused (refusal_number why)

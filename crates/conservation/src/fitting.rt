@@ -1,79 +1,46 @@
 // What is wrong with the lent arrays and totals. Nothing is written here.
-ghost use Rattle.std.specs.Prelude.{◌≡◌, not, ◌&&◌, eqb};
-ghost use Rattle.pattern_spec.specs.Answer.{is_done};
+ghost use Rattle.std.specs.Prelude.{◌≡◌};
 ghost use Rattle.conservation.specs.Answers.{answer_replayed};
-ghost use Rattle.conservation_spec.specs.Replay.{all_within, replaying};
+ghost use Rattle.conservation.specs.Inner.{asking, lent};
+ghost use Rattle.conservation_spec.specs.Replay.{all_equal, all_within, replaying};
 
-use crate::Replayed;
+use crate::questions::Questions;
 use accumulator::is_cleared;
-use conservation_spec::MOST_QUESTIONS;
+use conservation_spec::{MOST_QUESTIONS, NotReplayed};
 
-// `Done` where nothing is wrong.
-pub fn answer(
-    operations: &[u32],
-    xs: &[u32],
-    ys: &[u32],
-    counts: &[u32],
+#[tactic(auto, unfolding(conservation_spec::specs::Replay::replaying))]
+pub fn fit(
+    questions: Questions,
     words: &[u32],
     first: &[u32],
     other: &[u32],
-) -> Replayed
-    ensures { answer_replayed result ≡ replaying
-        (record { operations = operations.entry.now; xs = xs.now; ys = ys.now; counts = counts.now })
-        (record { words = words.entry.now; totals = record { first = first.entry.now; other = other.now } }) }
+) -> Result<(), NotReplayed>
+    ensures { answer_replayed result ≡ replaying (asking questions.entry) (lent words.entry.now first.entry.now other.entry.now) }
 {
-    let asked = operations.len();
-    if !all_equal(asked, xs.len(), ys.len(), counts.len()) {
-        return Replayed::Unequal;
+    if !all_equal(questions) {
+        return Err(NotReplayed::Unequal);
     }
-    if asked > MOST_QUESTIONS {
-        return Replayed::TooMany;
+    if questions.len() > MOST_QUESTIONS {
+        return Err(NotReplayed::TooMany);
     }
-    if !is_cleared(first) {
-        return Replayed::NotCleared;
+    if !is_cleared(first) || !is_cleared(other) {
+        return Err(NotReplayed::NotCleared);
     }
-    if !is_cleared(other) {
-        return Replayed::NotCleared;
+    if !all_within(questions.counts, words.len()) {
+        return Err(NotReplayed::PastWords);
     }
-    if !all_within(counts, words.len()) {
-        return Replayed::PastWords;
-    }
-    Replayed::Done
+    Ok(())
 }
 
-pub fn is_refusal(answer: Replayed) -> bool
-    ensures { result ≡ not (is_done (answer_replayed answer)) }
+fn all_equal(questions: Questions) -> bool
+    ensures { result ≡ all_equal (asking questions.entry) }
 {
-    match answer {
-        Replayed::Done => false,
-        Replayed::Unequal => true,
-        Replayed::TooMany => true,
-        Replayed::NotCleared => true,
-        Replayed::PastWords => true,
-    }
-}
-
-fn all_equal(asked: usize, xs: usize, ys: usize, counts: usize) -> bool
-    ensures { result ≡ eqb xs asked && (eqb ys asked && eqb counts asked) }
-{
-    if xs != asked {
-        return false;
-    }
-    if ys != asked {
-        return false;
-    }
-    counts == asked
+    let asked = questions.len();
+    questions.xs.len() == asked && questions.ys.len() == asked && questions.counts.len() == asked
 }
 
 fn all_within(counts: &[u32], most: usize) -> bool
     ensures { result ≡ all_within counts.now most }
 {
-    let mut i: usize = 0;
-    while i < counts.len() {
-        if counts[i] as usize > most {
-            return false;
-        }
-        i += 1;
-    }
-    true
+    counts.iter().all(|count| *count as usize <= most)
 }

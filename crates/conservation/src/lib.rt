@@ -3,21 +3,16 @@
 
 mod fitting;
 pub mod numbers;
+mod questions;
 mod settling;
 
 ghost use Rattle.std.specs.Prelude.{◌≡◌, true, length};
 ghost use Rattle.conservation.specs.Answers.{answer_replayed};
+ghost use Rattle.conservation.specs.Inner.{asking, lent, Equal};
 ghost use Rattle.conservation_spec.specs.Replay.{after_asking, all_within, Replays};
 
-// Carried out, or refused by 101 to 104 in this order (R8.12).
-#[derive(Clone, Copy)]
-pub enum Replayed {
-    Done,
-    Unequal,
-    TooMany,
-    NotCleared,
-    PastWords,
-}
+use conservation_spec::NotReplayed;
+use questions::Questions;
 
 // The ith question has the ith operation number and patterns, and the first counts[i] of the lent words to fill. Every misfit is found
 // before anything is changed.
@@ -29,43 +24,33 @@ pub fn replay(
     words: &mut [u32],
     first: &mut [u32],
     other: &mut [u32],
-) -> Replayed
+) -> Result<(), NotReplayed>
     ensures { Replays
         (record { operations = operations.now; xs = xs.now; ys = ys.now; counts = counts.now })
         (record { words = words.old; totals = record { first = first.old; other = other.old } })
         (answer_replayed result)
         (record { words = words.new; totals = record { first = first.new; other = other.new } }) }
 {
-    let answer = fitting::answer(operations, xs, ys, counts, words, first, other);
-    if fitting::is_refusal(answer) {
-        return answer;
-    }
-    ask_all(operations, xs, ys, counts, words, first, other);
-    answer
+    let questions = Questions {
+        operations,
+        xs,
+        ys,
+        counts,
+    };
+    fitting::fit(questions, words, first, other)?;
+    ask_all(questions, words, first, other);
+    Ok(())
 }
 
 // Each question gets what the last one left, of the words and of both totals.
-fn ask_all(
-    operations: &[u32],
-    xs: &[u32],
-    ys: &[u32],
-    counts: &[u32],
-    words: &mut [u32],
-    first: &mut [u32],
-    other: &mut [u32],
-)
-    requires lengths { (length xs.now ≡ length operations.now) × (length ys.now ≡ length operations.now)
-        × (length counts.now ≡ length operations.now) }
-    requires within { all_within counts.now (length words.old) ≡ true }
-    ensures { after_asking
-        (record { operations = operations.now; xs = xs.now; ys = ys.now; counts = counts.now })
-        (record { words = words.old; totals = record { first = first.old; other = other.old } })
-        ≡ record { words = words.new; totals = record { first = first.new; other = other.new } } }
+fn ask_all(questions: Questions, words: &mut [u32], first: &mut [u32], other: &mut [u32])
+    requires equal { Equal questions }
+    requires within { all_within questions.counts.now (length words.old) ≡ true }
+    ensures { after_asking (asking questions.entry) (lent words.old first.old other.old) ≡ lent words.new first.new other.new }
 {
-    let mut i: usize = 0;
-    while i < operations.len() {
-        let n = counts[i] as usize;
-        settling::settle(operations[i], xs[i], ys[i], &mut words[..n], first, other);
-        i += 1;
+    for i in 0..questions.len() {
+        let question = questions.get(i);
+        let given = &mut words[..question.count as usize];
+        settling::settle(question, given, first, other);
     }
 }

@@ -10,7 +10,8 @@ use lib.IntN.{ℤ, pos, ◌+ℤ◌, +ℤ_idr, +ℤ_idl, +ℤ_assoc}
 use Rattle.rounding_spec.specs.Format.{binary32}
 use Rattle.rounding_spec.specs.Value.{Value, nan, infinite, finite, decode}
 use Rattle.pattern_spec.specs.Exact.{whole}
-use Rattle.augmented_spec.specs.Direct.{Operation, exact_result}
+use Rattle.augmented_spec.specs.declared.Operation.{Operation}
+use Rattle.augmented_spec.specs.Direct.{exact_result}
 use Rattle.accumulator_spec.specs.Totals.{sign_of_both}
 use Rattle.accumulator_spec.proofs.Signs.{sign_zero, zero-sign, sign-assoc, sign-idl, sign-idr, column-sign-zero, all-minus-zero-sign}
 use Rattle.conservation_spec.specs.Lists.{Posed, sheet_for, operation_for, enters, foot_terms, set_terms, Event, asks, reads, adds}

@@ -17,7 +17,9 @@ use Rattle.pattern_spec.specs.Answer.{refused, is_done}
 use Rattle.rounding_spec.specs.Format.{binary32}
 use Rattle.rounding_spec.specs.Value.{Value, decode, is_finite}
 use Rattle.augmented_spec.specs.Pairs.{pair_of}
-use Rattle.augmented_spec.specs.Direct.{Operation, sum, difference, product, is_operation, operation_of}
+use Rattle.augmented_spec.specs.declared.Operation.{Operation}
+use Rattle.augmented_spec.specs.declared.Operation.TheVariants.{Sum as sum, Difference as difference, Product as product}
+use Rattle.augmented_spec.specs.Operations.{is_operation, operation_of}
 use Rattle.pattern_spec.specs.Classes.{both_finite}
 use Rattle.worksheet_spec.specs.Lines.{sheet_size}
 use Rattle.worksheet_spec.specs.Filling.{sheet_answer, filling}

@@ -8,7 +8,8 @@ use native.Mathlib.Nat.{add-zero, le_of_eq}
 use native.Mathlib.Omega.{arith}
 use lib.IntN.{ℤ, pos, ◌+ℤ◌, +ℤ_idl, +ℤ_idr, +ℤ_assoc}
 use Rattle.pattern_spec.specs.Answer.{refused}
-use Rattle.augmented_spec.specs.Direct.{Operation, sum, difference, product}
+use Rattle.augmented_spec.specs.declared.Operation.{Operation}
+use Rattle.augmented_spec.specs.declared.Operation.TheVariants.{Sum as sum, Difference as difference, Product as product}
 use Rattle.accumulator_spec.specs.Totals.{most_terms, FitTotal, total_of, count, sign_of_both, Term, finite_operands, adding, after_adding}
 use Rattle.accumulator_spec.specs.Columns.{column}
 use Rattle.accumulator_spec.proofs.Adding.{Fits, total-fit}

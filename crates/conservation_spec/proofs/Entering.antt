@@ -13,7 +13,9 @@ use Rattle.pattern_spec.specs.Answer.{Answer, refused, done, is_done}
 use Rattle.rounding_spec.specs.Format.{binary32}
 use Rattle.rounding_spec.specs.Value.{finite, decode, is_finite}
 use Rattle.augmented_spec.specs.declared.Pair.{Pair}
-use Rattle.augmented_spec.specs.Direct.{Operation, sum, difference, product, direct_pair}
+use Rattle.augmented_spec.specs.declared.Operation.{Operation}
+use Rattle.augmented_spec.specs.declared.Operation.TheVariants.{Sum as sum, Difference as difference, Product as product}
+use Rattle.augmented_spec.specs.Direct.{direct_pair}
 use Rattle.augmented_spec.specs.Theorems.{finer_int}
 use Rattle.augmented_spec.proofs.Theorems.{every-finite, sum-adds-up, product-adds-up}
 use Rattle.worksheet_spec.specs.Filling.{FilledSheet, filled, HasDirectPair}

@@ -2,13 +2,12 @@
 use mathlib.Core.Path.{◌≡◌, refl, sym, ap, ◌∙◌}
 use mathlib.Core.Bool.{true≢false, Bool, true, false, not, cond, ◌&&◌}
 use mathlib.Core.List.{List, [], ◌∷◌}
-use Prim.Native.Nat.{ℕ, zero, suc, ◌+◌, ◌≤◌, ◌<◌}
-use native.Mathlib.Numerals.{add-one}
+use Prim.Native.Nat.{ℕ, zero, suc, ◌≤◌, ◌<◌}
 use native.Mathlib.Omega.{arith}
-use borrow.Author.Tests.{eqb-true, leb-true, ltb-false, le-leb, lt-leb, lt-ltb, le-ltb}
+use borrow.Author.Tests.{eqb-true, leb-true, ltb-false, lt-ltb, le-ltb}
 use lib.Dec.{eqb, leb, ltb}
-use lib.ListN.{length, drop, get_or, drop_of_length-le}
-use lib.Seq.{drop-cons}
+use lib.ListN.{length, get_or}
+use Rattle.std.specs.List.{list_all}
 use Rattle.pattern_spec.proofs.Truth.{both_of}
 use Rattle.pattern_spec.specs.Answer.{Answer, refused, done, is_done}
 use Rattle.accumulator_spec.specs.Words.{all_zero}
@@ -24,19 +23,11 @@ cleared-already t e =
     let n = eqb-true (length t) total_size (both_of (eqb (length t) total_size) (all_zero t) e).0 in
     (n, sym (clearing-done t n).1 ∙ sym (is-zeros t e))
 
--- ---- counts, one by one
-module _ (ns : List ℕ) (most i : ℕ) (inside : i < length ns) where
-  pub within_more : get_or ns i 0 ≤ most → all_within (drop (i + 1) ns) most ≡ all_within (drop i ns) most
-  unfolding all_within
-  within_more h = rw (add-one, drop-cons ns i 0 inside, le-leb (get_or ns i 0) most h)
-
-  pub within-not : most < get_or ns i 0 → false ≡ all_within (drop i ns) most
-  unfolding all_within
-  within-not h = rw (drop-cons ns i 0 inside, lt-leb (get_or ns i 0) most h)
-
-pub within-done : (ns : List ℕ) (most i : ℕ) → length ns ≤ i → true ≡ all_within (drop i ns) most
+-- ---- counts, all and one by one
+pub within-is : (ns : List ℕ) (most : ℕ) → list_all (λ (n : ℕ). leb n most) ns ≡ all_within ns most
 unfolding all_within
-within-done ns most i h = rw (drop_of_length-le ns h)
+within-is [] most = refl
+within-is (n ∷ ns) most = ap (λ (b : Bool). leb n most && b) (within-is ns most)
 
 pub within-at : (ns : List ℕ) (most i : ℕ) → all_within ns most ≡ true → i < length ns → get_or ns i 0 ≤ most
 unfolding all_within

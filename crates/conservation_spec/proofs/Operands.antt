@@ -16,7 +16,9 @@ use Rattle.pattern_spec.proofs.Integers.{plus-exact, int-not, int-scale}
 use Rattle.pattern_spec.proofs.Sums.{sum-scale}
 use Rattle.pattern_spec.proofs.Theorems.{flip-negates}
 use Rattle.augmented_spec.specs.Pairs.{pair_of}
-use Rattle.augmented_spec.specs.Direct.{Operation, sum, difference, product, direct_pair, exact_result}
+use Rattle.augmented_spec.specs.declared.Operation.{Operation}
+use Rattle.augmented_spec.specs.declared.Operation.TheVariants.{Sum as sum, Difference as difference, Product as product}
+use Rattle.augmented_spec.specs.Direct.{direct_pair, exact_result}
 use Rattle.augmented_spec.specs.Theorems.{second_operand, FinitePattern}
 use Rattle.augmented_spec.proofs.Read.{exact_for, first_read_lem}
 use Rattle.augmented_spec.proofs.Unrounded.{infinite-sum}

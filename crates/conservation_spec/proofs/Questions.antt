@@ -12,7 +12,9 @@ use lib.ListN.{length, take, drop, get_or, length-take}
 use lib.Seq.{take_all, take_at, drop_at, length_front, length-take-le}
 use Rattle.pattern_spec.proofs.Truth.{both_of}
 use Rattle.pattern_spec.specs.Answer.{done}
-use Rattle.augmented_spec.specs.Direct.{Operation, sum, difference, product, operation_number}
+use Rattle.augmented_spec.specs.declared.Operation.{Operation}
+use Rattle.augmented_spec.specs.declared.Operation.TheVariants.{Sum as sum, Difference as difference, Product as product}
+use Rattle.augmented_spec.specs.Operations.{operation_number}
 use Rattle.worksheet_spec.specs.Lines.{sheet_size}
 use Rattle.worksheet_spec.specs.Filling.{after_filling}
 use Rattle.worksheet_spec.proofs.Theorems.{filling-refused, sheet-filled}

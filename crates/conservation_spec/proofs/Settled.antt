@@ -1,17 +1,21 @@
 -- One question by the pair that came back: whether it enters, and what it leaves on both totals.
-use mathlib.Core.Path.{◌≡◌, sym, ap, ap₂, ◌∙◌, subst}
-use mathlib.Core.Bool.{true, false}
+use mathlib.Core.Path.{◌≡◌, refl, sym, ap, ap₂, ◌∙◌, subst}
+use mathlib.Core.Bool.{true≢false, Bool, true, false}
 use mathlib.Core.List.{List, [], ◌∷◌}
 use Prim.Native.Nat.{ℕ}
-use borrow.Author.Tests.{ne_eqb}
+use borrow.Author.Tests.{eqb-true}
+use lib.Dec.{eqb}
+use Rattle.std.proofs.Common.{Result, Ok, Err}
+use Rattle.std.specs.Result.{result_unwrap_or}
 use Rattle.pattern_spec.specs.Answer.{Answer, refused}
-use Rattle.rounding_spec.specs.Format.{binary32}
-use Rattle.pattern_spec.specs.Classes.{flip}
 use Rattle.augmented_spec.specs.declared.Pair.{Pair}
-use Rattle.augmented_spec.specs.Direct.{operation_of}
+use Rattle.augmented_spec.specs.declared.NoOperation.{NoOperation}
+use Rattle.augmented_spec.specs.declared.Operation.{Operation}
+use Rattle.augmented_spec.specs.declared.Operation.TheVariants.{Sum as sum, Difference as difference, Product as product}
+use Rattle.augmented_spec.specs.Operations.{Numbers, is_operation, operation_of}
 use Rattle.worksheet_spec.specs.Filling.{FilledSheet, filled, HasDirectPair, Fills}
 use Rattle.worksheet_spec.proofs.Theorems.{filled-pair}
-use Rattle.accumulator_spec.specs.Totals.{Term, of_pattern, of_product, after_adding}
+use Rattle.accumulator_spec.specs.Totals.{Term, of_pattern, after_adding}
 use Rattle.accumulator_spec.specs.Columns.{column}
 use Rattle.conservation_spec.specs.Lists.{Posed, sheet_for, operation_for, direct_for, pair_enters, enters, set_terms, Totals}
 use Rattle.conservation_spec.specs.Inner.{Settles}
@@ -55,13 +59,14 @@ pub two-terms : (t a b : List ℕ) (x y : Term) → a ≡ after_adding t x → b
 unfolding column
 two-terms t a b x y e f = f ∙ ap (λ (u : List ℕ). after_adding u y) e
 
--- the terms set, by the operation's number
-module _ (n x y : ℕ) where
-  pub sum-set : n ≡ 1 → of_pattern x ∷ of_pattern y ∷ [] ≡ set_terms (operation_of n) x y
-  sum-set e = rw e
-
-  pub difference-set : {z : ℕ} → n ≡ 2 → z ≡ flip binary32 y → of_pattern x ∷ of_pattern z ∷ [] ≡ set_terms (operation_of n) x y
-  difference-set e f = rw (e, f)
-
-  pub product-set : (n ≡ 1 → ⊥) → (n ≡ 2 → ⊥) → of_product x y ∷ [] ≡ set_terms (operation_of n) x y
-  product-set a b = rw (ne_eqb n 1 a, ne_eqb n 2 b)
+-- a number that stands for no other operation counts as a product's
+pub product-asked : (n : ℕ) (r : Result Operation NoOperation) → Numbers n r → result_unwrap_or r product ≡ product → operation_of n ≡ product
+product-asked n (Ok sum) is e = cc
+product-asked n (Ok difference) is e = cc
+product-asked n (Ok product) is e = rw (← is) refl
+product-asked n (Err d) none e = go (eqb n 1) refl (eqb n 2) refl
+  where
+    go : (i : Bool) → eqb n 1 ≡ i → (j : Bool) → eqb n 2 ≡ j → operation_of n ≡ product
+    go true is j js = absurd (true≢false (ap is_operation (sym (eqb-true n 1 is)) ∙ none))
+    go false is true js = absurd (true≢false (ap is_operation (sym (eqb-true n 2 js)) ∙ none))
+    go false is false js = rw (is, js)

@@ -19,7 +19,9 @@ use Rattle.pattern_spec.specs.Exact.{int, negate}
 use Rattle.pattern_spec.proofs.Integers.{int-scale, times-exact}
 use Rattle.pattern_spec.proofs.Theorems.{flip-negates}
 use Rattle.augmented_spec.specs.declared.Pair.{Pair}
-use Rattle.augmented_spec.specs.Direct.{Operation, sum, difference, product, exact_result}
+use Rattle.augmented_spec.specs.declared.Operation.{Operation}
+use Rattle.augmented_spec.specs.declared.Operation.TheVariants.{Sum as sum, Difference as difference, Product as product}
+use Rattle.augmented_spec.specs.Direct.{exact_result}
 use Rattle.augmented_spec.specs.Theorems.{zero_sign, finer_int, FiniteOperands}
 use Rattle.augmented_spec.proofs.Theorems.{first-rounded, second-rounded}
 use Rattle.accumulator_spec.specs.Totals.{of_pattern, term_sign, sign_of_both}

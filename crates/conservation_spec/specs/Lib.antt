@@ -3,3 +3,4 @@ pub mod Claim
 pub mod Replay
 pub mod Inner
 pub mod Theorems
+pub mod Refusals

@@ -9,7 +9,10 @@ use Rattle.rounding_spec.specs.Value.{Value, nan, infinite, finite, decode}
 use Rattle.pattern_spec.specs.Classes.{both_finite, flip}
 use Rattle.pattern_spec.specs.Exact.{whole}
 use Rattle.augmented_spec.specs.declared.Pair.{Pair}
-use Rattle.augmented_spec.specs.Direct.{Operation, sum, difference, product, direct_pair, exact_result, operation_of}
+use Rattle.augmented_spec.specs.declared.Operation.{Operation}
+use Rattle.augmented_spec.specs.declared.Operation.TheVariants.{Sum as sum, Difference as difference, Product as product}
+use Rattle.augmented_spec.specs.Operations.{operation_of}
+use Rattle.augmented_spec.specs.Direct.{direct_pair, exact_result}
 use Rattle.worksheet_spec.specs.Filling.{FilledSheet, filling}
 use Rattle.accumulator_spec.specs.Totals.{Term, of_pattern, of_product, after_adding, exact_total}
 use Rattle.accumulator_spec.specs.Columns.{column}

@@ -9,7 +9,9 @@ use Rattle.rounding_spec.specs.Value.{finite, decode, is_finite}
 use Rattle.pattern_spec.specs.Exact.{int}
 use Rattle.pattern_spec.specs.Classes.{both_finite, flip}
 use Rattle.augmented_spec.specs.Pairs.{pair_of}
-use Rattle.augmented_spec.specs.Direct.{sum, difference, product, exact_result, operation_of}
+use Rattle.augmented_spec.specs.declared.Operation.TheVariants.{Sum as sum, Difference as difference, Product as product}
+use Rattle.augmented_spec.specs.Operations.{operation_of}
+use Rattle.augmented_spec.specs.Direct.{exact_result}
 use Rattle.worksheet_spec.specs.Lines.{sheet_size}
 use Rattle.worksheet_spec.specs.Filling.{FilledSheet, after_filling}
 use Rattle.accumulator_spec.specs.Words.{Words}

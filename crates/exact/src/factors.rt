@@ -1,70 +1,48 @@
-// Products of two classes.
-ghost use Rattle.std.specs.Prelude.{◌≡◌, ◌*◌, ◌^◌};
-ghost use Rattle.rounding_spec.specs.Value.{infinite, finite};
+// Products of an infinity or a number, and a class.
+ghost use Rattle.std.specs.Prelude.{◌≡◌};
+ghost use Rattle.rounding_spec.specs.Value.{infinite};
+ghost use Rattle.rounding_spec.specs.Numbers.{number_value};
 ghost use Rattle.pattern_spec.specs.Exact.{times};
 ghost use Rattle.pattern_spec.specs.Classes.{value_of};
 ghost use Rattle.pattern_spec.specs.Inner.{Operand, Bounded, ProductIs};
 
 use pattern_spec::Class;
+use rounding_spec::Number;
 
-pub fn times(a: Class, b: Class) -> Class
-    requires bounded { Bounded Operand a }
-    requires bounded_2 { Bounded Operand b }
-    ensures { ProductIs (times (value_of a) (value_of b)) result }
-{
-    match a {
-        Class::NotANumber => Class::NotANumber,
-        Class::Infinite(s) => infinite_times(s, b),
-        Class::Finite {
-            sign: s,
-            sig: m,
-            exp: e,
-        } => finite_times(s, m, e, b),
-    }
-}
-
-fn infinite_times(s: bool, b: Class) -> Class
+pub fn infinite_times(s: bool, b: Class) -> Class
     ensures { ProductIs (times (infinite s) (value_of b)) result }
 {
     match b {
         Class::NotANumber => Class::NotANumber,
         Class::Infinite(t) => Class::Infinite(s != t),
-        Class::Finite {
-            sign: t,
-            sig: n,
-            exp: _,
-        } => {
-            if n == 0 {
+        Class::Finite(n) => {
+            if n.sig == 0 {
                 Class::NotANumber
             } else {
-                Class::Infinite(s != t)
+                Class::Infinite(s != n.sign)
             }
         }
     }
 }
 
-fn finite_times(s: bool, m: u64, e: u16, b: Class) -> Class
-    requires operand { Operand m e }
+pub fn finite_times(m: Number, b: Class) -> Class
+    requires operand { Operand m.sig m.exp }
     requires bounded { Bounded Operand b }
-    ensures { ProductIs (times (finite s (m * 2 ^ e)) (value_of b)) result }
+    ensures { ProductIs (times (number_value m) (value_of b)) result }
 {
     match b {
         Class::NotANumber => Class::NotANumber,
         Class::Infinite(t) => {
-            if m == 0 {
+            if m.sig == 0 {
                 Class::NotANumber
             } else {
-                Class::Infinite(s != t)
+                Class::Infinite(m.sign != t)
             }
         }
-        Class::Finite {
-            sign: t,
-            sig: n,
-            exp: d,
-        } => Class::Finite {
-            sign: s != t,
-            sig: m * n,
-            exp: e + d,
-        },
+        Class::Finite(n) => Class::Finite(Number {
+            sign: m.sign != n.sign,
+            sig: m.sig * n.sig,
+            exp: m.exp + n.exp,
+        }),
     }
 }

@@ -9,7 +9,8 @@ ghost use Rattle.rounding_spec.specs.Value.{finite, decode};
 ghost use Rattle.pattern_spec.specs.Exact.{plus_finite, times};
 ghost use Rattle.pattern_spec.specs.Inner.{ProductIs};
 
-use choose::{choose, choose_sign};
+use crate::factors::{finite_times, infinite_times};
+use choose::choose;
 use pattern::classify;
 use pattern_spec::Class;
 
@@ -20,13 +21,15 @@ pub struct Signed {
     pub sig: u64,
 }
 
+// Significands of 32 bits and a gap modulo 32 ask nothing of the caller, as a `Number` would (docs/DECISIONS.md, "Total by narrow types").
 pub fn sum(s: bool, m: u32, gap: u16, t: bool, n: u32) -> Signed
     ensures { plus_finite s (m * 2 ^ (gap % 32)) t n ≡ finite result.sign result.sig }
 {
     signed_sum(s, (m as u64) << (gap % 32), t, n as u64)
 }
 
-// Signs are as good as random, so nothing branches on them.
+// Signs are as good as random, so nothing branches on them. With two structs of sign and magnitude `add` of near operands takes 124
+// instructions for 118, so that the four stay parameters.
 pub fn signed_sum(s: bool, a: u64, t: bool, b: u64) -> Signed
     requires { (a < 2 ^ 63) × (b < 2 ^ 63) }
     ensures { plus_finite s a t b ≡ finite result.sign result.sig }
@@ -35,16 +38,22 @@ pub fn signed_sum(s: bool, a: u64, t: bool, b: u64) -> Signed
     let high = choose(above, a, b);
     let low = choose(above, b, a);
     // An exact zero is minus only where both addends are.
-    let common = choose_sign(s, t, false);
+    let common = choose(s, t, false);
     Signed {
-        sign: choose_sign(above, s, choose_sign(a < b, t, common)),
+        sign: choose(above, s, choose(a < b, t, common)),
         sig: choose(s == t, high + low, high - low),
     }
 }
 
-// The product of two patterns, in units of 2^-298. How significand and exponent share it is free within the bounds of `Product`.
+// The product of two patterns, in units of 2^-298. How significand and exponent share it is free within the bounds of `Product`. Inlined
+// always: as a call it comes back through memory, and `mul` takes 154 instructions in the place of 90.
+#[inline(always)]
 pub fn product(x: u32, y: u32) -> Class
     ensures { ProductIs (times (decode binary32 x) (decode binary32 y)) result }
 {
-    factors::times(classify(x), classify(y))
+    match classify(x) {
+        Class::NotANumber => Class::NotANumber,
+        Class::Infinite(s) => infinite_times(s, classify(y)),
+        Class::Finite(m) => finite_times(m, classify(y)),
+    }
 }

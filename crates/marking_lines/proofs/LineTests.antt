@@ -1,57 +1,43 @@
 -- Which tests decide whether a line's step and operands are allowed, and whether it is true.
 use mathlib.Core.Path.{◌≡◌, refl}
-use mathlib.Core.Bool.{Bool, true, false}
+use mathlib.Core.Bool.{false, ◌&&◌}
 use mathlib.Core.List.{List}
-use Prim.Native.Nat.{ℕ, ◌≤◌, ◌<◌}
+use mathlib.Core.Logic.{◌⊎◌, inl, inr}
+use Prim.Native.Nat.{ℕ, ◌<◌}
 use native.Mathlib.Omega.{arith}
-use borrow.Author.Tests.{le-leb, lt-leb, eq-eqb, ne_eqb, eqb-false}
+use borrow.Author.Tests.{le-leb, lt-leb}
 use lib.Dec.{eqb}
+use Rattle.worksheet_spec.specs.declared.Step.{Step}
+use Rattle.worksheet_spec.specs.declared.Step.TheVariants.{Add as add, Subtract as subtract, Multiply as multiply, Fused as fused}
+use Rattle.worksheet_spec.specs.Steps.{step_number}
 use Rattle.worksheet_spec.specs.Lines.{mark_of}
 use Rattle.marking_spec.specs.declared.Claim.{Claim}
 use Rattle.marking_spec.specs.Marking.{step_of, step_result, among, third_allowed, allowed, is_true}
 
 module _ (ks : List ℕ) (l : Claim) where
-  pub below_steps : l.step < 1 → false ≡ allowed ks l
+  pub no-step : (l.step ≡ 0) ⊎ (4 < l.step) → false ≡ allowed ks l
   unfolding allowed
-  below_steps h = rw (lt-leb 1 l.step h)
+  no-step (inl e) = rw (lt-leb 1 l.step (omega (arith, e)))
+  no-step (inr h) = rw (le-leb 1 l.step (omega (arith, h)), lt-leb l.step 4 h)
 
-  pub above-steps : 1 ≤ l.step → 4 < l.step → false ≡ allowed ks l
+  pub allowed-by : (s : Step) → step_number s ≡ l.step → allowed ks l ≡ among l.x ks && (among l.y ks && third_allowed ks s l.z)
   unfolding allowed
-  above-steps h k = rw (le-leb 1 l.step h, lt-leb l.step 4 k)
+  allowed-by add e = rw (← e)
+  allowed-by subtract e = rw (← e)
+  allowed-by multiply e = rw (← e)
+  allowed-by fused e = rw (← e)
 
-  module _ (low : 1 ≤ l.step) (high : l.step ≤ 4) where
-    pub first-unknown : false ≡ among l.x ks → false ≡ allowed ks l
-    unfolding allowed
-    first-unknown e = rw (le-leb 1 l.step low, le-leb l.step 4 high, ← e)
+  pub third-looked-up : (s : Step) → s ≡ fused → third_allowed ks s l.z ≡ among l.z ks
+  third-looked-up s e = rw e
 
-    pub second-unknown : true ≡ among l.x ks → false ≡ among l.y ks → false ≡ allowed ks l
-    unfolding allowed
-    second-unknown e f = rw (le-leb 1 l.step low, le-leb l.step 4 high, ← e, ← f)
-
-    module _ (e : true ≡ among l.x ks) (f : true ≡ among l.y ks) where
-      third : allowed ks l ≡ third_allowed ks (step_of l.step) l.z
-      unfolding allowed
-      third = rw (le-leb 1 l.step low, le-leb l.step 4 high, ← e, ← f)
-
-      pub third-looked-up : l.step ≡ 4 → (b : Bool) → b ≡ among l.z ks → b ≡ allowed ks l
-      third-looked-up i b g = rw (third, i) g
-
-      pub third-unused : (l.step ≡ 4 → ⊥) → eqb l.z 0 ≡ allowed ks l
-      third-unused n = rw third (go (eqb l.step 1) refl (eqb l.step 2) refl (eqb l.step 3) refl)
-        where
-          go : (i : Bool) → eqb l.step 1 ≡ i → (j : Bool) → eqb l.step 2 ≡ j → (k : Bool) → eqb l.step 3 ≡ k → eqb l.z 0 ≡ third_allowed ks (step_of l.step) l.z
-          go true is j js k ks' = rw is
-          go false is true js k ks' = rw (is, js)
-          go false is false js true ks' = rw (is, js, ks')
-          go false is false js false ks' =
-              absurd (omega (arith, eqb-false l.step 1 is, eqb-false l.step 2 js, eqb-false l.step 3 ks'))
+  pub third-unused : (s : Step) → (s ≡ fused → ⊥) → third_allowed ks s l.z ≡ eqb l.z 0
+  third-unused add n = refl
+  third-unused subtract n = refl
+  third-unused multiply n = refl
+  third-unused fused n = absurd (n refl)
 
 -- ---- a true line
 module _ (l : Claim) {r m : ℕ} (result-is : r ≡ step_result (step_of l.step) l.x l.y l.z) (mark-is : m ≡ mark_of (step_of l.step) l.x l.y l.z) where
-  pub false-result : (l.result ≡ r → ⊥) → false ≡ is_true l
+  pub true-by : is_true l ≡ eqb l.result r && eqb l.mark m
   unfolding is_true
-  false-result n = rw (← result-is, ne_eqb l.result r n)
-
-  pub true-result : l.result ≡ r → eqb l.mark m ≡ is_true l
-  unfolding is_true
-  true-result e = rw (← result-is, ← mark-is, eq-eqb l.result r e)
+  true-by = rw (← result-is, ← mark-is)

@@ -11,16 +11,7 @@ use worksheet_spec::{
 pub fn known(x: u32, y: u32, earlier: &[u32], p: u32) -> bool
     ensures { result ≡ among p (known x y (claims earlier.now)) }
 {
-    if is_either(p, x) {
-        return true;
-    }
-    if is_either(p, y) {
-        return true;
-    }
-    if is_constant(p) {
-        return true;
-    }
-    is_result(earlier, p)
+    is_either(p, x) || is_either(p, y) || is_constant(p) || is_result(earlier, p)
 }
 
 // The pattern k, or that with its sign flipped.
@@ -33,30 +24,15 @@ fn is_either(p: u32, k: u32) -> bool
 fn is_constant(p: u32) -> bool
     ensures { result ≡ among p (minus_zero ∷ constants) }
 {
-    let magnitude = p % 0x8000_0000;
-    match magnitude {
-        PSI => true,
-        TWO => true,
-        HALF => true,
-        KAPPA => true,
-        TWO_TO_24 => true,
-        TWO_TO_48 => true,
-        TWO_TO_MINUS_24 => true,
-        PLUS_ZERO => true,
-        SMALLEST => true,
-        _ => false,
-    }
+    matches!(
+        p % 0x8000_0000,
+        PSI | TWO | HALF | KAPPA | TWO_TO_24 | TWO_TO_48 | TWO_TO_MINUS_24 | PLUS_ZERO | SMALLEST
+    )
 }
 
 fn is_result(earlier: &[u32], p: u32) -> bool
     ensures { result ≡ among p (claimed_results (claims earlier.now)) }
 {
-    let mut at: usize = 0;
-    while LINE_SIZE <= earlier.len() - at {
-        if is_either(p, earlier[at + 4]) {
-            return true;
-        }
-        at += LINE_SIZE;
-    }
-    false
+    let (lines, _) = earlier.as_chunks::<LINE_SIZE>();
+    lines.iter().any(|line| is_either(p, line[4]))
 }

@@ -1,10 +1,11 @@
 -- Words as lines: line by line, in two parts, and how many there are.
 use mathlib.Core.Path.{◌≡◌, refl, sym, ap, ◌∙◌}
 use mathlib.Core.List.{List, [], ◌∷◌, ◌++◌, nil≢cons, head-eq_of_cons-eq}
-use Prim.Native.Nat.{ℕ, suc, ◌+◌, ◌-◌, ◌*◌, ◌≤◌, ◌<◌}
+use Prim.Native.Nat.{ℕ, zero, suc, ◌+◌, ◌-◌, ◌*◌, ◌/◌, ◌≤◌, ◌<◌}
 use native.Mathlib.Omega.{arith}
-use lib.ListN.{length, take, drop, get_or, take-append-drop}
-use lib.Seq.{drop-cons, take-add, length-take-le}
+use lib.ListN.{length, take, drop, get_or, take-append-drop, length-drop}
+use lib.Seq.{drop-cons, drop-drop, take-add, length-take-le}
+use Rattle.std.specs.Simd.{first_chunks}
 use Rattle.worksheet_spec.specs.Lines.{line_size}
 use Rattle.marking_spec.specs.declared.Claim.{Claim}
 use Rattle.marking_spec.specs.Marking.{claims}
@@ -39,6 +40,10 @@ claims-short (a ∷ b ∷ c ∷ []) h = refl
 claims-short (a ∷ b ∷ c ∷ d ∷ []) h = refl
 claims-short (a ∷ b ∷ c ∷ d ∷ e ∷ []) h = refl
 claims-short (a ∷ b ∷ c ∷ d ∷ e ∷ f ∷ ws) h = absurd (omega arith)
+
+-- ---- one line, alone and as the next of many
+pub one_line : (ws : List ℕ) → length ws ≡ line_size → claims ws ≡ claim_at ws 0 ∷ []
+one_line ws h = claims-at ws 0 (omega arith) ∙ ap (λ (ls : List Claim). claim_at ws 0 ∷ ls) (claims-short (drop line_size ws) (omega (arith, length-drop line_size ws)))
 
 -- ---- whole lines, and more words after them
 pub claims-append : (k : ℕ) (us vs : List ℕ) → length us ≡ line_size * k → claims (us ++ vs) ≡ claims us ++ claims vs
@@ -81,6 +86,29 @@ first-line (a ∷ b ∷ c ∷ []) l ls e = absurd (nil≢cons e)
 first-line (a ∷ b ∷ c ∷ d ∷ []) l ls e = absurd (nil≢cons e)
 first-line (a ∷ b ∷ c ∷ d ∷ e ∷ []) l ls i = absurd (nil≢cons i)
 first-line (a ∷ b ∷ c ∷ d ∷ e ∷ f ∷ ws) l ls i = ap (λ (k : Claim). k ∷ []) (head-eq_of_cons-eq i)
+
+-- ---- words cut into lines
+-- the ith of them
+pub chunk-is : (k i at : ℕ) (ws : List ℕ) → i < k → at ≡ line_size * i → get_or (first_chunks line_size k ws) i [] ≡ take line_size (drop at ws)
+chunk-is zero i at ws h e = absurd (omega arith)
+chunk-is (suc k) zero at ws h e = ap (λ (j : ℕ). take line_size (drop j ws)) (sym e)
+chunk-is (suc k) (suc i) at ws h e =
+    chunk-is k i (line_size * i) (drop line_size ws) (omega arith) refl
+    ∙ ap (take line_size) (drop-drop (line_size * i) line_size ws)
+    ∙ ap (λ (j : ℕ). take line_size (drop j ws)) (omega arith)
+
+-- that line, as it stands among the words
+pub line-at : (ws : List ℕ) (at : ℕ) (l : Claim) → at + line_size ≤ length ws → claims (take line_size (drop at ws)) ≡ l ∷ []
+    → claims (drop at ws) ≡ l ∷ claims (drop (at + line_size) ws)
+line-at ws at l h e =
+    let k = claims-at ws at h in
+    k ∙ ap (λ (i : Claim). i ∷ claims (drop (at + line_size) ws)) (head-eq_of_cons-eq (sym (first-line (drop at ws) (claim_at ws at) _ k) ∙ e))
+
+pub cut-at : (ws : List ℕ) (lines : List (List ℕ)) (i at : ℕ) (l : Claim) → lines ≡ first_chunks line_size (length ws / line_size) ws
+    → i < length ws / line_size → at ≡ line_size * i → claims (get_or lines i []) ≡ l ∷ [] → claims (drop at ws) ≡ l ∷ claims (drop (at + line_size) ws)
+cut-at ws lines i at l cut h e is =
+    let same = ap (λ (ls : List (List ℕ)). get_or ls i []) cut ∙ chunk-is (length ws / line_size) i at ws h e in
+    line-at ws at l (omega arith) (ap claims (sym same) ∙ is)
 
 -- ---- the words before a line, the line, and those behind it
 module _ (ws : List ℕ) (at k : ℕ) (whole : at ≡ line_size * k) where

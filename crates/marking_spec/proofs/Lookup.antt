@@ -2,11 +2,16 @@
 use mathlib.Core.Path.{◌≡◌, refl, sym, ap, ap₂, ◌∙◌}
 use mathlib.Core.Bool.{Bool, true, false, ◌&&◌, ◌||◌}
 use mathlib.Core.List.{List, [], ◌∷◌, ◌++◌}
-use Prim.Native.Nat.{ℕ, ◌+◌, ◌-◌, ◌%◌, ◌≤◌, ◌<◌}
+use mathlib.Core.Logic.{◌⊎◌, inl, inr}
+use native.Mathlib.Decide.{ℕ_discrete}
+use Prim.Native.Nat.{ℕ, zero, suc, ◌+◌, ◌-◌, ◌/◌, ◌%◌, ◌≤◌, ◌<◌}
 use native.Mathlib.Omega.{arith}
 use borrow.Author.Tests.{leb-true, leb-false, eq-eqb, ne_eqb, eqb-true, eqb-false}
 use lib.Dec.{leb, eqb}
 use lib.ListN.{length, drop, get_or, length-drop}
+use Rattle.std.specs.Simd.{first_chunks}
+use Rattle.std.specs.List.{list_any}
+use Rattle.std.proofs.lemmas.List.{get_or-take}
 use Rattle.pattern_spec.proofs.Truth.{both_of}
 use Rattle.worksheet_spec.specs.Lines.{line_size, minus}
 use Rattle.marking_spec.specs.declared.Claim.{Claim}
@@ -76,8 +81,34 @@ among-magnitudes p h (k ∷ ks) e =
     let b = both_of (leb k 0xffff_ffff) (are_patterns ks) e in
     ap₂ ◌||◌ (either_is p k h (omega (arith, leb-true k 0xffff_ffff b.0))) (among-magnitudes p h ks b.1)
 
-pub is-magnitude : (p m : ℕ) (ks : List ℕ) (b : Bool) → p < 0x1_0000_0000 → are_patterns ks ≡ true → p % 0x8000_0000 ≡ m → has_magnitude m ks ≡ b → b ≡ among p ks
-is-magnitude p m ks b h w e k = sym (among-magnitudes p h ks w ∙ ap (λ (n : ℕ). has_magnitude n ks) e ∙ k)
+-- one of them, or none
+abbrev pub OneOf : ℕ → List ℕ → Type 0
+OneOf m [] = ⊥
+OneOf m (k ∷ ks) = (m ≡ k % 0x8000_0000) ⊎ OneOf m ks
+
+abbrev pub NoneOf : ℕ → List ℕ → Type 0
+NoneOf m [] = Unit {0}
+NoneOf m (k ∷ ks) = (m ≡ k % 0x8000_0000 → ⊥) × NoneOf m ks
+
+magnitude-cases : (m : ℕ) (ks : List ℕ) → ((has_magnitude m ks ≡ true) × OneOf m ks) ⊎ ((has_magnitude m ks ≡ false) × NoneOf m ks)
+magnitude-cases m [] = inr (refl, tt)
+magnitude-cases m (k ∷ ks) =
+    elim (ℕ_discrete m (k % 0x8000_0000)) [
+      | yes e ↦ inl (rw (eq-eqb m (k % 0x8000_0000) e), inl e)
+      | no n ↦ elim (magnitude-cases m ks) [
+        | inl t ↦ inl (rw (ne_eqb m (k % 0x8000_0000) n) t.0, inr t.1)
+        | inr f ↦ inr (rw (ne_eqb m (k % 0x8000_0000) n) f.0, (n, f.1))
+      ]
+    ]
+
+pub constant-cases : (p : ℕ) → p < 0x1_0000_0000 → let ks = minus_zero ∷ constants in
+    ((among p ks ≡ true) × OneOf (p % 0x8000_0000) ks) ⊎ ((among p ks ≡ false) × NoneOf (p % 0x8000_0000) ks)
+constant-cases p h =
+    let same = among-magnitudes p h (minus_zero ∷ constants) refl in
+    elim (magnitude-cases (p % 0x8000_0000) (minus_zero ∷ constants)) [
+      | inl t ↦ inl (same ∙ t.0, t.1)
+      | inr f ↦ inr (same ∙ f.0, f.1)
+    ]
 
 -- ---- among the results that words hold
 pub result-more : (p : ℕ) (ws : List ℕ) (at : ℕ) → at + line_size ≤ length ws
@@ -88,6 +119,14 @@ result-more p ws at h = ap (λ (ls : List Claim). among p (claimed_results ls)) 
 pub no_result : (p : ℕ) (ws : List ℕ) (at : ℕ) → length ws - at < line_size → among p (claimed_results (claims (drop at ws))) ≡ false
 unfolding among
 no_result p ws at h = ap (λ (ls : List Claim). among p (claimed_results ls)) (claims-short (drop at ws) (omega (arith, length-drop at ws)))
+
+-- among those of words cut into lines
+pub among-results : (k p : ℕ) (ws : List ℕ) → length ws / line_size ≡ k
+    → list_any (λ (line : List ℕ). either p (get_or line 4 0)) (first_chunks line_size k ws) ≡ among p (claimed_results (claims ws))
+among-results zero p ws h = sym (no_result p ws 0 (omega arith))
+among-results (suc k) p ws h =
+    ap₂ ◌||◌ (ap (either p) (get_or-take line_size ws 4 0 (omega arith))) (among-results k p (drop line_size ws) (omega (arith, length-drop line_size ws)))
+    ∙ sym (result-more p ws 0 (omega arith))
 
 -- ---- among what is known
 pub known_is : (p x y : ℕ) (earlier : List Claim)

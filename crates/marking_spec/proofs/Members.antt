@@ -8,7 +8,10 @@ use native.Mathlib.Omega.{arith}
 use borrow.Author.Tests.{eq-eqb, eqb-true, eqb-false, leb-true}
 use lib.Dec.{eqb, leb}
 use Rattle.pattern_spec.proofs.Truth.{both_of}
-use Rattle.worksheet_spec.specs.Lines.{Step, add, subtract, multiply, fused, step_number, minus}
+use Rattle.worksheet_spec.specs.declared.Step.{Step}
+use Rattle.worksheet_spec.specs.declared.Step.TheVariants.{Add as add, Subtract as subtract, Multiply as multiply, Fused as fused}
+use Rattle.worksheet_spec.specs.Steps.{step_number}
+use Rattle.worksheet_spec.specs.Lines.{minus}
 use Rattle.worksheet_spec.specs.Theorems.{Among}
 use Rattle.marking_spec.specs.declared.Claim.{Claim}
 use Rattle.marking_spec.specs.Marking.{claimed_results, is_step, step_of, constants, minus_zero, among, known, third_allowed, allowed, is_true}

@@ -17,7 +17,8 @@ use Rattle.binary32_spec.specs.Steps.{add_value, result, add_step}
 use Rattle.binary32_spec.proofs.Result.{result-number, decode-result, result-quiet, result-width, result-same, add_step_lem}
 use Rattle.binary32_spec.proofs.Theorems.{step-nan, step-infinite}
 use Rattle.errorfree_spec.proofs.Steps.{round_whole}
-use Rattle.augmented_spec.specs.Direct.{Operation, direct_pair}
+use Rattle.augmented_spec.specs.declared.Operation.{Operation}
+use Rattle.augmented_spec.specs.Direct.{direct_pair}
 use Rattle.augmented_spec.specs.Theorems.{second_operand}
 use Rattle.augmented_spec.proofs.Read.{first, second, first_fits_lem, second_fits, first-pattern, second-pattern}
 use Rattle.marking_spec.specs.Marking.{minus_zero}

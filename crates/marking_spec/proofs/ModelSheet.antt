@@ -7,9 +7,13 @@ use Prim.Native.Nat.{ℕ}
 use native.Mathlib.Omega.{arith}
 use lib.ListN.{length, length-append}
 use Rattle.binary32_spec.specs.Marks.{add_mark}
-use Rattle.augmented_spec.specs.Direct.{Operation, operation_number}
+use Rattle.augmented_spec.specs.declared.Operation.{Operation}
+use Rattle.augmented_spec.specs.Operations.{operation_number}
 use Rattle.worksheet_spec.specs.Constants.{factors, smallest}
-use Rattle.worksheet_spec.specs.Lines.{Step, add, subtract, multiply, fused, step_number, Line, Gives, minus}
+use Rattle.worksheet_spec.specs.declared.Step.{Step}
+use Rattle.worksheet_spec.specs.declared.Step.TheVariants.{Add as add, Subtract as subtract, Multiply as multiply, Fused as fused}
+use Rattle.worksheet_spec.specs.Steps.{step_number}
+use Rattle.worksheet_spec.specs.Lines.{Line, Gives, minus}
 use Rattle.worksheet_spec.specs.Sheets.{sheet_of}
 use Rattle.worksheet_spec.specs.Filling.{lines_words}
 use Rattle.worksheet_spec.specs.Theorems.{Among, Member, Drawn, Each, results}

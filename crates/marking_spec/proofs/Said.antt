@@ -12,7 +12,10 @@ use lib.ListN.{length}
 use lib.Seq.{append_snoc}
 use Rattle.rounding_spec.specs.Format.{binary32}
 use Rattle.pattern_spec.proofs.Truth.{refute, alike}
-use Rattle.augmented_spec.specs.Direct.{Operation, sum, difference, product, direct_pair, operation_number, operation_of}
+use Rattle.augmented_spec.specs.declared.Operation.{Operation}
+use Rattle.augmented_spec.specs.declared.Operation.TheVariants.{Sum as sum, Difference as difference, Product as product}
+use Rattle.augmented_spec.specs.Operations.{operation_number, operation_of}
+use Rattle.augmented_spec.specs.Direct.{direct_pair}
 use Rattle.worksheet_spec.specs.Lines.{line_size}
 use Rattle.marking_spec.specs.declared.Claim.{Claim}
 use Rattle.marking_spec.specs.Marking.{claims, known, allowed, is_true, last_two_are, Marked, refused_at, judged, is_right, in_order, is_markable, marking}

@@ -3,11 +3,17 @@
 use Rattle.std.specs.Prelude.{ℕ, suc, ◌*◌, ◌%◌, Bool, false, not, cond, ◌&&◌, ◌||◌, List, [], ◌∷◌, ◌++◌, leb, eqb, length}
 use Rattle.rounding_spec.specs.Format.{binary32}
 use Rattle.binary32_spec.specs.Steps.{add_step, sub_step, mul_step, fma_step}
-use Rattle.augmented_spec.specs.Direct.{Operation, direct_pair, is_operation, operation_of}
+use Rattle.augmented_spec.specs.declared.Operation.{Operation}
+use Rattle.augmented_spec.specs.Operations.{is_operation, operation_of}
+use Rattle.augmented_spec.specs.Direct.{direct_pair}
 use Rattle.worksheet_spec.specs.Constants.{factors, smallest}
-use Rattle.worksheet_spec.specs.Lines.{line_size, Step, add, subtract, multiply, fused, mark_of, minus}
+use Rattle.worksheet_spec.specs.declared.Step.{Step}
+use Rattle.worksheet_spec.specs.declared.Step.TheVariants.{Add as add, Subtract as subtract, Multiply as multiply, Fused as fused}
+use Rattle.worksheet_spec.specs.Lines.{line_size, mark_of, minus}
 use Rattle.marking_spec.specs.declared.Claim.{Claim}
 use Rattle.marking_spec.specs.declared.MarkedNumbers.{MarkedNumbers}
+use Rattle.marking_spec.specs.declared.NotMarked.{NotMarked}
+use Rattle.marking_spec.specs.declared.NotMarked.TheVariants as not_marked
 
 -- ---- a candidate's lines
 -- the lines that words hold, six by six (R5.22); fewer words than six are no line
@@ -120,3 +126,10 @@ marking operation x y words =
 abbrev pub marked_numbers : Marked → MarkedNumbers
 marked_numbers (refused_at n at) = record { refusal = n; line = at; right = false }
 marked_numbers (judged right) = record { refusal = 0; line = 0; right = right }
+
+-- ---- the code's refusals, by their numbers and lines (R8.18)
+abbrev pub refusal_marked : NotMarked → Marked
+refusal_marked not_marked.Operation = refused_at 10 0
+refusal_marked not_marked.Words = refused_at 13 0
+refusal_marked (not_marked.NotAllowed line) = refused_at 14 line
+refusal_marked (not_marked.NotTrue line) = refused_at 15 line

@@ -4,8 +4,13 @@ use Rattle.rounding_spec.specs.Format.{binary32}
 use Rattle.binary32_spec.specs.Steps.{add_step, sub_step, mul_step, fma_step}
 use Rattle.binary32_spec.specs.Marks.{add_mark, sub_mark, mul_mark, fma_mark}
 use Rattle.augmented_spec.specs.declared.Pair.{Pair}
-use Rattle.augmented_spec.specs.Direct.{Operation, direct_pair, operation_number}
-use Rattle.worksheet_spec.specs.Lines.{line_size, Step, add, subtract, multiply, fused, step_number, Line, line, minus}
+use Rattle.augmented_spec.specs.declared.Operation.{Operation}
+use Rattle.augmented_spec.specs.Operations.{operation_number}
+use Rattle.augmented_spec.specs.Direct.{direct_pair}
+use Rattle.worksheet_spec.specs.declared.Step.{Step}
+use Rattle.worksheet_spec.specs.declared.Step.TheVariants.{Add as add, Subtract as subtract, Multiply as multiply, Fused as fused}
+use Rattle.worksheet_spec.specs.Steps.{step_number}
+use Rattle.worksheet_spec.specs.Lines.{line_size, Line, line, minus}
 use Rattle.worksheet_spec.specs.Sheets.{sheet_of}
 use Rattle.worksheet_spec.specs.Filling.{lines_words, filled, filling, after_filling}
 use Rattle.worksheet_spec.specs.Theorems.{Among}

@@ -1,14 +1,15 @@
 // What is asked of a pattern, and patterns with another sign.
 #![tactic(auto)]
 
-ghost use Rattle.std.specs.Prelude.{◌≡◌, [], ◌∷◌};
+ghost use Rattle.std.specs.Prelude.{◌≡◌};
 ghost use Rattle.rounding_spec.specs.Format.{binary32};
 ghost use Rattle.rounding_spec.specs.Value.{infinite, decode, is_nan, is_infinite, is_finite, is_zero, signalling, encode, quieted, nan_of};
 ghost use Rattle.pattern_spec.specs.Classes.{class_of, both_finite, flip, copy_sign, zero_pattern};
 ghost use Rattle.pattern_spec.specs.Inner.{larger, smaller};
 
-use choose::{choose_pattern, choose_sign};
+use choose::choose;
 use pattern_spec::{Class, NAN};
+use rounding_spec::Number;
 
 pub fn classify(x: u32) -> Class
     ensures { result ≡ class_of x }
@@ -17,16 +18,16 @@ pub fn classify(x: u32) -> Class
     let field = x % 0x8000_0000 / 0x80_0000;
     let fraction = x % 0x80_0000;
     match field {
-        0 => Class::Finite {
+        0 => Class::Finite(Number {
             sign,
             sig: fraction as u64,
             exp: 0,
-        },
-        1..=254 => Class::Finite {
+        }),
+        1..=254 => Class::Finite(Number {
             sign,
             sig: (0x80_0000 + fraction) as u64,
             exp: (field - 1) as u16,
-        },
+        }),
         // 255
         _ => {
             if fraction == 0 {
@@ -59,7 +60,7 @@ pub fn is_nan(x: u32) -> bool
 pub fn signalling(x: u32) -> bool
     ensures { result ≡ signalling binary32 x }
 {
-    choose_sign(is_nan(x), x / 0x40_0000 % 2 == 0, false)
+    is_nan(x) & (x / 0x40_0000 % 2 == 0)
 }
 
 pub fn is_zero(x: u32) -> bool
@@ -71,20 +72,20 @@ pub fn is_zero(x: u32) -> bool
 pub fn both_finite(x: u32, y: u32) -> bool
     ensures { result ≡ both_finite x y }
 {
-    choose_sign(is_finite(x), is_finite(y), false)
+    is_finite(x) & is_finite(y)
 }
 
 // The operand of the larger magnitude, whose exponent then is not below the other's.
 pub fn larger(x: u32, y: u32) -> u32
     ensures { result ≡ larger x y }
 {
-    choose_pattern(x % 0x8000_0000 < y % 0x8000_0000, y, x)
+    choose(x % 0x8000_0000 < y % 0x8000_0000, y, x)
 }
 
 pub fn smaller(x: u32, y: u32) -> u32
     ensures { result ≡ smaller x y }
 {
-    choose_pattern(x % 0x8000_0000 < y % 0x8000_0000, x, y)
+    choose(x % 0x8000_0000 < y % 0x8000_0000, x, y)
 }
 
 pub fn infinity(sign: bool) -> u32
@@ -105,27 +106,16 @@ pub fn quieted(x: u32) -> u32
     }
 }
 
-// The NaN that a NaN result of two operands is.
-pub fn nan_of_two(x: u32, y: u32) -> u32
-    ensures { result ≡ nan_of binary32 (x ∷ y ∷ []) }
+// The NaN that a NaN result of these operands is: the first one's, quieted.
+pub fn nan_of<const N: usize>(operands: [u32; N]) -> u32
+    ensures { result ≡ nan_of binary32 operands.entry }
 {
-    if is_nan(x) {
-        return quieted(x);
-    }
-    if is_nan(y) {
-        return quieted(y);
+    for x in &operands {
+        if is_nan(*x) {
+            return quieted(*x);
+        }
     }
     NAN
-}
-
-// And of three.
-pub fn nan_of_three(x: u32, y: u32, z: u32) -> u32
-    ensures { result ≡ nan_of binary32 (x ∷ y ∷ z ∷ []) }
-{
-    if is_nan(x) {
-        return quieted(x);
-    }
-    nan_of_two(y, z)
 }
 
 // A NaN's sign bit too: a difference flips it before anything is known of the operand.
@@ -142,12 +132,12 @@ pub fn flipped(x: u32) -> u32
 pub fn copy_sign(c: u32, a: u32) -> u32
     ensures { result ≡ copy_sign c a }
 {
-    choose_pattern(a >= 0x8000_0000, flipped(c), c)
+    choose(a >= 0x8000_0000, flipped(c), c)
 }
 
 pub fn zero_takes(sign: bool, x: u32) -> u32
     ensures { result ≡ zero_pattern sign x }
 {
-    let zero = choose_pattern(sign, 0x8000_0000, 0);
-    choose_pattern(is_zero(x), zero, x)
+    let zero = choose(sign, 0x8000_0000, 0);
+    choose(is_zero(x), zero, x)
 }

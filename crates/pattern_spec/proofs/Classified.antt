@@ -11,6 +11,7 @@ use lib.Dec.{leb, ltb, eqb}
 use lib.Pow.{mod-mod-pow}
 use Rattle.rounding_spec.specs.Format.{Format, binary32, infinity, sign_bit}
 use Rattle.rounding_spec.specs.Value.{Value, nan, infinite, finite, is_nan, fields, magnitude, unsigned, decode}
+use Rattle.rounding_spec.specs.Numbers.{number}
 use Rattle.rounding_spec.proofs.Compare.{tri}
 use Rattle.rounding_spec.proofs.Codec.{unsigned-finite, unsigned-infinite, unsigned-nan}
 use Rattle.pattern_spec.specs.declared.Class.{Class}
@@ -21,12 +22,12 @@ use Rattle.pattern_spec.specs.Inner.{Operand, Below, Descending, Bounded}
 
 -- ---- the four cases
 module _ (s : Bool) (m : ℕ) where
-  field-zero : (E : ℕ) → E ≡ 0 → by_field s E m ≡ Finite s m 0
+  field-zero : (E : ℕ) → E ≡ 0 → by_field s E m ≡ Finite (number s m 0)
   field-zero E e = rw e
 
-  field-normal : (E : ℕ) → 1 ≤ E → E ≤ 254 → by_field s E m ≡ Finite s (2 ^ 23 + m) (E - 1)
+  field-normal : (E : ℕ) → 1 ≤ E → E ≤ 254 → by_field s E m ≡ Finite (number s (2 ^ 23 + m) (E - 1))
   field-normal zero l h = absurd (lt_irrefl 0 l)
-  field-normal (suc e) l h = rw (ne_eqb (suc e) 255 (λ (q : suc e ≡ 255). omega arith)) (ap (Finite s (2 ^ 23 + m)) (omega arith))
+  field-normal (suc e) l h = rw (ne_eqb (suc e) 255 (λ (q : suc e ≡ 255). omega arith)) (ap (λ (e : ℕ). Finite (number s (2 ^ 23 + m) e)) (omega arith))
 
   field-infinite : (E : ℕ) → E ≡ 255 → m ≡ 0 → by_field s E m ≡ Infinite s
   field-infinite E e z = rw (e, z)
@@ -35,11 +36,11 @@ module _ (s : Bool) (m : ℕ) where
   field-nan E e n = rw (e, ne_eqb m 0 n)
 
 module _ (x : ℕ) where
-  pub class-zero : x % 2 ^ 31 / 2 ^ 23 ≡ 0 → Finite (leb (2 ^ 31) x) (x % 2 ^ 23) 0 ≡ class_of x
+  pub class-zero : x % 2 ^ 31 / 2 ^ 23 ≡ 0 → Finite (number (leb (2 ^ 31) x) (x % 2 ^ 23) 0) ≡ class_of x
   unfolding class_of
   class-zero e = sym (field-zero (leb (2 ^ 31) x) (x % 2 ^ 23) (x % 2 ^ 31 / 2 ^ 23) e)
 
-  pub class-normal : 1 ≤ x % 2 ^ 31 / 2 ^ 23 → x % 2 ^ 31 / 2 ^ 23 ≤ 254 → Finite (leb (2 ^ 31) x) (2 ^ 23 + x % 2 ^ 23) (x % 2 ^ 31 / 2 ^ 23 - 1) ≡ class_of x
+  pub class-normal : 1 ≤ x % 2 ^ 31 / 2 ^ 23 → x % 2 ^ 31 / 2 ^ 23 ≤ 254 → Finite (number (leb (2 ^ 31) x) (2 ^ 23 + x % 2 ^ 23) (x % 2 ^ 31 / 2 ^ 23 - 1)) ≡ class_of x
   unfolding class_of
   class-normal l h = sym (field-normal (leb (2 ^ 31) x) (x % 2 ^ 23) (x % 2 ^ 31 / 2 ^ 23) l h)
 
@@ -132,12 +133,12 @@ descend s (suc e) m t D n h = first (eqb (suc e) 255) (eqb m 0)
     zero-below zero h = omega arith
     zero-below (suc d) h = second (eqb (suc d) 255) (eqb n 0)
       where
-        second : (b c : Bool) → Below e (cond b (cond c (Infinite t) NotANumber) (Finite t (2 ^ 23 + n) d))
+        second : (b c : Bool) → Below e (cond b (cond c (Infinite t) NotANumber) (Finite (number t (2 ^ 23 + n) d)))
         second true true = tt
         second true false = tt
         second false c = omega arith
 
-    first : (b c : Bool) → Descending (cond b (cond c (Infinite s) NotANumber) (Finite s (2 ^ 23 + m) e)) (by_field t D n)
+    first : (b c : Bool) → Descending (cond b (cond c (Infinite s) NotANumber) (Finite (number s (2 ^ 23 + m) e))) (by_field t D n)
     first true true = tt
     first true false = tt
     first false c = zero-below D h

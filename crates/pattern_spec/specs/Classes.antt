@@ -1,21 +1,22 @@
 -- Patterns of binary32: the class by exponent field, as the code holds it, both finite, and patterns with another sign.
-use Rattle.std.specs.Prelude.{ℕ, zero, suc, ◌+◌, ◌-◌, ◌*◌, ◌/◌, ◌%◌, ◌^◌, Bool, cond, ◌&&◌, leb, eqb}
+use Rattle.std.specs.Prelude.{ℕ, zero, suc, ◌+◌, ◌-◌, ◌/◌, ◌%◌, ◌^◌, Bool, cond, ◌&&◌, leb, eqb}
 use Rattle.rounding_spec.specs.Format.{Format, binary32, sign_bit}
-use Rattle.rounding_spec.specs.Value.{Value, nan, infinite, finite, decode, is_finite, is_zero, signed}
+use Rattle.rounding_spec.specs.Value.{Value, nan, infinite, decode, is_finite, is_zero, signed}
+use Rattle.rounding_spec.specs.Numbers.{number, number_value}
 use Rattle.pattern_spec.specs.declared.Class.{Class}
 use Rattle.pattern_spec.specs.declared.Class.TheVariants.{Finite, Infinite, NotANumber}
 
 -- R1.2: by exponent field and fraction
 abbrev pub by_field : Bool → ℕ → ℕ → Class
-by_field s zero m = Finite s m 0
-by_field s (suc e) m = cond (eqb (suc e) 255) (cond (eqb m 0) (Infinite s) NotANumber) (Finite s (2 ^ 23 + m) e)
+by_field s zero m = Finite (number s m 0)
+by_field s (suc e) m = cond (eqb (suc e) 255) (cond (eqb m 0) (Infinite s) NotANumber) (Finite (number s (2 ^ 23 + m) e))
 
 unfoldable pub class_of : ℕ → Class
 class_of x = by_field (leb (2 ^ 31) x) (x % 2 ^ 31 / 2 ^ 23) (x % 2 ^ 23)
 
 -- the value that a class stands for
 unfoldable pub value_of : Class → Value
-value_of (Finite s m e) = finite s (m * 2 ^ e)
+value_of (Finite n) = number_value n
 value_of (Infinite s) = infinite s
 value_of NotANumber = nan
 

@@ -14,7 +14,7 @@ pub record Operand (m e : ℕ) : Type 0 where
 
 -- what holds of significand and exponent, where there are any
 abbrev pub Bounded : (ℕ → ℕ → Type 0) → Class → Type 0
-Bounded P (Finite s m e) = P m e
+Bounded P (Finite n) = P n.sig n.exp
 Bounded P (Infinite s) = Unit {0}
 Bounded P NotANumber = Unit {0}
 
@@ -28,12 +28,12 @@ smaller x y = cond (ltb (x % 2 ^ 31) (y % 2 ^ 31)) x y
 
 -- the exponent of a second addend is not above that of the first
 abbrev pub Below : ℕ → Class → Type 0
-Below e (Finite t n d) = d ≤ e
+Below e (Finite n) = n.exp ≤ e
 Below e (Infinite t) = Unit {0}
 Below e NotANumber = Unit {0}
 
 abbrev pub Descending : Class → Class → Type 0
-Descending (Finite s m e) b = Below e b
+Descending (Finite n) b = Below n.exp b
 Descending (Infinite s) b = Unit {0}
 Descending NotANumber b = Unit {0}
 

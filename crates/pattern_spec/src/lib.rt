@@ -1,10 +1,13 @@
-// The class of a pattern as the code holds it: its sign, significand and exponent, or what stands in their place.
+// The class of a pattern as the code holds it: its number, or what stands in a number's place.
 #![tactic(auto)]
 
-// A finite number is sig * 2^exp units of 2^-149, or of 2^-298 for a product.
+use rounding_spec::Number;
+
+// A number counts 2^-149, or 2^-298 for a product. Its bounds (`Operand`, `Product`) are no type's invariant: the two differ, and a class
+// is made by a definition too (`class_of`), which would have to hold their proof.
 #[derive(Clone, Copy)]
 pub enum Class {
-    Finite { sign: bool, sig: u64, exp: u16 },
+    Finite(Number),
     Infinite(bool),
     NotANumber,
 }

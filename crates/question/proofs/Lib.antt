@@ -1,2 +1,4 @@
+pub mod Chosen
 pub mod OneMore
+pub mod Starts
 pub mod Cases

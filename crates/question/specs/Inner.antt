@@ -1,20 +1,18 @@
 -- What the functions below `read` promise it.
-use Rattle.std.specs.Prelude.{ℕ, cond, not, ◌&&◌, List}
-use Rattle.pattern_spec.specs.Answer.{Answer, refused}
-use Rattle.question.specs.declared.digits.Pattern.{Pattern}
-use Rattle.question.specs.declared.digits.Pattern.TheVariants.{Value, NoDigit}
-use Rattle.question_spec.specs.Questions.{Asked, is_digit, digit_value, all_digits, pattern_from, first_pattern, second_pattern, asked}
+use Rattle.std.specs.Prelude.{ℕ, cond, List, Option, Some, None}
+use Rattle.augmented_spec.specs.declared.Operation.{Operation}
+use Rattle.augmented_spec.specs.Operations.{operation_number}
+use Rattle.question_spec.specs.Questions.{is_digit, digit_value, all_digits, pattern_from}
 
--- a digit's value, 16 where the byte is none
-abbrev pub digit_or_16 : ℕ → ℕ
-digit_or_16 c = cond (is_digit c) (digit_value c) 16
+-- a digit's value, if the byte is one
+abbrev pub digit_read : ℕ → Option ℕ
+digit_read c = cond (is_digit c) (Some (digit_value c)) None
 
--- the number of a pattern's digits
-abbrev pub digits_value : List ℕ → Pattern
-digits_value s = cond (all_digits s) (Value (pattern_from 0 s)) NoDigit
+-- the number of a pattern's digits, if all bytes are digits
+abbrev pub digits_read : List ℕ → Option ℕ
+digits_read s = cond (all_digits s) (Some (pattern_from 0 s)) None
 
--- what is answered where letters and tabs are right
-abbrev pub patterns_read : ℕ → List ℕ → Answer Asked
-patterns_read operation line =
-    cond (not (all_digits (first_pattern line) && all_digits (second_pattern line))) (refused 4)
-    (asked operation (pattern_from 0 (first_pattern line)) (pattern_from 0 (second_pattern line)))
+-- an operation's number, and 0 for none
+abbrev pub number_or_0 : Option Operation → ℕ
+number_or_0 (Some operation) = operation_number operation
+number_or_0 None = 0

@@ -1,37 +1,24 @@
 // The eight digits of a pattern.
-ghost use Rattle.std.specs.Prelude.{◌≡◌, ◌≤◌, length};
-ghost use Rattle.question.specs.Inner.{digit_or_16, digits_value};
+ghost use Rattle.std.specs.Prelude.{◌≡◌, length};
+ghost use Rattle.question.specs.Inner.{digit_read, digits_read};
 
-#[derive(Clone, Copy)]
-pub enum Pattern {
-    Value(u32),
-    NoDigit,
-}
-
-// 16 where the byte is none.
-fn digit(byte: u8) -> u8
-    ensures { (result ≡ digit_or_16 byte) × (result ≤ 16) }
+fn digit(byte: u8) -> Option<u8>
+    ensures { result ≡ digit_read byte }
 {
     match byte {
-        b'0'..=b'9' => byte - b'0',
-        b'A'..=b'F' => byte - b'A' + 10,
-        _ => 16,
+        b'0'..=b'9' => Some(byte - b'0'),
+        b'A'..=b'F' => Some(byte - b'A' + 10),
+        _ => None,
     }
 }
 
-pub fn value(bytes: &[u8]) -> Pattern
+pub fn value(bytes: &[u8]) -> Option<u32>
     requires { length bytes.now ≡ 8 }
-    ensures { result ≡ digits_value bytes.now }
+    ensures { result ≡ digits_read bytes.now }
 {
     let mut n: u32 = 0;
-    let mut i: usize = 0;
-    while i < bytes.len() {
-        let d = digit(bytes[i]);
-        if d == 16 {
-            return Pattern::NoDigit;
-        }
-        n = n * 16 + d as u32;
-        i += 1;
+    for &byte in bytes {
+        n = n * 16 + u32::from(digit(byte)?);
     }
-    Pattern::Value(n)
+    Some(n)
 }

@@ -1,34 +1,21 @@
 // The letters of an operation.
 ghost use Rattle.std.specs.Prelude.{◌≡◌, ◌≤◌, length};
-ghost use Rattle.question_spec.specs.Questions.{starts, letters_operation};
+ghost use Rattle.question_spec.specs.Questions.{letters_operation};
+ghost use Rattle.question.specs.Inner.{number_or_0};
 
-use augmented_spec::{DIFFERENCE, PRODUCT, SUM};
+use augmented_spec::Operation;
 
-fn starts_with(line: &[u8], three: &[u8; 3]) -> bool
+pub fn operation(line: &[u8]) -> Option<Operation>
     requires { 3 ≤ length line.now }
-    ensures { result ≡ starts line.now three.now }
+    ensures { number_or_0 result ≡ letters_operation line.now }
 {
-    if line[0] == three[0] {
-        if line[1] == three[1] {
-            return line[2] == three[2];
-        }
+    if line.starts_with(b"sum") {
+        Some(Operation::Sum)
+    } else if line.starts_with(b"dif") {
+        Some(Operation::Difference)
+    } else if line.starts_with(b"mul") {
+        Some(Operation::Product)
+    } else {
+        None
     }
-    false
-}
-
-// 0 where they are unknown.
-pub fn operation(line: &[u8]) -> u32
-    requires { 3 ≤ length line.now }
-    ensures { result ≡ letters_operation line.now }
-{
-    if starts_with(line, b"sum") {
-        return SUM;
-    }
-    if starts_with(line, b"dif") {
-        return DIFFERENCE;
-    }
-    if starts_with(line, b"mul") {
-        return PRODUCT;
-    }
-    0
 }

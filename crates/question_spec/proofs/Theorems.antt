@@ -9,7 +9,7 @@ use borrow.Author.Tests.{eqb-true, eqb-false}
 use lib.Dec.{eqb}
 use lib.ListN.{length, get_or}
 use Rattle.pattern_spec.specs.Answer.{refused, is_done}
-use Rattle.augmented_spec.specs.Direct.{sum, difference, product}
+use Rattle.augmented_spec.specs.declared.Operation.TheVariants.{Sum as sum, Difference as difference, Product as product}
 use Rattle.question_spec.specs.Ascii.{tab}
 use Rattle.question_spec.specs.Questions.{letters_operation, all_digits, first_pattern, second_pattern, read_question}
 use Rattle.question_spec.specs.Theorems.{

@@ -10,7 +10,9 @@ use lib.Dec.{eqb, lit<}
 use lib.ListN.{length, get_or, take, drop_of_length-le}
 use lib.Seq.{drop-cons, get_or-take, length-take-le}
 use Rattle.pattern_spec.proofs.Truth.{both_of}
-use Rattle.augmented_spec.specs.Direct.{Operation, sum, difference, product, is_operation, operation_number}
+use Rattle.augmented_spec.specs.declared.Operation.{Operation}
+use Rattle.augmented_spec.specs.declared.Operation.TheVariants.{Sum as sum, Difference as difference, Product as product}
+use Rattle.augmented_spec.specs.Operations.{is_operation, operation_number}
 use Rattle.question_spec.specs.Questions.{operation_letters, operation_letters_by_number, starts, letters_operation}
 
 as-three : (l : List ℕ) → length l ≡ 3 → get_or l 0 0 ∷ get_or l 1 0 ∷ get_or l 2 0 ∷ [] ≡ l

@@ -12,7 +12,8 @@ use lib.ListN.{length, get_or, take, drop, take-append-drop, length-drop}
 use lib.Seq.{drop-cons, drop-drop, take_all, length-take-le}
 use Rattle.pattern_spec.specs.Answer.{refused}
 use Rattle.pattern_spec.proofs.Truth.{both_of}
-use Rattle.augmented_spec.specs.Direct.{sum, difference, product, is_operation, operation_number}
+use Rattle.augmented_spec.specs.declared.Operation.TheVariants.{Sum as sum, Difference as difference, Product as product}
+use Rattle.augmented_spec.specs.Operations.{is_operation, operation_number}
 use Rattle.question_spec.specs.Ascii.{tab}
 use Rattle.question_spec.specs.Questions.{
   Asked,

@@ -1,3 +1,4 @@
+pub mod Answers
 pub mod Ascii
 pub mod Questions
 pub mod Theorems

@@ -3,7 +3,9 @@ use Rattle.std.specs.Prelude.{ℕ, ◌+◌, ◌*◌, ◌-◌, ◌/◌, ◌%◌, 
 use Rattle.std.specs.Prelude.{[], ◌∷◌, ◌++◌, eqb, leb, ltb, length, get_or, take, drop}
 use Prim.Native.Char.{code}
 use Rattle.pattern_spec.specs.Answer.{Answer, refused, done}
-use Rattle.augmented_spec.specs.Direct.{Operation, sum, difference, product, operation_number, operation_of}
+use Rattle.augmented_spec.specs.declared.Operation.{Operation}
+use Rattle.augmented_spec.specs.declared.Operation.TheVariants.{Sum as sum, Difference as difference, Product as product}
+use Rattle.augmented_spec.specs.Operations.{operation_number, operation_of}
 use Rattle.question_spec.specs.Ascii.{ascii, tab}
 
 -- bytes of a question line: three letters, a tab, a pattern, a tab, a pattern (R8.3)

@@ -1,7 +1,7 @@
 -- What holds of question lines. Each name is a statement; proofs/Theorems.antt has its proof.
 use Rattle.std.specs.Prelude.{ℕ, ◌-◌, ◌/◌, ◌%◌, ◌^◌, ◌≤◌, ◌<◌, ◌≡◌, ◌≢◌, ◌⊎◌, true, List, [], ◌∷◌, ◌++◌, length, get_or, take}
 use Rattle.pattern_spec.specs.Answer.{refused, is_done}
-use Rattle.augmented_spec.specs.Direct.{is_operation}
+use Rattle.augmented_spec.specs.Operations.{is_operation}
 use Rattle.question_spec.specs.Ascii.{ascii}
 use Rattle.question_spec.specs.Questions.{
   question_size,

@@ -9,20 +9,20 @@ ghost use Rattle.rounding_spec.specs.Nearest.{dist};
 ghost use Rattle.rounding_spec.specs.Inner.{tie_bit, packed};
 ghost use Rattle.rounding_spec.specs.Value.{finite, encode, round_finite};
 
-use choose::{choose, choose_exponent, choose_sign};
-use rounding_spec::Ties;
+use choose::choose;
+use rounding_spec::{Number, Ties};
 
 const INFINITY: u64 = 0x7f80_0000;
 
-// Rounds sig * 2^exp, counted in 2^-298.
-pub fn round(ties: Ties, sign: bool, sig: u64, exp: u16) -> u32
-    ensures { result ≡ encode binary32 (round_finite ties binary32 sign (sig * 2 ^ exp)) }
+// Rounds a number that counts 2^-298.
+pub fn round(ties: Ties, number: Number) -> u32
+    ensures { result ≡ encode binary32 (round_finite ties binary32 number.sign (number.sig * 2 ^ number.exp)) }
 {
-    round_with_rest(ties, sign, sig, exp).pattern
+    round_with_rest(ties, number).pattern
 }
 
 // A rounded number, and what the rounding left over, in the unit of the significand that was rounded. `none` is whether that is nothing,
-// which is known before the rest is brought to its unit.
+// which is known before the rest is brought to its unit: asked of the rest, a step took 9 to 13 instructions more (docs/SPEED.md).
 #[derive(Clone, Copy)]
 pub struct WithRest {
     pub pattern: u32,
@@ -31,14 +31,15 @@ pub struct WithRest {
     pub none: bool,
 }
 
-// Rounds sig * 2^exp, counted in 2^-298; the rest counts 2^exp of these. Shift and exponent are found by R11.9.
+// Rounds a number that counts 2^-298; the rest counts 2^exp of these. Shift and exponent are found by R11.9.
 // Where the pattern is infinite, rest and side are those of the number that it would be if exponents had no bound.
-pub fn round_with_rest(ties: Ties, sign: bool, sig: u64, exp: u16) -> WithRest
-    ensures pattern_value { result.pattern ≡ encode binary32 (round_finite ties binary32 sign (sig * 2 ^ exp)) }
-    ensures rest_value { result.rest * 2 ^ exp ≡ left_over ties 23 149 (sig * 2 ^ exp) }
-    ensures up_value { result.up ≡ rounded_up ties 23 149 (sig * 2 ^ exp) }
-    ensures none_value { result.none ≡ eqb (left_over ties 23 149 (sig * 2 ^ exp)) 0 }
+pub fn round_with_rest(ties: Ties, number: Number) -> WithRest
+    ensures pattern_value { result.pattern ≡ encode binary32 (round_finite ties binary32 number.sign (number.sig * 2 ^ number.exp)) }
+    ensures rest_value { result.rest * 2 ^ number.exp ≡ left_over ties 23 149 (number.sig * 2 ^ number.exp) }
+    ensures up_value { result.up ≡ rounded_up ties 23 149 (number.sig * 2 ^ number.exp) }
+    ensures none_value { result.none ≡ eqb (left_over ties 23 149 (number.sig * 2 ^ number.exp)) 0 }
 {
+    let Number { sign, sig, exp } = number;
     if sig == 0 {
         return WithRest {
             pattern: packed(sign, 0, 0),
@@ -99,7 +100,8 @@ fn kept_far(ties: Ties, n: u64, shift: u64) -> u64
     0
 }
 
-// The distance of two numbers, whether the second is the larger, and whether they are equal.
+// The distance of two numbers, whether the second is the larger, and whether they are equal: the same of `WithRest`, before the rest is
+// brought to its unit.
 #[derive(Clone, Copy)]
 pub struct Left {
     pub rest: u64,
@@ -157,18 +159,18 @@ fn tie_bit(ties: Ties, q: u64) -> u64
     }
 }
 
-// A rest on the side of the rounded number that `up` says; a zero has that number's sign. One more digit keeps the count of leading zeros
-// below 64, so that zero needs no branch.
-pub fn rest_pattern(sign: bool, up: bool, rest: u64, unit: u16) -> u32
-    requires { (rest < 2 ^ 24) × (rest * 2 ^ unit < limit binary32) }
-    ensures { result ≡ encode binary32 (finite (cond (eqb rest 0) sign (unlike sign up)) (rest * 2 ^ unit)) }
+// A rest that counts 2^-149, with the sign of the number that was rounded, on the side of it that `up` says; a zero keeps that sign. One
+// more digit keeps the count of leading zeros below 64, so that zero needs no branch.
+pub fn rest_pattern(rest: Number, up: bool) -> u32
+    requires { (rest.sig < 2 ^ 24) × (rest.sig * 2 ^ rest.exp < limit binary32) }
+    ensures { result ≡ encode binary32 (finite (cond (eqb rest.sig 0) rest.sign (unlike rest.sign up)) (rest.sig * 2 ^ rest.exp)) }
 {
-    let zero = rest == 0;
-    let room = (u64::leading_zeros(2 * rest + 1) - 39) as u16;
-    let shift = choose_exponent(room < unit, room, unit);
-    let exp = choose_exponent(zero, 0, unit - shift);
-    let minus = choose_sign(zero, sign, sign != up);
-    packed(minus, exp as u64, rest << shift)
+    let zero = rest.sig == 0;
+    let room = (u64::leading_zeros(2 * rest.sig + 1) - 39) as u16;
+    let shift = choose(room < rest.exp, room, rest.exp);
+    let exp = choose(zero, 0, rest.exp - shift);
+    let minus = choose(zero, rest.sign, rest.sign != up);
+    packed(minus, exp as u64, rest.sig << shift)
 }
 
 // A carry out of the fraction runs into the exponent field by itself.

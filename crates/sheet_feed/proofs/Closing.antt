@@ -13,9 +13,10 @@ use lib.ListN.{length, take, drop, length-drop}
 use Rattle.pattern_spec.specs.Answer.{Answer, refused}
 use Rattle.question_spec.specs.Questions.{read_question}
 use Rattle.accumulator_spec.specs.Totals.{TwoPatterns, pair_read, reading}
-use Rattle.accumulator.specs.Answers.{answer_read}
-use Rattle.accumulator.specs.declared.Reading.{Reading}
-use Rattle.accumulator.specs.declared.Reading.TheVariants as the-reading
+use Rattle.std.specs.Prelude.{Result, Ok, Err}
+use Rattle.accumulator_spec.specs.declared.NotDone.{NotDone}
+use Rattle.augmented_spec.specs.declared.Halves.{Halves}
+use Rattle.accumulator_spec.specs.Answers.{refusal_number, answer_read}
 use Rattle.transcript_spec.specs.Texts.{total_text, end_text, line_room}
 use Rattle.transcript_spec.specs.Buffers.{written, after_writing, Put, Writes}
 use Rattle.transcript_spec.proofs.Parts.{nothing, wrote, as_long, after-part}
@@ -34,10 +35,9 @@ use Rattle.sheet_feed.specs.Inner.{LastLine}
 use Rattle.sheet_feed.proofs.Stepped.{ends-soundly}
 
 -- ---- the total
-not-read : (r : Reading) → ((first second : ℕ) → r ≡ the-reading.Pair first second → ⊥) → (k : ℕ) × (answer_read r ≡ refused k)
-not-read (the-reading.Pair first second) h = absurd (h first second refl)
-not-read the-reading.Length h = (5, refl)
-not-read the-reading.Unfit h = (6, refl)
+not-read : (r : Result Halves NotDone) → ((p : Halves) → r ≡ Ok p → ⊥) → (k : ℕ) × (answer_read r ≡ refused k)
+not-read (Ok p) h = absurd (h p refl)
+not-read (Err e) h = (refusal_number e, refl)
 
 pub total-written : (first second : ℕ) (a : Answer TwoPatterns) (out : List ℕ) (n : ℕ) (out' : List ℕ) → pair_read first second ≡ a
     → Writes out (total_text first second) n out' → Writes out (read_text a) n out'
@@ -47,7 +47,7 @@ no_text : (out : List ℕ) → Writes out [] 0 out
 unfolding written after_writing
 no_text out = rw (le-leb 0 (length out) (omega arith)) (refl, refl)
 
-pub no-total : (r : Reading) (a : Answer TwoPatterns) (out : List ℕ) → ((first second : ℕ) → r ≡ the-reading.Pair first second → ⊥) → answer_read r ≡ a → Writes out (read_text a) 0 out
+pub no-total : (r : Result Halves NotDone) (a : Answer TwoPatterns) (out : List ℕ) → ((p : Halves) → r ≡ Ok p → ⊥) → answer_read r ≡ a → Writes out (read_text a) 0 out
 no-total r a out h e = let k = not-read r h in subst (λ (b : Answer TwoPatterns). Writes out (read_text b) 0 out) (sym k.1 ∙ e) (no_text out)
 
 -- ---- the last two lines

@@ -78,8 +78,8 @@ module _ (bytes : List ℕ) (s : State) (out : List ℕ) (at used : ℕ) (here :
               (ap (λ (q : State). q.stopped) (sym h.state) ∙ going, omega (arith, h.text.ends, h.long, h.fits))
         ]
 
-    one_more : here.stopped ≡ false → at < length bytes → Taken bytes s out (at + 1) (used + r.written) after (put_mid used (length out' - used) out' part)
-    one_more going below = record {
+    pub one-taken : here.stopped ≡ false → at < length bytes → Taken bytes s out (at + 1) (used + r.written) after (put_mid used (length out' - used) out' part)
+    one-taken going below = record {
       within = omega arith;
       fits = omega (arith, used-within, now-long);
       state = t.state ∙ ap (λ (q : State). take_byte q (get_or bytes at 0)) h.state ∙ next-state bytes s at below;
@@ -90,21 +90,20 @@ module _ (bytes : List ℕ) (s : State) (out : List ℕ) (at used : ℕ) (here :
       long = now-long ∙ h.long;
     }
 
-    pub one-taken : here.stopped ≡ false → at < length bytes → Taken bytes s out (at + r.taken) (used + r.written) after (put_mid used (length out' - used) out' part)
-    one-taken going below =
-        subst (λ (n : ℕ). Taken bytes s out (at + n) (used + r.written) after (put_mid used (length out' - used) out' part)) (sym t.taken) (one_more going below)
-
--- ---- the end of the loop
+-- ---- the end of the loop: no byte is left, or there is no room for another line's text, or the run has stopped
 pub feeds : (bytes : List ℕ) (s : State) (out : List ℕ) (r : Progressed) (line total out' : List ℕ) → Taken bytes s out r.taken r.written (state_of r.position line total) out'
-    → (length bytes - r.taken ≡ 0) ⊎ ((length out' - r.written < line_room) ⊎ (goes_on r.position ≡ false)) → Feeds bytes s out r (state_of r.position line total) out'
+    → (length out' - r.written < line_room) ⊎ (goes_on r.position ≡ false) → Feeds bytes s out r (state_of r.position line total) out'
 feeds bytes s out r line total out' h w = record {
   within = h.within;
   state = h.state;
   text = h.text;
   each = h.each;
-  whole =
-      elim w [
-        | inl e ↦ inl (omega (arith, h.within))
-        | inr v ↦ elim v [ inl k ↦ inr (inr (omega (arith, h.long, h.fits))) | inr e ↦ inr (inl (halted r.position line total e)) ]
-      ];
+  whole = elim w [ inl k ↦ inr (inr (omega (arith, h.long, h.fits))) | inr e ↦ inr (inl (halted r.position line total e)) ];
 }
+
+pub feeds-all : (bytes : List ℕ) (s : State) (out : List ℕ) (at : ℕ) (r : Progressed) (line total out' : List ℕ) → Taken bytes s out at r.written (state_of r.position line total) out'
+    → length bytes ≤ at → r.taken ≡ length bytes → Feeds bytes s out r (state_of r.position line total) out'
+feeds-all bytes s out at r line total out' h end is =
+    let e : at ≡ r.taken = omega (arith, h.within) in
+    let all = subst (λ (n : ℕ). Taken bytes s out n r.written (state_of r.position line total) out') e h in
+    record { within = all.within; state = all.state; text = all.text; each = all.each; whole = inl is }

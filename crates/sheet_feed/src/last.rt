@@ -8,7 +8,7 @@ ghost use Rattle.sheet_spec.specs.Positions.{goes_on, state_of, progress_of};
 ghost use Rattle.sheet_spec.specs.Calls.{closing_room};
 ghost use Rattle.sheet_feed.specs.Inner.{LastLine};
 
-use accumulator::Reading;
+use augmented_spec::Halves;
 use sheet_spec::{KEPT_BYTES, Position, Progressed};
 
 // A line without newline counts, if it has a byte.
@@ -44,7 +44,7 @@ pub fn closing(position: Position, total: &[u32], out: &mut [u8]) -> usize
 fn total_line(total: &[u32], out: &mut [u8]) -> usize
     ensures { Writes out.old (read_text (reading total.now)) result out.new }
 {
-    let Reading::Pair { first, second } = accumulator::read(total) else {
+    let Ok(Halves { first, second }) = accumulator::read(total) else {
         // A total of the program's own is never refused.
         return 0;
     };

@@ -22,20 +22,24 @@ pub fn feed(
     ensures { Feeds bytes.now (state_of position line.old total.old) out.old result
         (state_of result.position line.new total.new) out.new }
 {
-    let mut here = position;
-    let mut at: usize = 0;
-    let mut used: usize = 0;
-    while position::more(bytes.len() - at, here, out.len() - used) {
-        let b = bytes[at];
-        let next = step::byte(b, here, line, total, &mut out[used..]);
-        here = next.position;
-        used += next.written;
-        at += next.taken;
+    let mut position = position;
+    let mut written = 0;
+    for (taken, &b) in bytes.iter().enumerate() {
+        if !position::more(position, out.len() - written) {
+            return Progressed {
+                position,
+                taken,
+                written,
+            };
+        }
+        let next = step::byte(b, position, line, total, &mut out[written..]);
+        position = next.position;
+        written += next.written;
     }
     Progressed {
-        position: here,
-        taken: at,
-        written: used,
+        position,
+        taken: bytes.len(),
+        written,
     }
 }
 

@@ -9,19 +9,17 @@ use native.Mathlib.Omega.{arith}
 use borrow.Author.Tests.{le-leb}
 use lib.ListN.{length, take}
 use lib.Seq.{length-take-le}
-use Rattle.pattern_spec.specs.Answer.{Answer, refused, refusal_of, is_done}
+use Rattle.pattern_spec.specs.Answer.{Answer, refused, is_done}
 use Rattle.pattern_spec.specs.Classes.{both_finite}
 use Rattle.augmented_spec.specs.declared.Pair.{Pair}
+use Rattle.augmented_spec.specs.Operations.{operation_number}
 use Rattle.worksheet_spec.specs.Filling.{FilledSheet, filled, filling, after_filling}
-use Rattle.worksheet.specs.Answers.{answer_filled}
-use Rattle.worksheet.specs.declared.Filled.{Filled}
-use Rattle.worksheet.specs.declared.Filled.TheVariants as the-filled
 use Rattle.accumulator_spec.specs.Totals.{of_pattern, after_adding}
 use Rattle.accumulator_spec.specs.Columns.{column}
-use Rattle.question_spec.specs.Questions.{Asked, asked, read_question}
-use Rattle.question.specs.Answers.{answer_question}
-use Rattle.question.specs.declared.Question.{Question}
-use Rattle.question.specs.declared.Question.TheVariants as the-question
+use Rattle.question_spec.specs.Questions.{Asked, read_question}
+use Rattle.question_spec.specs.Answers.{asked_by, refusal_number}
+use Rattle.question_spec.specs.declared.Question.{Question}
+use Rattle.question_spec.specs.declared.NotAsked.{NotAsked}
 use Rattle.transcript_spec.specs.Texts.{answered_text, bad_text, line_room}
 use Rattle.transcript_spec.specs.Buffers.{written, after_writing, Writes}
 use Rattle.transcript_spec.proofs.Parts.{wrote}
@@ -46,30 +44,30 @@ nothing : (out : List ℕ) → Writes out [] 0 out
 unfolding written after_writing
 nothing out = rw (le-leb 0 (length out) (omega arith)) (refl, refl)
 
-not-filled : (r : Filled) → ((lines : ℕ) (pair : Pair) → r ≡ the-filled.Sheet lines pair → ⊥) → (k : ℕ) × (answer_filled r ≡ refused k)
-not-filled (the-filled.Sheet lines pair) h = absurd (h lines pair refl)
-not-filled the-filled.Operation h = (10, refl)
-not-filled the-filled.Words h = (9, refl)
-
-module _ (number o x y : ℕ) (total out : List ℕ) where
-  abbrev Asks : Answer FilledSheet → List ℕ → ℕ → List ℕ → List ℕ → Type 0
-  Asks a words n total' out' = Writes out (filled_text number o x y a words) n out' × (total' ≡ column total (pair_terms a))
+module _ (number : ℕ) (q : Question) (total out : List ℕ) where
+  abbrev Asks : ℕ → Answer FilledSheet → List ℕ → ℕ → List ℕ → List ℕ → Type 0
+  Asks o a words n total' out' = Writes out (filled_text number o q.x q.y a words) n out' × (total' ≡ column total (pair_terms a))
 
   -- what answering the question promises
   abbrev Answers : ℕ → List ℕ → List ℕ → Type 0
-  Answers n total' out' = Writes out (line_text number (asked o x y)) n out' × (total' ≡ column total (line_terms (asked o x y)))
+  Answers n total' out' = Writes out (line_text number (asked_by q)) n out' × (total' ≡ column total (line_terms (asked_by q)))
 
-  pub sheet-answered : (lines : ℕ) (p : Pair) (words : List ℕ) (n : ℕ) (total' out' : List ℕ) → filled lines p ≡ filling o x y blank → words ≡ after_filling o x y blank
-      → total' ≡ column total (half_terms p.first p.second) → Writes out (answered_text number o x y words lines p) n out' → Answers n total' out'
-  unfolding filled_text line_text
-  sheet-answered lines p words n total' out' e f t w =
-      subst (λ (ws : List ℕ). Asks (filling o x y blank) ws n total' out') f (subst (λ (b : Answer FilledSheet). Asks b words n total' out') e (w, t))
+  module _ (o : ℕ) (is : o ≡ operation_number q.operation) where
+    as-asked : (n : ℕ) (total' out' : List ℕ) → Asks o (filling o q.x q.y blank) (after_filling o q.x q.y blank) n total' out' → Answers n total' out'
+    unfolding filled_text line_text
+    as-asked n total' out' h = subst (λ (k : ℕ). Asks k (filling k q.x q.y blank) (after_filling k q.x q.y blank) n total' out') is h
 
-  pub no-sheet : (r : Filled) → ((lines : ℕ) (pair : Pair) → r ≡ the-filled.Sheet lines pair → ⊥) → answer_filled r ≡ filling o x y blank → Answers 0 total out
-  unfolding filled_text line_text column
-  no-sheet r h e =
-      let k = not-filled r h in
-      subst (λ (b : Answer FilledSheet). Asks b (after_filling o x y blank) 0 total out) (sym k.1 ∙ e) (nothing out, refl)
+    pub sheet-answered : (lines : ℕ) (p : Pair) (words : List ℕ) (n : ℕ) (total' out' : List ℕ) → filled lines p ≡ filling o q.x q.y blank → words ≡ after_filling o q.x q.y blank
+        → total' ≡ column total (half_terms p.first p.second) → Writes out (answered_text number o q.x q.y words lines p) n out' → Answers n total' out'
+    unfolding filled_text
+    sheet-answered lines p words n total' out' e f t w =
+        as-asked n total' out'
+        (subst (λ (ws : List ℕ). Asks o (filling o q.x q.y blank) ws n total' out') f (subst (λ (b : Answer FilledSheet). Asks o b words n total' out') e (w, t)))
+
+    pub no-sheet : (k : ℕ) → refused k ≡ filling o q.x q.y blank → Answers 0 total out
+    unfolding filled_text column
+    no-sheet k e =
+        as-asked 0 total out (subst (λ (b : Answer FilledSheet). Asks o b (after_filling o q.x q.y blank) 0 total out) e (nothing out, refl))
 
 -- ---- the position after the line
 pub as_many : (line : List ℕ) (n : ℕ) → n ≤ kept_bytes → length line ≡ kept_bytes → n ≡ length (take n line)
@@ -77,13 +75,6 @@ as_many line n h e = sym (length-take-le n line (omega arith))
 
 progress-is : (m n g h : ℕ) (t u : List ℕ) → m ≡ n → g ≡ h → t ≡ u → ◌≡◌ {A = Progress} (record { lines = m; good = g; total = t }) (record { lines = n; good = h; total = u })
 progress-is m n g h t u e f k = cc
-
-not-asked : (q : Question) → ((o x y : ℕ) → q ≡ the-question.Asked o x y → ⊥) → refused (refusal_of (answer_question q)) ≡ answer_question q
-not-asked (the-question.Asked o x y) h = absurd (h o x y refl)
-not-asked the-question.Length h = refl
-not-asked the-question.Letters h = refl
-not-asked the-question.Tab h = refl
-not-asked the-question.Digit h = refl
 
 module _ (p : Position) (kept total out : List ℕ) (whole : length (take p.length kept) ≡ p.length) (room : line_room ≤ length out) where
   ends : (a : Answer Asked) → a ≡ read_question (take p.length kept) → (n : ℕ) (total' out' : List ℕ) → total' ≡ column total (line_terms a) → Writes out (line_text (p.lines + 1) a) n out'
@@ -106,11 +97,11 @@ module _ (p : Position) (kept total out : List ℕ) (whole : length (take p.leng
       counted : {b c : Answer Asked} → b ≡ c → (g : ℕ) → g + cond (is_done b) 1 0 ≡ cond (is_done c) 1 0 + g
       counted {b} {c} e g = commuted g (cond (is_done b) 1 0) ∙ ap (λ (d : Answer Asked). cond (is_done d) 1 0 + g) e
 
-  pub good-ends : (o x y : ℕ) → asked o x y ≡ read_question (take p.length kept) → (n : ℕ) (total' out' : List ℕ) → Answers (p.lines + 1) o x y total out n total' out'
-      → LineEnds p kept total out (line_ended p 1 n) total' out'
-  good-ends o x y e n total' out' s = ends (asked o x y) e n total' out' s.1 s.0
+  pub good-ends : (q : Question) → asked_by q ≡ read_question (take p.length kept) → (n : ℕ) (total' out' : List ℕ)
+      → Writes out (line_text (p.lines + 1) (asked_by q)) n out' → total' ≡ column total (line_terms (asked_by q)) → LineEnds p kept total out (line_ended p 1 n) total' out'
+  good-ends q e n total' out' w t = ends (asked_by q) e n total' out' t w
 
-  pub bad-ends : (q : Question) → ((o x y : ℕ) → q ≡ the-question.Asked o x y → ⊥) → answer_question q ≡ read_question (take p.length kept) → (k : ℕ) → k ≡ refusal_of (answer_question q)
+  pub bad-ends : (why : NotAsked) → refused (refusal_number why) ≡ read_question (take p.length kept) → (k : ℕ) → k ≡ refusal_number why
       → (n : ℕ) (out' : List ℕ) → Writes out (bad_text (p.lines + 1) k) n out' → LineEnds p kept total out (line_ended p 0 n) total out'
   unfolding line_text column
-  bad-ends q h e k f n out' w = ends (refused k) (ap refused f ∙ not-asked q h ∙ e) n total out' refl w
+  bad-ends why e k is n out' w = ends (refused k) (ap {B = Answer Asked} (λ (m : ℕ). refused m) is ∙ e) n total out' refl w

@@ -1,5 +1,5 @@
 -- What the functions of a line and of a position promise each other and the callers above.
-use Rattle.std.specs.Prelude.{ℕ, suc, ◌+◌, ◌≡◌, Bool, false, ◌&&◌, List, leb, ltb, length, take}
+use Rattle.std.specs.Prelude.{ℕ, suc, ◌+◌, ◌≡◌, Bool, false, ◌&&◌, List, leb, length, take}
 use Rattle.question_spec.specs.Questions.{read_question}
 use Rattle.transcript_spec.specs.Texts.{line_room}
 use Rattle.transcript_spec.specs.Buffers.{Put}
@@ -12,9 +12,9 @@ use Rattle.sheet_spec.specs.declared.Progressed.{Progressed}
 unfoldable pub ready_for : Position → ℕ → ℕ → Bool
 ready_for p room need = leb need room && goes_on p
 
--- another byte is taken, with so many left and so much room
-unfoldable pub takes_more : ℕ → Position → ℕ → Bool
-takes_more left p room = ltb 0 left && ready_for p room line_room
+-- another byte is taken, if there is one, with so much room
+abbrev pub takes_more : Position → ℕ → Bool
+takes_more p room = ready_for p room line_room
 
 -- a position after its line, which is good or not, and whose text has so many bytes
 abbrev pub line_ended : Position → ℕ → ℕ → Progressed

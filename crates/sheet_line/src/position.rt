@@ -18,13 +18,10 @@ pub fn begin() -> Position
     }
 }
 
-// Whether another byte is taken: so many are left, and so much room.
-pub fn more(left: usize, position: Position, room: usize) -> bool
-    ensures { result ≡ takes_more left position room }
+// Whether another byte is taken, with so much room for what it prints.
+pub fn more(position: Position, room: usize) -> bool
+    ensures { result ≡ takes_more position room }
 {
-    if left == 0 {
-        return false;
-    }
     ready(position, room, LINE_ROOM)
 }
 
@@ -32,42 +29,28 @@ pub fn more(left: usize, position: Position, room: usize) -> bool
 pub fn ready(position: Position, room: usize, need: usize) -> bool
     ensures { result ≡ ready_for position room need }
 {
-    if room < need {
-        return false;
-    }
-    goes_on(position)
+    room >= need && goes_on(position)
 }
 
 // Whether the run goes on: it has not stopped, and its counts are such as a run can have.
 pub fn goes_on(position: Position) -> bool
     ensures { result ≡ goes_on position }
 {
-    if position.stopped {
+    if position.stopped || position.good > position.lines || position.length > KEPT_BYTES {
         return false;
     }
-    if position.good > position.lines {
-        return false;
-    }
-    if position.length > KEPT_BYTES {
-        return false;
-    }
-    if position.lines < MOST_INPUT_LINES {
-        return true;
-    }
-    if position.lines > MOST_INPUT_LINES {
-        return false;
-    }
-    position.length == 0
+    position.lines < MOST_INPUT_LINES
+        || (position.lines == MOST_INPUT_LINES && position.length == 0)
 }
 
 // How long the open line is with another byte, of which it keeps no more than it has room for. Free is what it holds behind them.
 pub fn kept(n: usize, line: &mut [u8; KEPT_BYTES], b: u8) -> usize
     ensures { (result ≤ kept_bytes) × (take result line.new ≡ longer (take n line.old) b) }
 {
-    let text = &mut line[..];
-    if n < text.len() {
-        text[n] = b;
-        return n + 1;
+    if n < KEPT_BYTES {
+        line[n] = b;
+        n + 1
+    } else {
+        KEPT_BYTES
     }
-    KEPT_BYTES
 }

@@ -8,7 +8,8 @@ use native.Mathlib.Omega.{arith}
 use lib.ListN.{length, drop, replicate}
 use Rattle.rounding_spec.specs.Format.{binary32}
 use Rattle.augmented_spec.specs.declared.Pair.{Pair}
-use Rattle.augmented_spec.specs.Direct.{direct_pair, is_operation, operation_of}
+use Rattle.augmented_spec.specs.Operations.{is_operation, operation_of}
+use Rattle.augmented_spec.specs.Direct.{direct_pair}
 use Rattle.worksheet_spec.specs.Lines.{line_size, most_lines, sheet_size, Line}
 use Rattle.worksheet_spec.specs.Sheets.{sheet_of}
 use Rattle.worksheet_spec.specs.Filling.{line_words, lines_words, sheet_words, filled, filling, after_filling}

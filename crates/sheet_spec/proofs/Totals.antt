@@ -12,7 +12,8 @@ use Rattle.pattern_spec.proofs.Truth.{both_of}
 use Rattle.rounding_spec.specs.Format.{binary32}
 use Rattle.rounding_spec.specs.Value.{decode, is_finite}
 use Rattle.augmented_spec.specs.declared.Pair.{Pair}
-use Rattle.augmented_spec.specs.Direct.{direct_pair, is_operation, operation_of}
+use Rattle.augmented_spec.specs.Operations.{is_operation, operation_of}
+use Rattle.augmented_spec.specs.Direct.{direct_pair}
 use Rattle.worksheet_spec.specs.Lines.{sheet_size}
 use Rattle.worksheet_spec.specs.Filling.{FilledSheet, sheet_answer, filling}
 use Rattle.worksheet_spec.proofs.Filling.{fills, answer-is}

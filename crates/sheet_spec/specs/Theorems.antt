@@ -5,7 +5,8 @@ use Rattle.pattern_spec.specs.Classes.{both_finite}
 use Rattle.rounding_spec.specs.Format.{binary32}
 use Rattle.rounding_spec.specs.Value.{encode}
 use Rattle.augmented_spec.specs.Pairs.{pair_of}
-use Rattle.augmented_spec.specs.Direct.{direct_pair, operation_of}
+use Rattle.augmented_spec.specs.Operations.{operation_of}
+use Rattle.augmented_spec.specs.Direct.{direct_pair}
 use Rattle.worksheet_spec.specs.Lines.{Line}
 use Rattle.worksheet_spec.specs.Sheets.{sheet_of}
 use Rattle.worksheet_spec.specs.Filling.{line_words, filling}

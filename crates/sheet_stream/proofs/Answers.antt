@@ -1,26 +1,23 @@
--- What a read's answer leads to, and what is left to print.
+-- What a read's answer leads to.
 use mathlib.Core.Path.{◌≡◌, refl, sym, ap, ◌∙◌, subst}
-use mathlib.Core.Logic.{◌⊎◌, inl, inr}
-use mathlib.Core.Bool.{true≢false, Bool, true, false, not}
-use mathlib.Core.List.{List, []}
+use mathlib.Core.Bool.{Bool, true, false, not}
+use mathlib.Core.List.{List}
 use Prim.Native.Nat.{ℕ, zero, suc, ◌≤◌, min}
 use native.Mathlib.Omega.{arith}
 use native.Mathlib.Decide.{dec_le}
 use lib.ListN.{length, take}
 use lib.Seq.{take_all}
-use Rattle.std.specs.Prelude.{Option, Result, Ok}
+use Rattle.std.specs.Prelude.{Option, Result, Ok, Err}
+use Rattle.std.specs.declared.ops.ControlFlow.{ControlFlow}
 use Rattle.transcript_spec.specs.Texts.{line_room}
 use Rattle.sheet_spec.specs.States.{State, take_bytes, bytes_text}
 use Rattle.sheet_spec.specs.Positions.{goes_on, state_of}
-use Rattle.sheet_spec.specs.Calls.{Ends}
 use Rattle.sheet_spec.specs.declared.Position.{Position}
-use Rattle.sheet_stream.specs.declared.Passed.{Passed}
-use Rattle.sheet_stream.specs.declared.Standing.{Standing}
-use Rattle.sheet_stream.specs.Inner.{TakesAll, AfterRead, Closes}
+use Rattle.sheet_stream.specs.declared.NotWhole.{NotWhole}
+use Rattle.sheet_stream.specs.Inner.{AfterRead, position_of, another}
 use Rattle.sheet_stream.specs.Written.{Wrote, PassWrites}
 use Rattle.sheet_stream.proofs.Writing.{wrote_none, wrote_at}
 
--- ---- a read's answer
 -- so many bytes as there are
 pub take-least : (k : ℕ) (bytes : List ℕ) → take (min k (length bytes)) bytes ≡ take k bytes
 take-least k bytes =
@@ -40,47 +37,39 @@ not_stopped p line total = by (goes_on p)
     by true = refl
     by false = refl
 
-module _ {E : Type 0} (got : Result ℕ E) (bytes : List ℕ) (room : ℕ) (s : State) (r : Passed) (line total : List ℕ) where
-  -- bytes that were taken, with all that they print written or not
-  pub taken : (n : ℕ) → got ≡ Ok n → (n ≡ 0 → ⊥) → (k : ℕ) → k ≡ min n (length bytes) → TakesAll (take k bytes) room s r (state_of r.position line total)
-      → (m : Bool) → (r.whole ≡ true → m ≡ goes_on r.position) → (r.whole ≡ false → m ≡ false)
-      → AfterRead got bytes room s (record { position = r.position; whole = r.whole; more = m }) (state_of r.position line total)
-  taken zero is z k e t m going stops = absurd (z refl)
-  taken (suc n) is z k e t m going stops =
-      subst (λ (g : Result ℕ E). AfterRead g bytes room s (record { position = r.position; whole = r.whole; more = m }) (state_of r.position line total)) (sym is) (
-        stops,
-        (λ w. going w ∙ not_stopped r.position line total),
-        (λ room w. t room w ∙ ap (λ (l : List ℕ). take_bytes s l) (ap (λ (n : ℕ). take n bytes) e ∙ take-least (suc n) bytes)),
-      )
+module _ {E : Type 0} (got : Result ℕ E) (n : ℕ) (is : got ≡ Ok n) (bytes : List ℕ) (room : ℕ) where
+  module _ (p : Position) (line total line' total' : List ℕ) (k : ℕ) (least : k ≡ min n (length bytes)) where
+    -- bytes that were taken, with all that they print written
+    pub taken : (n ≡ 0 → ⊥) → (flow : ControlFlow Position Position) → another flow ≡ goes_on (position_of flow)
+        → (line_room ≤ room → state_of (position_of flow) line' total' ≡ take_bytes (state_of p line total) (take k bytes))
+        → AfterRead got bytes room p line total (Ok flow) line' total'
+    taken z flow going t = subst (λ (g : Result ℕ E). AfterRead g bytes room p line total (Ok flow) line' total') (sym is) (by n z e)
+      where
+        e : take k bytes ≡ take n bytes
+        e = ap (λ (m : ℕ). take m bytes) least ∙ take-least n bytes
 
--- ---- what is written after a read's answer
-module _ {E : Type 0} (got : Result ℕ E) (n : ℕ) (is : got ≡ Ok n) (bytes : List ℕ) (room : ℕ) (s : State) where
-  module _ (w v : Option (List ℕ)) (r : Standing) where
-    pub wrote_so-many : (k : ℕ) → k ≡ min n (length bytes) → (line_room ≤ room → Wrote w v r.whole (bytes_text s (take k bytes))) → PassWrites got bytes room s w v r
+        by : (m : ℕ) → (m ≡ 0 → ⊥) → take k bytes ≡ take m bytes → AfterRead {E = E} (Ok m) bytes room p line total (Ok flow) line' total'
+        by zero z f = absurd (z refl)
+        by (suc m) z f = (
+          going ∙ not_stopped (position_of flow) line' total',
+          λ h. t h ∙ ap (λ (l : List ℕ). take_bytes (state_of p line total) l) f,
+        )
+
+    -- bytes that were taken until a write failed
+    pub cut : (n ≡ 0 → ⊥) → (why : NotWhole) → AfterRead got bytes room p line total (Err why) line' total'
+    cut z why = subst (λ (g : Result ℕ E). AfterRead g bytes room p line total (Err why) line' total') (sym is) (by n z)
+      where
+        by : (m : ℕ) → (m ≡ 0 → ⊥) → AfterRead {E = E} (Ok m) bytes room p line total (Err why) line' total'
+        by zero z = absurd (z refl)
+        by (suc m) z = tt
+
+  module _ (s : State) (w v : Option (List ℕ)) (whole : Bool) where
+    pub wrote_so-many : (k : ℕ) → k ≡ min n (length bytes) → (line_room ≤ room → Wrote w v whole (bytes_text s (take k bytes))) → PassWrites got bytes room s w v whole
     wrote_so-many k e h =
-        subst (λ (g : Result ℕ E). PassWrites g bytes room s w v r) (sym is)
-        (λ f. wrote_at w v r.whole (bytes_text s (take k bytes)) (bytes_text s (take n bytes)) (ap (bytes_text s) (ap (λ (n : ℕ). take n bytes) e ∙ take-least n bytes)) (h f))
+        subst (λ (g : Result ℕ E). PassWrites g bytes room s w v whole) (sym is)
+        (λ f. wrote_at w v whole (bytes_text s (take k bytes)) (bytes_text s (take n bytes)) (ap (bytes_text s) (ap (λ (n : ℕ). take n bytes) e ∙ take-least n bytes)) (h f))
 
-  pub wrote_none-read : (w : Option (List ℕ)) (r : Standing) → n ≡ 0 → r.whole ≡ true → PassWrites got bytes room s w w r
+  pub wrote_none-read : (s : State) (w : Option (List ℕ)) → n ≡ 0 → PassWrites got bytes room s w w true
   unfolding bytes_text
-  wrote_none-read w r e h =
-      subst (λ (g : Result ℕ E). PassWrites g bytes room s w w r) (sym (is ∙ ap {B = Result ℕ E} (λ (k : ℕ). Ok k) e))
-      (λ f. subst (λ (b : Bool). Wrote w w b []) (sym h) (wrote_none w))
-
--- ---- what is left to print
-module _ (h : Standing) (line total out : List ℕ) where
-  abbrev here : State
-  here = state_of h.position line total
-
-  pub unfinished : (h.whole ≡ false) ⊎ (h.more ≡ true) → Closes h here out 0 total out
-  unfolding state_of
-  unfinished e = record {
-    ends = λ w m. elim e [ inl f ↦ absurd (true≢false (sym w ∙ f)) | inr t ↦ absurd (true≢false (sym t ∙ m)) ];
-    nothing = λ w. (refl, refl, refl);
-  }
-
-  pub finished : (n : ℕ) (total' out' : List ℕ) → h.whole ≡ true → h.more ≡ false → Ends here out n total' out' → Closes h here out n total' out'
-  finished n total' out' w m f = record {
-    ends = λ w' m'. f;
-    nothing = λ e. elim e [ inl a ↦ absurd (true≢false (sym w ∙ a)) | inr b ↦ absurd (true≢false (sym b ∙ m)) ];
-  }
+  wrote_none-read s w e =
+      subst (λ (g : Result ℕ E). PassWrites g bytes room s w w true) (sym (is ∙ ap {B = Result ℕ E} (λ (k : ℕ). Ok k) e)) (λ f. wrote_none w)

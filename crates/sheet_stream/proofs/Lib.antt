@@ -1,4 +1,3 @@
-pub mod Within
 pub mod Writing
 pub mod LastText
 pub mod Taking

@@ -1,24 +1,27 @@
 -- What a run has read and written, from read to read.
 use mathlib.Core.Path.{◌≡◌, refl, sym, ap, ap₂, ◌∙◌, subst}
 use mathlib.Core.Logic.{◌⊎◌, inl, inr}
-use mathlib.Core.Bool.{true≢false, Bool, true, false, cond}
+use mathlib.Core.Bool.{Bool, true, false, cond}
 use mathlib.Core.List.{List, [], ◌∷◌, ◌++◌, append_assoc}
 use Prim.Native.Nat.{ℕ, zero, suc, ◌+◌, ◌-◌, ◌≤◌, ◌<◌}
 use native.Mathlib.Omega.{arith}
 use borrow.Author.Tests.{not-true, not-false}
 use lib.ListN.{length, take, length-append}
-use Rattle.std.specs.Prelude.{Option, Some, None, IfSome, Result, Ok, Err}
+use Rattle.std.specs.Prelude.{Option, Some, None, IfSome, Result, Ok, Err, IsErr, is_ok}
 use Rattle.std.specs.Io.KnownBytes.{Keeps, Appends, Consumes, IsAtEnd, ReadConsumes}
-use Rattle.std.proofs.KnownBytes.{Appends-nil, Appends-trans, Appends-kept, Consumes-nil, Consumes-trans, Keeps-refl, Keeps-trans}
+use Rattle.std.proofs.KnownBytes.{Appends-nil, Appends-trans, Appends-kept, Consumes-nil, Consumes-trans}
 use Rattle.transcript_spec.specs.Texts.{end_text, line_room}
 use Rattle.sheet_spec.specs.Printed.{output, Progress, read_text, closing_text}
 use Rattle.accumulator_spec.specs.Totals.{reading}
 use Rattle.sheet_spec.specs.States.{State, begin, full, end_line, extend, take_byte, byte_text, take_bytes, bytes_text, last_text, last_line, close_text}
-use Rattle.sheet_spec.specs.Calls.{last_room}
 use Rattle.sheet_spec.proofs.Bytes.{byte-by-byte, nothing-after-stop, states-join, texts-join}
-use Rattle.sheet_stream.specs.declared.Standing.{Standing}
-use Rattle.sheet_stream.specs.Inner.{halted_at, AfterRead}
-use Rattle.sheet_stream.specs.Written.{AppendsPart, Wrote, PassWrites, CloseWrites, RunWrites}
+use Rattle.sheet_spec.specs.Positions.{state_of}
+use Rattle.sheet_spec.specs.declared.Position.{Position}
+use Rattle.std.specs.declared.ops.ControlFlow.{ControlFlow}
+use Rattle.std.specs.declared.ops.ControlFlow.TheVariants.{Continue, Break}
+use Rattle.sheet_stream.specs.declared.NotWhole.{NotWhole}
+use Rattle.sheet_stream.specs.Inner.{AfterRead}
+use Rattle.sheet_stream.specs.Written.{AppendsPart, Wrote, PassWrites, RunWrites}
 use Rattle.sheet_stream.proofs.Writing.{part-of_more, part-of_all, part-after, wrote_more, wrote_at, wrote_part}
 
 -- ---- what is left to print after some bytes of the input
@@ -84,31 +87,14 @@ unfolding bytes_text take_bytes
 left-some [] s e = close-some s e
 left-some (b ∷ bs) s e = left-more s b bs e (full s) refl (left-some bs (take_byte s b))
 
--- ---- between two reads: what the reader had and has left, what the writer held and holds, and what was said
-pub record Sofar (r₀ r w₀ w e₀ e : Option (List ℕ)) (h : Standing) (s : State) : Type 0 where
-  pub said : h.whole ≡ true → Keeps e₀ e
-  pub whole : h.whole ≡ true → (bytes : List ℕ) × Consumes r₀ r bytes × (s ≡ take_bytes begin bytes) × Appends w₀ w (bytes_text begin bytes)
-  pub last : h.whole ≡ true → h.more ≡ false → IsAtEnd r ⊎ (s.stopped ≡ true)
-  pub going : h.whole ≡ true → h.more ≡ true → s.stopped ≡ false
-  pub failed : h.whole ≡ false → (h.more ≡ false) × IfSome r₀ (λ input. AppendsPart w₀ w (output input))
+-- ---- between two reads: what the reader had and has left, and what the writer held and holds
+pub record Sofar (r₀ r w₀ w : Option (List ℕ)) (s : State) : Type 0 where
+  pub whole : (bytes : List ℕ) × Consumes r₀ r bytes × (s ≡ take_bytes begin bytes) × Appends w₀ w (bytes_text begin bytes)
+  pub going : s.stopped ≡ false
 
-pub at-first : (r w e : Option (List ℕ)) (h : Standing) (s : State) → h.whole ≡ true → h.more ≡ true → s ≡ begin → Sofar r r w w e e h s
+pub at-first : (r w : Option (List ℕ)) (s : State) → s ≡ begin → Sofar r r w w s
 unfolding take_bytes bytes_text
-at-first r w e h s a b begins = record {
-  said = λ _. Keeps-refl e;
-  whole = λ _. ([], Consumes-nil r, begins, Appends-nil w);
-  last = λ _ c. absurd (true≢false (sym b ∙ c));
-  going = λ _ _. ap (λ (v : State). v.stopped) begins;
-  failed = λ c. absurd (true≢false (sym a ∙ c));
-}
-
--- a run that goes on was whole so far
-pub was_whole : (r₀ r w₀ w e₀ e : Option (List ℕ)) (h : Standing) (s : State) → Sofar r₀ r w₀ w e₀ e h s → h.more ≡ true → h.whole ≡ true
-was_whole r₀ r w₀ w e₀ e h s f m = by h.whole refl
-  where
-    by : (c : Bool) → h.whole ≡ c → h.whole ≡ true
-    by true a = a
-    by false a = absurd (true≢false (sym m ∙ (f.failed a).0))
+at-first r w s begins = record { whole = ([], Consumes-nil r, begins, Appends-nil w); going = ap (λ (v : State). v.stopped) begins }
 
 -- what is written of a run that goes on is a part of all
 unfinished : (r₀ r w₀ w : Option (List ℕ)) (s : State) (bytes : List ℕ) → Consumes r₀ r bytes → s ≡ take_bytes begin bytes → s.stopped ≡ false → Appends w₀ w (bytes_text begin bytes)
@@ -133,67 +119,6 @@ in-part (Some input) (Some rest) w₀ w v s bytes more c e a p =
     ap output (c ∙ append_assoc bytes more rest) ∙ output-split bytes (more ++ rest) s e ∙ ap (λ (l : List ℕ). bytes_text begin bytes ++ l) text in
     subst (λ (l : List ℕ). AppendsPart w₀ v l) (sym whole)
     (part-after w₀ w v (bytes_text begin bytes) (bytes_text s more ++ left_text after rest) a (part-of_more w v (bytes_text s more) (left_text after rest) p))
-
--- ---- one read, and what is done with its answer
-module _ (E : Type 0) (r₀ r r' w₀ w w' e₀ e e' : Option (List ℕ)) (h h' : Standing) (s s' : State) (buffer : List ℕ) (room : ℕ)
-    (f : Sofar r₀ r w₀ w e₀ e h s) (m : h.more ≡ true) (some : 0 < length buffer) (enough : line_room ≤ room) (says : h'.whole ≡ true → Keeps e e') where
-  unread : (why : E) → Keeps r r' → h' ≡ halted_at h'.position false → Keeps w w' → Sofar r₀ r' w₀ w' e₀ e' h' s'
-  unread why kept is kept' =
-      let a = was_whole r₀ r w₀ w e₀ e h s f m in
-      let (bytes, read, state, written) = f.whole a in
-      let whole : h'.whole ≡ false = ap (λ (t : Standing). t.whole) is in
-      let more : h'.more ≡ false = ap (λ (t : Standing). t.more) is in
-      record {
-        said = λ b. absurd (true≢false (sym b ∙ whole));
-        whole = λ b. absurd (true≢false (sym b ∙ whole));
-        last = λ b. absurd (true≢false (sym b ∙ whole));
-        going = λ b. absurd (true≢false (sym b ∙ whole));
-        failed = λ b. (more, unfinished r₀ r w₀ w' s bytes read state (f.going a m) (Appends-kept w₀ w w' (bytes_text begin bytes) written kept'));
-      }
-
-  state-after : (n : ℕ) → AfterRead {E = E} (Ok n) buffer room s h' s' → h'.whole ≡ true → s' ≡ take_bytes s (take n buffer)
-  unfolding take_bytes
-  state-after zero a b = a.1
-  state-after (suc k) a b = a.2 enough b
-
-  last-after : (n : ℕ) → AfterRead {E = E} (Ok n) buffer room s h' s' → (n ≡ 0 → 0 < length buffer → IsAtEnd r') → h'.whole ≡ true → h'.more ≡ false → IsAtEnd r' ⊎ (s'.stopped ≡ true)
-  last-after zero a end b c = inl (end refl some)
-  last-after (suc k) a end b c = inr (not-false s'.stopped (sym (a.1 b) ∙ c))
-
-  going-after : (n : ℕ) → AfterRead {E = E} (Ok n) buffer room s h' s' → h'.whole ≡ true → h'.more ≡ true → s'.stopped ≡ false
-  going-after zero a b c = absurd (true≢false (sym c ∙ ap (λ (t : Standing). t.more) a.0))
-  going-after (suc k) a b c = not-true s'.stopped (sym (a.1 b) ∙ c)
-
-  no_more-after : (n : ℕ) → AfterRead {E = E} (Ok n) buffer room s h' s' → h'.whole ≡ false → h'.more ≡ false
-  no_more-after zero a b = ap (λ (t : Standing). t.more) a.0
-  no_more-after (suc k) a b = a.0 b
-
-  answered : (n : ℕ) → Consumes r r' (take n buffer) → (n ≡ 0 → 0 < length buffer → IsAtEnd r') → AfterRead {E = E} (Ok n) buffer room s h' s'
-      → Wrote w w' h'.whole (bytes_text s (take n buffer)) → Sofar r₀ r' w₀ w' e₀ e' h' s'
-  answered n consumed end a wrote =
-      let old = was_whole r₀ r w₀ w e₀ e h s f m in
-      let (bytes, read, state, written) = f.whole old in
-      let more : List ℕ = take n buffer in
-      let all : Consumes r₀ r' (bytes ++ more) = Consumes-trans r₀ r r' bytes more read consumed in
-      let joined : take_bytes s more ≡ take_bytes begin (bytes ++ more) = ap (λ (v : State). take_bytes v more) state ∙ sym (states-join bytes more begin) in
-      let text : bytes_text begin bytes ++ bytes_text s more ≡ bytes_text begin (bytes ++ more) =
-      ap (λ (v : State). bytes_text begin bytes ++ bytes_text v more) state ∙ sym (texts-join bytes more begin) in
-      record {
-        said = λ b. Keeps-trans e₀ e e' (f.said old) (says b);
-        whole = λ b. (
-          bytes ++ more,
-          all,
-          state-after n a b ∙ joined,
-          subst (λ (l : List ℕ). Appends w₀ w' l) text (Appends-trans w₀ w w' (bytes_text begin bytes) (bytes_text s more) written (wrote.all b)),
-        );
-        last = last-after n a end;
-        going = going-after n a;
-        failed = λ b. (no_more-after n a b, in-part r₀ r' w₀ w w' s bytes more all state written (wrote.part b));
-      }
-
-  pub after-read : (got : Result ℕ E) → ReadConsumes r r' got buffer → AfterRead got buffer room s h' s' → PassWrites got buffer room s w w' h' → Sofar r₀ r' w₀ w' e₀ e' h' s'
-  after-read (Err why) c a p = unread why c a.0 p
-  after-read (Ok n) c a p = answered n c.0 c.1 a (p enough)
 
 -- ---- at the end
 map-some : (o : Option (List ℕ)) (P Q : List ℕ → Type 0) → ((x : List ℕ) → P x → Q x) → IfSome o P → IfSome o Q
@@ -225,28 +150,85 @@ module _ (w₀ w w' : Option (List ℕ)) (s : State) (bytes : List ℕ) (state :
       (ap output c ∙ output-split bytes rest s state ∙ ap (λ (l : List ℕ). bytes_text begin bytes ++ l) (nothing-left (Some rest) rest s refl last)))
       (wrote_more w₀ w w' whole (bytes_text begin bytes) (close_text s) written wrote)
 
-module _ (r₀ r w₀ w w' e₀ e : Option (List ℕ)) (h : Standing) (s : State) (f : Sofar r₀ r w₀ w e₀ e h s) (room : ℕ) (enough : last_room ≤ room) (whole : Bool)
-    (c : CloseWrites h room s w w' whole) where
-  -- a text that is not whole
-  cut : whole ≡ false → Keeps w w' → IfSome r₀ (λ input. AppendsPart w₀ w (output input)) → RunWrites r₀ w₀ w' whole
-  cut e kept p =
-      map-some r₀ _ (λ input. Wrote w₀ w' whole (output input))
-      (λ input q. subst (λ (b : Bool). Wrote w₀ w' b (output input)) (sym e) (wrote_part w₀ w' (output input) (part-kept w₀ w w' (output input) q kept))) p
+-- a text that is not whole
+cut : (r₀ w₀ w : Option (List ℕ)) → IfSome r₀ (λ input. AppendsPart w₀ w (output input)) → RunWrites r₀ w₀ w false
+cut r₀ w₀ w p = map-some r₀ _ (λ input. Wrote w₀ w false (output input)) (λ input q. wrote_part w₀ w (output input) q) p
 
-  pub run-writes : RunWrites r₀ w₀ w' whole
-  run-writes = by h.whole refl h.more refl
-    where
-      by : (a : Bool) → h.whole ≡ a → (b : Bool) → h.more ≡ b → RunWrites r₀ w₀ w' whole
-      by true a false b = let (bytes, read, state, written) = f.whole a in finished w₀ w w' s bytes state written r₀ r read (f.last a b) whole (c.ends a b enough)
-      by true a true b =
-          let (bytes, read, state, written) = f.whole a in
-          let n = c.nothing (inr b) in
-          cut n.0 n.1 (unfinished r₀ r w₀ w s bytes read state (f.going a b) written)
-      by false a b d = let n = c.nothing (inl a) in cut n.0 n.1 (f.failed a).1
+pub cut-off : {A B : Type 0} (o : Result A B) (r₀ w₀ w : Option (List ℕ)) → IsErr o → RunWrites r₀ w₀ w false → RunWrites r₀ w₀ w (is_ok o)
+cut-off (Ok x) r₀ w₀ w e h = cc (e)
+cut-off (Err x) r₀ w₀ w e h = h
 
-  pub run-says : (e' : Option (List ℕ)) → (whole ≡ true → Keeps e e') → whole ≡ true → Keeps e₀ e'
-  run-says e' says t = by h.whole refl
+pub endless : (r₀ r w₀ w : Option (List ℕ)) (s : State) → Sofar r₀ r w₀ w s → RunWrites r₀ w₀ w false
+endless r₀ r w₀ w s f = let (bytes, read, state, written) = f.whole in cut r₀ w₀ w (unfinished r₀ r w₀ w s bytes read state f.going written)
+
+-- ---- one read, and what is done with its answer
+module _ (r₀ r r' w₀ w w' : Option (List ℕ)) (p : Position) (line total line' total' buffer : List ℕ) (room : ℕ) (f : Sofar r₀ r w₀ w (state_of p line total))
+    (some : 0 < length buffer) (enough : line_room ≤ room) where
+  abbrev s : State
+  s = state_of p line total
+
+  -- a read or a write that failed
+  pub failed : {E : Type 0} (got : Result ℕ E) → ReadConsumes r r' got buffer → PassWrites got buffer room s w w' false → RunWrites r₀ w₀ w' false
+  failed (Err why) kept kept' =
+      let (bytes, read, state, written) = f.whole in
+      cut r₀ w₀ w' (unfinished r₀ r w₀ w' s bytes read state f.going (Appends-kept w₀ w w' (bytes_text begin bytes) written kept'))
+  failed (Ok n) consumed wrote =
+      let (bytes, read, state, written) = f.whole in
+      let all : Consumes r₀ r' (bytes ++ take n buffer) = Consumes-trans r₀ r r' bytes (take n buffer) read consumed.0 in
+      cut r₀ w₀ w' (in-part r₀ r' w₀ w w' s bytes (take n buffer) all state written ((wrote enough).part refl))
+
+  answered : (n : ℕ) → Consumes r r' (take n buffer) → (after : State) → after ≡ take_bytes s (take n buffer) → Wrote w w' true (bytes_text s (take n buffer))
+      → (bytes : List ℕ) × Consumes r₀ r' bytes × (after ≡ take_bytes begin bytes) × Appends w₀ w' (bytes_text begin bytes)
+  answered n consumed after is wrote =
+      let (bytes, read, state, written) = f.whole in
+      let more : List ℕ = take n buffer in
+      let joined : take_bytes s more ≡ take_bytes begin (bytes ++ more) = ap (λ (v : State). take_bytes v more) state ∙ sym (states-join bytes more begin) in
+      let text : bytes_text begin bytes ++ bytes_text s more ≡ bytes_text begin (bytes ++ more) =
+      ap (λ (v : State). bytes_text begin bytes ++ bytes_text v more) state ∙ sym (texts-join bytes more begin) in (
+        bytes ++ more,
+        Consumes-trans r₀ r r' bytes more read consumed,
+        is ∙ joined,
+        subst (λ (l : List ℕ). Appends w₀ w' l) text (Appends-trans w₀ w w' (bytes_text begin bytes) (bytes_text s more) written (wrote.all refl)),
+      )
+
+  none-taken : (t : State) → t ≡ s → t ≡ take_bytes s (take 0 buffer)
+  unfolding take_bytes
+  none-taken t e = e
+
+  goes-on-at : {E : Type 0} (got : Result ℕ E) (q : Position) → ReadConsumes r r' got buffer → AfterRead got buffer room p line total (Ok (Continue q)) line' total'
+      → PassWrites got buffer room s w w' true → Sofar r₀ r' w₀ w' (state_of q line' total')
+  goes-on-at (Err why) q c a wrote = cc (a.0)
+  goes-on-at (Ok zero) q c a wrote = cc (a.0)
+  goes-on-at (Ok (suc k)) q c a wrote = record {
+    whole = answered (suc k) c.0 (state_of q line' total') (a.1 enough) (wrote enough);
+    going = not-true _ (sym a.0);
+  }
+
+  stops : (q : Position) → (bytes : List ℕ) × Consumes r₀ r' bytes × (state_of q line' total' ≡ take_bytes begin bytes) × Appends w₀ w' (bytes_text begin bytes)
+      → IsAtEnd r' ⊎ ((state_of q line' total').stopped ≡ true) → (v : Option (List ℕ)) (whole : Bool) → Wrote w' v whole (close_text (state_of q line' total')) → RunWrites r₀ w₀ v whole
+  stops q so_far last v whole wrote =
+      let (bytes, read, state, written) = so_far in finished w₀ w' v (state_of q line' total') bytes state written r₀ r' read last whole wrote
+
+  closes-at : {E : Type 0} (got : Result ℕ E) (q : Position) → ReadConsumes r r' got buffer
+      → AfterRead got buffer room p line total (Ok (Break q)) line' total' → PassWrites got buffer room s w w' true
+      → (v : Option (List ℕ)) (whole : Bool) → Wrote w' v whole (close_text (state_of q line' total')) → RunWrites r₀ w₀ v whole
+  closes-at (Err why) q c a wrote v whole last = cc (a.0)
+  closes-at (Ok zero) q c a wrote v whole last =
+      let same : state_of q line' total' ≡ s = ap (λ (k : Position). state_of k line' total') (the-same q a.0) ∙ a.1 in
+      stops q (answered 0 c.0 (state_of q line' total') (none-taken _ same) (wrote enough)) (inl (c.1 refl some)) v whole last
     where
-      by : (a : Bool) → h.whole ≡ a → Keeps e₀ e'
-      by true a = Keeps-trans e₀ e e' (f.said a) (says t)
-      by false a = absurd (true≢false (sym t ∙ (c.nothing (inl a)).0))
+      the-same : (q : Position) → ◌≡◌ {A = Result (ControlFlow Position Position) NotWhole} (Ok (Break q)) (Ok (Break p)) → q ≡ p
+      the-same q e = cc
+  closes-at (Ok (suc k)) q c a wrote v whole last =
+      stops q (answered (suc k) c.0 (state_of q line' total') (a.1 enough) (wrote enough)) (inr (not-false _ (sym a.0))) v whole last
+
+  module _ {E : Type 0} (got : Result ℕ E) (flow : ControlFlow Position Position) (q : Position) (c : ReadConsumes r r' got buffer)
+      (a : AfterRead got buffer room p line total (Ok flow) line' total') (wrote : PassWrites got buffer room s w w' true) where
+    at-flow : (f : ControlFlow Position Position) → flow ≡ f → AfterRead got buffer room p line total (Ok f) line' total'
+    at-flow f e = subst (λ (f : ControlFlow Position Position). AfterRead got buffer room p line total (Ok f) line' total') e a
+
+    pub goes-on : flow ≡ Continue q → Sofar r₀ r' w₀ w' (state_of q line' total')
+    goes-on e = goes-on-at got q c (at-flow (Continue q) e) wrote
+
+    pub closes : flow ≡ Break q → (v : Option (List ℕ)) (whole : Bool) → Wrote w' v whole (close_text (state_of q line' total')) → RunWrites r₀ w₀ v whole
+    closes e v whole last = closes-at got q c (at-flow (Break q) e) wrote v whole last

@@ -6,7 +6,7 @@ use Prim.Native.Nat.{ℕ, ◌+◌, ◌-◌, ◌≤◌, ◌<◌}
 use native.Mathlib.Omega.{arith}
 use lib.ListN.{length, take, drop, take-append-drop, length-drop, length-append}
 use lib.Seq.{take-add, take_all}
-use Rattle.std.specs.Prelude.{Option}
+use Rattle.std.specs.Prelude.{Option, Result, Ok, Err, IsErr, is_ok}
 use Rattle.std.specs.Io.KnownBytes.{Keeps, Appends}
 use Rattle.std.proofs.lemmas.List.{take_rest}
 use Rattle.std.proofs.KnownBytes.{Appends-nil, Appends-trans, Appends-kept}
@@ -56,6 +56,11 @@ wrote_all w v text h = record { all = λ e. h; part = λ e. absurd (true≢false
 
 pub wrote_part : (w v : Option (List ℕ)) (text : List ℕ) → AppendsPart w v text → Wrote w v false text
 wrote_part w v text h = record { all = λ e. absurd (true≢false (sym e)); part = λ e. h }
+
+-- where a call failed
+pub wrote_at-err : {A B : Type 0} (r : Result A B) (w v : Option (List ℕ)) (text : List ℕ) → IsErr r → Wrote w v false text → Wrote w v (is_ok r) text
+wrote_at-err (Ok x) w v text e h = cc (e)
+wrote_at-err (Err x) w v text e h = h
 
 -- ---- a text's bytes, so many at once
 pub more-within : (text : List ℕ) (done n : ℕ) → done ≤ length text → n ≤ length (take (length text - done) (drop done text)) → done + n ≤ length text

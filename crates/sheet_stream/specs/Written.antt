@@ -1,11 +1,9 @@
 -- What a run writes (R9, R9.12), where the reader says which bytes it has left, and the writer which bytes it holds.
-use Rattle.std.specs.Prelude.{ℕ, ◌≤◌, ◌<◌, ◌≡◌, ◌⊎◌, Bool, true, false, List, ◌++◌, length, take, IfSome, Ok, Err, Option, Result}
+use Rattle.std.specs.Prelude.{ℕ, ◌≤◌, ◌<◌, ◌≡◌, Bool, true, false, List, ◌++◌, length, take, IfSome, Ok, Err, Option, Result}
 use Rattle.std.specs.Io.KnownBytes.{Keeps, Appends}
 use Rattle.transcript_spec.specs.Texts.{line_room}
 use Rattle.sheet_spec.specs.Printed.{output}
-use Rattle.sheet_spec.specs.States.{State, bytes_text, close_text}
-use Rattle.sheet_spec.specs.Calls.{last_room}
-use Rattle.sheet_stream.specs.declared.Standing.{Standing}
+use Rattle.sheet_spec.specs.States.{State, bytes_text}
 
 -- known bytes have grown by a part of a text, from its first byte on, and not by all of it
 abbrev pub AppendsPart : Option (List ℕ) → Option (List ℕ) → List ℕ → Type 0
@@ -17,15 +15,9 @@ pub record Wrote (old new : Option (List ℕ)) (whole : Bool) (text : List ℕ) 
   pub part : whole ≡ false → AppendsPart old new text
 
 -- what is written after a read's answer: the text of so many bytes, given room for a line's; where the read failed nothing
-abbrev pub PassWrites : {E : Type 0} → Result ℕ E → List ℕ → ℕ → State → Option (List ℕ) → Option (List ℕ) → Standing → Type 0
-PassWrites (Err e) bytes room s old new r = Keeps old new
-PassWrites (Ok n) bytes room s old new r = line_room ≤ room → Wrote old new r.whole (bytes_text s (take n bytes))
-
--- What is written last: where no read follows and every call has done its work, what the input's end prints, given room for it; elsewhere
--- nothing, and the text is not whole.
-pub record CloseWrites (h : Standing) (room : ℕ) (s : State) (old new : Option (List ℕ)) (whole : Bool) : Type 0 where
-  pub ends : h.whole ≡ true → h.more ≡ false → last_room ≤ room → Wrote old new whole (close_text s)
-  pub nothing : (h.whole ≡ false) ⊎ (h.more ≡ true) → (whole ≡ false) × Keeps old new
+abbrev pub PassWrites : {E : Type 0} → Result ℕ E → List ℕ → ℕ → State → Option (List ℕ) → Option (List ℕ) → Bool → Type 0
+PassWrites (Err e) bytes room s old new whole = Keeps old new
+PassWrites (Ok n) bytes room s old new whole = line_room ≤ room → Wrote old new whole (bytes_text s (take n bytes))
 
 -- What a run writes: all that is printed of the input's bytes, where it answers that its text is whole, and else a part of that, which is
 -- not all.

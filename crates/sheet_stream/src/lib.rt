@@ -3,141 +3,123 @@
 // Where a reader says which bytes it has left, and a writer which bytes it holds, as those in memory do, `run`'s contract says what was
 // written. Of a file, a pipe or a terminal no contract can say what a call read or wrote. What is done next, `pass` says of any read's
 // answer, and `closing` of the input's end.
-// A read or a write that fails is said on standard error, where it failed, and nothing more is printed (R9.12): a text without its last
-// lines is not taken for a whole one.
+// A read or a write that fails is said on standard error, and nothing more is printed (R9.12): a text without its last lines is not taken
+// for a whole one.
 #![tactic(auto)]
 
 mod saying;
 
-ghost use Rattle.std.specs.Prelude.{◌≡◌, ◌≤◌, ◌&&◌, true, false, not, length, OnOk, OnErr};
+ghost use Rattle.std.specs.Prelude.{◌≡◌, ◌≤◌, true, is_ok, length, IfOk, OnOk, OnErr};
 ghost use Rattle.std.specs.Io.KnownBytes.{Keeps, Appends};
 ghost use Rattle.transcript_spec.specs.Texts.{line_room};
-ghost use Rattle.sheet_spec.specs.States.{bytes_text};
+ghost use Rattle.sheet_spec.specs.States.{bytes_text, take_bytes, close_text};
 ghost use Rattle.sheet_spec.specs.Positions.{state_of};
-ghost use Rattle.sheet_stream.specs.Inner.{halted_at, Closes, AfterRead, TakesAll};
-ghost use Rattle.sheet_stream.specs.Written.{AppendsPart, Wrote, PassWrites, CloseWrites, RunWrites};
+ghost use Rattle.sheet_spec.specs.Calls.{last_room};
+ghost use Rattle.sheet_stream.specs.Inner.{AfterRead};
+ghost use Rattle.sheet_stream.specs.Written.{AppendsPart, Wrote, PassWrites, RunWrites};
 
 use accumulator_spec::TOTAL_SIZE;
 use sheet_line::position;
 use sheet_spec::{KEPT_BYTES, Position};
 use std::io;
 use std::io::{ErrorKind, Read, Write};
+use std::ops::ControlFlow;
 
 // Bytes that are read at once, and that are written at once.
 const BUFFER_SIZE: usize = 65536;
 
-// A position, and whether every write on the way to it has done its work.
-#[derive(Clone, Copy)]
-pub struct Passed {
-    pub position: Position,
-    pub whole: bool,
-}
-
-// Where a run stands between two reads: its position, whether every call so far has done its work, and whether another read follows.
-#[derive(Clone, Copy)]
-pub struct Standing {
-    pub position: Position,
-    pub whole: bool,
-    pub more: bool,
+// Why a text is not whole.
+#[derive(Drop)]
+pub enum NotWhole {
+    Unread(io::Error),
+    Unwritten(io::Error),
+    // More reads than are counted.
+    Endless,
 }
 
 // Answers whether the whole text was written. Where a call failed, `errors` was told so.
-// A loop that is proved has to end: this one counts down from a number of reads that no run uses up, and then would close nothing.
 pub fn run<R: Read, W: Write, E: Write>(input: &mut R, output: &mut W, errors: &mut E) -> bool
     ensures writes { RunWrites (R.remaining input.old) (W.contents output.old) (W.contents output.new)
         result }
     ensures says { result ≡ true → Keeps (E.contents errors.old) (E.contents errors.new) }
 {
+    match write_sheets(input, output) {
+        Ok(()) => true,
+        Err(why) => {
+            saying::say(errors, why);
+            false
+        }
+    }
+}
+
+// A loop that is proved has to end: this one counts up to a number of reads that no run uses up.
+fn write_sheets<R: Read, W: Write>(input: &mut R, output: &mut W) -> Result<(), NotWhole>
+    ensures { RunWrites (R.remaining input.old) (W.contents output.old) (W.contents output.new)
+        (is_ok result) }
+{
     let mut bytes = [0u8; BUFFER_SIZE];
     let mut out = [0u8; BUFFER_SIZE];
     let mut line = [0u8; KEPT_BYTES];
     let mut total = [0u32; TOTAL_SIZE];
-    let mut here = Standing {
-        position: position::begin(),
-        whole: true,
-        more: true,
-    };
-    let mut reads = u64::MAX;
-    while reads > 0 && here.more {
+    let mut here = position::begin();
+    for _ in 0..u64::MAX {
         let got = input.read(&mut bytes);
-        here = pass(
-            got,
-            output,
-            errors,
-            &bytes,
-            here.position,
-            &mut line,
-            &mut total,
-            &mut out,
-        );
-        reads -= 1;
+        match pass(got, output, &bytes, here, &mut line, &mut total, &mut out)? {
+            ControlFlow::Continue(position) => here = position,
+            ControlFlow::Break(position) => {
+                return close(output, position, &line, &mut total, &mut out);
+            }
+        }
     }
-    close(output, errors, here, &line, &mut total, &mut out)
+    Err(NotWhole::Endless)
 }
 
-// From what a read answered to what is done next: it failed, or it read so many bytes, and 0 is the input's end.
-fn pass<W: Write, E: Write>(
+// From what a read answered to what is done next: it failed, or it read so many bytes, and 0 is the input's end. Another read follows from
+// the position that goes on, and the last lines, at the input's end and after `stop`, from the one that breaks.
+fn pass<W: Write>(
     got: io::Result<usize>,
     output: &mut W,
-    errors: &mut E,
     bytes: &[u8],
     position: Position,
     line: &mut [u8; KEPT_BYTES],
     total: &mut [u32],
     out: &mut [u8],
-) -> Standing
-    ensures next { AfterRead got bytes.now (length out.old)
-        (state_of position line.old total.old) result (state_of result.position line.new total.new) }
+) -> Result<ControlFlow<Position, Position>, NotWhole>
+    ensures next { AfterRead got bytes.now (length out.old) position line.old total.old result line.new
+        total.new }
     ensures writes { PassWrites got bytes.now (length out.old) (state_of position line.old total.old)
-        (W.contents output.old) (W.contents output.new) result }
-    ensures says { result.whole ≡ true → Keeps (E.contents errors.old) (E.contents errors.new) }
+        (W.contents output.old) (W.contents output.new) (is_ok result) }
 {
     let got = match got {
         Ok(got) => got,
-        Err(why) => {
-            saying::unread(errors, why);
-            return halted(position, false);
-        }
+        Err(why) => return Err(NotWhole::Unread(why)),
     };
     if got == 0 {
-        return halted(position, true);
+        return Ok(ControlFlow::Break(position));
     }
     let n = got.min(bytes.len());
-    let passed = take(output, errors, &bytes[..n], position, line, total, out);
-    Standing {
-        position: passed.position,
-        whole: passed.whole,
-        more: passed.whole && position::goes_on(passed.position),
-    }
-}
-
-// No read follows, and the last lines do where every call has done its work.
-fn halted(position: Position, whole: bool) -> Standing
-    ensures { result ≡ halted_at position whole }
-{
-    Standing {
-        position,
-        whole,
-        more: false,
+    let position = take(output, &bytes[..n], position, line, total, out)?;
+    if position::goes_on(position) {
+        Ok(ControlFlow::Continue(position))
+    } else {
+        Ok(ControlFlow::Break(position))
     }
 }
 
 // Takes all the bytes. What they print is written whenever the buffer is full, and at the last byte. A write that fails ends the run at
-// once, and so does `stop`.
-fn take<W: Write, E: Write>(
+// once, and so does `stop`. How many bytes are taken at once `feed` says, so that the place of the next is counted by hand.
+fn take<W: Write>(
     output: &mut W,
-    errors: &mut E,
     bytes: &[u8],
     position: Position,
     line: &mut [u8; KEPT_BYTES],
     total: &mut [u32],
     out: &mut [u8],
-) -> Passed
-    ensures takes { TakesAll bytes.now (length out.old) (state_of position line.old total.old) result
-        (state_of result.position line.new total.new) }
+) -> Result<Position, NotWhole>
+    ensures takes { line_room ≤ length out.old → IfOk result (λ p. state_of p line.new total.new ≡ take_bytes
+        (state_of position line.old total.old) bytes.now) }
     ensures writes { line_room ≤ length out.old → Wrote (W.contents output.old) (W.contents output.new)
-        result.whole (bytes_text (state_of position line.old total.old) bytes.now) }
-    ensures says { result.whole ≡ true → Keeps (E.contents errors.old) (E.contents errors.new) }
+        (is_ok result) (bytes_text (state_of position line.old total.old) bytes.now) }
 {
     let mut here = position;
     let mut at: usize = 0;
@@ -146,84 +128,41 @@ fn take<W: Write, E: Write>(
         let taken = fed.taken;
         let n = fed.written;
         here = fed.position;
-        if !wrote_all(output, errors, &out[..n]) {
-            return Passed {
-                position: here,
-                whole: false,
-            };
-        }
+        wrote_all(output, &out[..n])?;
         let none = taken == 0;
         if none {
-            return Passed {
-                position: here,
-                whole: true,
-            };
+            return Ok(here);
         }
         at += taken;
     }
-    Passed {
-        position: here,
-        whole: true,
-    }
+    Ok(here)
 }
 
-// Answers whether the text is whole then.
-fn close<W: Write, E: Write>(
+// What the input's end prints, after `stop` nothing.
+fn close<W: Write>(
     output: &mut W,
-    errors: &mut E,
-    standing: Standing,
+    position: Position,
     line: &[u8; KEPT_BYTES],
     total: &mut [u32],
     out: &mut [u8],
-) -> bool
-    ensures writes { CloseWrites standing (length out.old) (state_of standing.position line.now total.old)
-        (W.contents output.old) (W.contents output.new) result }
-    ensures says { result ≡ true → Keeps (E.contents errors.old) (E.contents errors.new) }
+) -> Result<(), NotWhole>
+    ensures { last_room ≤ length out.old → Wrote (W.contents output.old) (W.contents output.new)
+        (is_ok result) (close_text (state_of position line.now total.old)) }
 {
-    let n = closing(standing, line, total, out);
-    if !wrote_all(output, errors, &out[..n]) {
-        return false;
-    }
-    ended(standing)
+    let n = sheet_feed::finish(position, line, total, out);
+    wrote_all(output, &out[..n])
 }
 
-// What is left to print: nothing where a call failed, and nothing before the input's end.
-fn closing(standing: Standing, line: &[u8; KEPT_BYTES], total: &mut [u32], out: &mut [u8]) -> usize
-    ensures { Closes standing (state_of standing.position line.now total.old) out.old result
-        total.new out.new }
+// All of the text is written, or it is said why not.
+fn wrote_all<W: Write>(output: &mut W, text: &[u8]) -> Result<(), NotWhole>
+    ensures { Wrote (W.contents output.old) (W.contents output.new) (is_ok result) text.now }
 {
-    if standing.more {
-        return 0;
-    }
-    if !standing.whole {
-        return 0;
-    }
-    sheet_feed::finish(standing.position, line, total, out)
-}
-
-// Whether every call has done its work, up to the input's end or to `stop`.
-fn ended(standing: Standing) -> bool
-    ensures { result ≡ (standing.whole && not standing.more) }
-{
-    standing.whole && !standing.more
-}
-
-// Whether all of the text was written; where it was not, this is said.
-fn wrote_all<W: Write, E: Write>(output: &mut W, errors: &mut E, text: &[u8]) -> bool
-    ensures writes { Wrote (W.contents output.old) (W.contents output.new) result text.now }
-    ensures says { result ≡ true → Keeps (E.contents errors.old) (E.contents errors.new) }
-{
-    match write_text(output, text) {
-        Ok(()) => true,
-        Err(why) => {
-            saying::unwritten(errors, why);
-            false
-        }
-    }
+    write_text(output, text).map_err(NotWhole::Unwritten)
 }
 
 // The text's bytes in order, each once, up to the first write that fails or takes none. One that a signal interrupts before it takes a
-// byte has failed.
+// byte has failed (R9.12). std's `write_all` tries such a one again, and says nothing of what a failure leaves, as the clause `part` does;
+// how many bytes are written at once the writer says, so that they are counted by hand.
 fn write_text<W: Write>(output: &mut W, text: &[u8]) -> io::Result<()>
     ensures all { OnOk result (Appends (W.contents output.old) (W.contents output.new) text.now) }
     ensures part { OnErr result (AppendsPart (W.contents output.old) (W.contents output.new)

@@ -11,6 +11,7 @@ ghost use Rattle.transcript_spec.specs.Buffers.{Writes};
 
 use augmented_spec::Pair;
 pub use notices::{bad, end, stop, total};
+use transcript_fields::writer::Writer;
 use transcript_lines::{lengths, put_answered, put_ask, put_pair, put_step};
 use worksheet_spec::{LINE_SIZE, MOST_LINES, SHEET_SIZE};
 
@@ -20,7 +21,9 @@ pub fn ask(out: &mut [u8], number: u32, operation: u32, x: u32, y: u32) -> usize
     if out.len() < 27 + lengths::decimal(number) {
         return 0;
     }
-    put_ask(out, 0, number, operation, x, y)
+    let mut writer = Writer { out, at: 0 };
+    put_ask(&mut writer, number, operation, x, y);
+    writer.at
 }
 
 pub fn step(out: &mut [u8], number: u32, line: [u32; LINE_SIZE]) -> usize
@@ -29,28 +32,27 @@ pub fn step(out: &mut [u8], number: u32, line: [u32; LINE_SIZE]) -> usize
     if out.len() < lengths::step(number, line[0]) {
         return 0;
     }
-    put_step(out, 0, number, line)
+    let mut writer = Writer { out, at: 0 };
+    put_step(&mut writer, number, &line);
+    writer.at
 }
 
 pub fn pair(out: &mut [u8], pair: Pair) -> usize
     ensures { Writes out.old (pair_text pair) result out.new }
 {
-    let flags = pair.flags;
-    if out.len() < 24 + lengths::flags(flags) {
+    if out.len() < 24 + lengths::flags(pair.flags) {
         return 0;
     }
-    put_pair(out, 0, pair)
+    let mut writer = Writer { out, at: 0 };
+    put_pair(&mut writer, pair);
+    writer.at
 }
 
 // No more lines than a sheet has.
 fn shown(lines: u32) -> usize
     ensures { result ≡ min lines most_lines }
 {
-    if lines < MOST_LINES as u32 {
-        lines as usize
-    } else {
-        MOST_LINES
-    }
+    MOST_LINES.min(lines as usize)
 }
 
 // A question's `ask`, a `step` for each line of its sheet, and its `pair`.
@@ -67,9 +69,10 @@ pub fn answered(
     ensures { Writes out.old (answered_text number operation x y words.now lines pair) result out.new }
 {
     let shown = shown(lines);
-    let flags = pair.flags;
-    if out.len() < lengths::answered(number, words, shown, flags) {
+    if out.len() < lengths::answered(number, words, shown, pair.flags) {
         return 0;
     }
-    put_answered(out, 0, number, operation, x, y, words, shown, pair)
+    let mut writer = Writer { out, at: 0 };
+    put_answered(&mut writer, number, operation, x, y, words, shown, pair);
+    writer.at
 }

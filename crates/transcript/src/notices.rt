@@ -3,7 +3,7 @@
 ghost use Rattle.transcript_spec.specs.Texts.{bad_text, total_text, end_text, stop_text};
 ghost use Rattle.transcript_spec.specs.Buffers.{Writes};
 
-use transcript_fields::bytes::put_four;
+use transcript_fields::writer::Writer;
 use transcript_lines::{lengths, put_counts, put_total};
 
 pub fn bad(out: &mut [u8], number: u32, refusal: u32) -> usize
@@ -12,7 +12,9 @@ pub fn bad(out: &mut [u8], number: u32, refusal: u32) -> usize
     if out.len() < 6 + lengths::decimal(number) + lengths::decimal(refusal) {
         return 0;
     }
-    put_counts(out, 0, b'b', b'a', b'd', number, refusal)
+    let mut writer = Writer { out, at: 0 };
+    put_counts(&mut writer, b"bad", number, refusal);
+    writer.at
 }
 
 pub fn total(out: &mut [u8], first: u32, second: u32) -> usize
@@ -21,7 +23,9 @@ pub fn total(out: &mut [u8], first: u32, second: u32) -> usize
     if out.len() < 24 {
         return 0;
     }
-    put_total(out, 0, first, second)
+    let mut writer = Writer { out, at: 0 };
+    put_total(&mut writer, first, second);
+    writer.at
 }
 
 pub fn end(out: &mut [u8], good: u32, bad: u32) -> usize
@@ -30,7 +34,9 @@ pub fn end(out: &mut [u8], good: u32, bad: u32) -> usize
     if out.len() < 6 + lengths::decimal(good) + lengths::decimal(bad) {
         return 0;
     }
-    put_counts(out, 0, b'e', b'n', b'd', good, bad)
+    let mut writer = Writer { out, at: 0 };
+    put_counts(&mut writer, b"end", good, bad);
+    writer.at
 }
 
 pub fn stop(out: &mut [u8]) -> usize
@@ -39,6 +45,7 @@ pub fn stop(out: &mut [u8]) -> usize
     if out.len() < 8 {
         return 0;
     }
-    let a = put_four(out, 0, b's', b't', b'o', b'p');
-    put_four(out, a, b'\t', b'1', b'1', b'\n')
+    let mut writer = Writer { out, at: 0 };
+    writer.bytes(b"stop\t11\n");
+    writer.at
 }

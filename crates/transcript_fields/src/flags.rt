@@ -1,32 +1,31 @@
 // The letters of flags.
-ghost use Rattle.std.specs.Prelude.{◌+◌, ◌≤◌, length};
 ghost use Rattle.transcript_spec.specs.Texts.{flag_letter, flags_text};
-ghost use Rattle.transcript_spec.specs.Buffers.{Put};
+ghost use Rattle.transcript_fields.specs.Writers.{HasRoom, Wrote};
 
+use crate::writer::Writer;
 use augmented_spec::Flags;
 
-fn put_flag_letter(out: &mut [u8], at: usize, raised: bool, letter: u8) -> usize
-    requires { at + length (flag_letter raised letter) ≤ length out.old }
-    ensures { Put out.old at (flag_letter raised letter) result out.new }
-{
-    if raised {
-        out[at] = letter;
-        return at + 1;
+impl Writer<'_> {
+    fn flag_letter(&mut self, raised: bool, letter: u8)
+        requires { HasRoom self.old (flag_letter raised letter) }
+        ensures { Wrote self.old (flag_letter raised letter) self.new }
+    {
+        if raised {
+            self.byte(letter);
+        }
     }
-    at
-}
 
-pub fn put_flags(out: &mut [u8], at: usize, flags: Flags) -> usize
-    requires { at + length (flags_text flags) ≤ length out.old }
-    ensures { Put out.old at (flags_text flags) result out.new }
-{
-    let a = put_flag_letter(out, at, flags.invalid, b'I');
-    let b = put_flag_letter(out, a, flags.overflow, b'O');
-    let c = put_flag_letter(out, b, flags.underflow, b'U');
-    let d = put_flag_letter(out, c, flags.inexact, b'X');
-    if d == at {
-        out[at] = b'-';
-        return at + 1;
+    pub fn flags(&mut self, flags: Flags)
+        requires { HasRoom self.old (flags_text flags) }
+        ensures { Wrote self.old (flags_text flags) self.new }
+    {
+        let start = self.at;
+        self.flag_letter(flags.invalid, b'I');
+        self.flag_letter(flags.overflow, b'O');
+        self.flag_letter(flags.underflow, b'U');
+        self.flag_letter(flags.inexact, b'X');
+        if self.at == start {
+            self.byte(b'-');
+        }
     }
-    d
 }

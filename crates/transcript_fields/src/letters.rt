@@ -1,46 +1,61 @@
 // The letters of operations, each after a tab.
-ghost use Rattle.std.specs.Prelude.{◌≡◌, ◌∷◌, ◌+◌, ◌≤◌, length};
+ghost use Rattle.std.specs.Prelude.{◌≡◌, ◌∷◌};
 ghost use Rattle.question_spec.specs.Ascii.{tab};
-ghost use Rattle.question_spec.specs.Questions.{operation_letters_by_number};
-ghost use Rattle.transcript_spec.specs.Texts.{step_letters_by_number};
-ghost use Rattle.transcript_spec.specs.Buffers.{Put};
+ghost use Rattle.augmented_spec.specs.Operations.{operation_of};
+ghost use Rattle.question_spec.specs.Questions.{operation_letters, operation_letters_by_number};
+ghost use Rattle.transcript_spec.specs.Texts.{step_of, step_letters, step_letters_by_number};
+ghost use Rattle.transcript_fields.specs.Writers.{HasRoom, Wrote};
 
-use crate::bytes::put_four;
-use augmented_spec::{DIFFERENCE, SUM};
-use worksheet_spec::{ADD, MULTIPLY, SUBTRACT};
+use crate::writer::Writer;
+use augmented_spec::Operation;
+use worksheet_spec::Step;
 
-fn question(operation: u32) -> [u8; 3]
-    ensures { result ≡ operation_letters_by_number operation }
+// Any number comes: one that is none is taken for a product, or for a fused step.
+fn operation_of(number: u32) -> Operation
+    ensures { result ≡ operation_of number }
 {
-    if operation == SUM {
-        return *b"sum";
-    }
-    if operation == DIFFERENCE {
-        return *b"dif";
-    }
-    *b"mul"
+    Operation::try_from(number).unwrap_or(Operation::Product)
 }
 
-pub fn put_letters(out: &mut [u8], at: usize, operation: u32) -> usize
-    requires { at + 4 ≤ length out.old }
-    ensures { Put out.old at (tab ∷ operation_letters_by_number operation) result out.new }
+pub(crate) fn step_of(number: u32) -> Step
+    ensures { result ≡ step_of number }
 {
-    let text = question(operation);
-    put_four(out, at, b'\t', text[0], text[1], text[2])
+    Step::try_from(number).unwrap_or(Step::Fused)
 }
 
-pub fn put_step_letters(out: &mut [u8], at: usize, operation: u32) -> usize
-    requires { at + 4 ≤ length out.old }
-    ensures { Put out.old at (tab ∷ step_letters_by_number operation) result out.new }
+fn question(operation: Operation) -> [u8; 4]
+    ensures { result ≡ tab ∷ operation_letters operation }
 {
-    if operation == ADD {
-        return put_four(out, at, b'\t', b'a', b'd', b'd');
+    match operation {
+        Operation::Sum => *b"\tsum",
+        Operation::Difference => *b"\tdif",
+        Operation::Product => *b"\tmul",
     }
-    if operation == SUBTRACT {
-        return put_four(out, at, b'\t', b's', b'u', b'b');
+}
+
+fn step(step: Step) -> [u8; 4]
+    ensures { result ≡ tab ∷ step_letters step }
+{
+    match step {
+        Step::Add => *b"\tadd",
+        Step::Subtract => *b"\tsub",
+        Step::Multiply => *b"\tmul",
+        Step::Fused => *b"\tfma",
     }
-    if operation == MULTIPLY {
-        return put_four(out, at, b'\t', b'm', b'u', b'l');
+}
+
+impl Writer<'_> {
+    pub fn letters(&mut self, operation: u32)
+        requires { HasRoom self.old (tab ∷ operation_letters_by_number operation) }
+        ensures { Wrote self.old (tab ∷ operation_letters_by_number operation) self.new }
+    {
+        self.bytes(&question(operation_of(operation)));
     }
-    put_four(out, at, b'\t', b'f', b'm', b'a')
+
+    pub fn step_letters(&mut self, operation: u32)
+        requires { HasRoom self.old (tab ∷ step_letters_by_number operation) }
+        ensures { Wrote self.old (tab ∷ step_letters_by_number operation) self.new }
+    {
+        self.bytes(&step(step_of(operation)));
+    }
 }

@@ -1,8 +1,10 @@
 // The mark of a step, after a tab. It ends its line.
-ghost use Rattle.std.specs.Prelude.{◌≡◌, [], ◌∷◌, ◌+◌, ◌≤◌, length};
+ghost use Rattle.std.specs.Prelude.{◌≡◌, [], ◌∷◌};
 ghost use Rattle.question_spec.specs.Ascii.{tab};
 ghost use Rattle.transcript_spec.specs.Texts.{mark_digit, mark_text, line_of};
-ghost use Rattle.transcript_spec.specs.Buffers.{Put};
+ghost use Rattle.transcript_fields.specs.Writers.{HasRoom, Wrote};
+
+use crate::writer::Writer;
 
 fn digit(mark: u32) -> u8
     ensures { result ≡ mark_digit mark }
@@ -14,12 +16,11 @@ fn digit(mark: u32) -> u8
     }
 }
 
-pub fn put_mark(out: &mut [u8], at: usize, mark: u32) -> usize
-    requires { at + 3 ≤ length out.old }
-    ensures { Put out.old at (tab ∷ line_of (mark_text mark ∷ [])) result out.new }
-{
-    out[at] = b'\t';
-    out[at + 1] = digit(mark);
-    out[at + 2] = b'\n';
-    at + 3
+impl Writer<'_> {
+    pub fn mark(&mut self, mark: u32)
+        requires { HasRoom self.old (tab ∷ line_of (mark_text mark ∷ [])) }
+        ensures { Wrote self.old (tab ∷ line_of (mark_text mark ∷ [])) self.new }
+    {
+        self.bytes(&[b'\t', digit(mark), b'\n']);
+    }
 }

@@ -1,13 +1,14 @@
 // Patterns, each after a tab.
-ghost use Rattle.std.specs.Prelude.{◌≡◌, ◌∷◌, ◌++◌, ◌+◌, ◌%◌, ◌≤◌, length};
+ghost use Rattle.std.specs.Prelude.{◌≡◌, ◌∷◌, ◌++◌, ◌%◌};
 ghost use Rattle.question_spec.specs.Ascii.{tab};
 ghost use Rattle.question_spec.specs.Questions.{digit, pattern_text};
 ghost use Rattle.transcript_spec.specs.Texts.{step_of, takes_two, third_text};
-ghost use Rattle.transcript_spec.specs.Buffers.{Put};
 ghost use Rattle.transcript_spec.specs.Inner.{half_text};
+ghost use Rattle.transcript_fields.specs.Writers.{HasRoom, Wrote};
 
-use crate::bytes::put_four;
-use worksheet_spec::{ADD, MULTIPLY};
+use crate::letters::step_of;
+use crate::writer::Writer;
+use worksheet_spec::Step;
 
 fn hexadecimal(x: u32) -> u8
     ensures { result ≡ digit (x % 16) }
@@ -19,53 +20,53 @@ fn hexadecimal(x: u32) -> u8
     b'A' + (d - 10) as u8
 }
 
-// The last four digits.
-fn put_half(out: &mut [u8], at: usize, x: u32) -> usize
-    requires { at + 4 ≤ length out.old }
-    ensures { Put out.old at (half_text x) result out.new }
-{
-    let a = hexadecimal(x / 4096);
-    let b = hexadecimal(x / 256);
-    let c = hexadecimal(x / 16);
-    let d = hexadecimal(x);
-    put_four(out, at, a, b, c, d)
-}
-
-pub fn put_pattern(out: &mut [u8], at: usize, x: u32) -> usize
-    requires { at + 9 ≤ length out.old }
-    ensures { Put out.old at (tab ∷ pattern_text x) result out.new }
-{
-    out[at] = b'\t';
-    let low = put_half(out, at + 1, x / 65536);
-    put_half(out, low, x)
-}
-
-pub fn put_patterns(out: &mut [u8], at: usize, x: u32, y: u32) -> usize
-    requires { at + 18 ≤ length out.old }
-    ensures { Put out.old at (tab ∷ pattern_text x ++ (tab ∷ pattern_text y)) result out.new }
-{
-    let second = put_pattern(out, at, x);
-    put_pattern(out, second, y)
-}
-
 // Whether a step's third operand is unused.
 pub fn takes_two(operation: u32) -> bool
     ensures { result ≡ takes_two (step_of operation) }
 {
-    match operation {
-        ADD..=MULTIPLY => true,
-        _ => false,
+    match step_of(operation) {
+        Step::Add | Step::Subtract | Step::Multiply => true,
+        Step::Fused => false,
     }
 }
 
-pub fn put_third(out: &mut [u8], at: usize, operation: u32, z: u32) -> usize
-    requires { at + length (tab ∷ third_text operation z) ≤ length out.old }
-    ensures { Put out.old at (tab ∷ third_text operation z) result out.new }
-{
-    if takes_two(operation) {
-        out[at] = b'\t';
-        out[at + 1] = b'-';
-        return at + 2;
+impl Writer<'_> {
+    // The last four digits.
+    fn half(&mut self, x: u32)
+        requires { HasRoom self.old (half_text x) }
+        ensures { Wrote self.old (half_text x) self.new }
+    {
+        self.byte(hexadecimal(x / 4096));
+        self.byte(hexadecimal(x / 256));
+        self.byte(hexadecimal(x / 16));
+        self.byte(hexadecimal(x));
     }
-    put_pattern(out, at, z)
+
+    pub fn pattern(&mut self, x: u32)
+        requires { HasRoom self.old (tab ∷ pattern_text x) }
+        ensures { Wrote self.old (tab ∷ pattern_text x) self.new }
+    {
+        self.byte(b'\t');
+        self.half(x / 65536);
+        self.half(x);
+    }
+
+    pub fn patterns(&mut self, x: u32, y: u32)
+        requires { HasRoom self.old (tab ∷ pattern_text x ++ (tab ∷ pattern_text y)) }
+        ensures { Wrote self.old (tab ∷ pattern_text x ++ (tab ∷ pattern_text y)) self.new }
+    {
+        self.pattern(x);
+        self.pattern(y);
+    }
+
+    pub fn third(&mut self, operation: u32, z: u32)
+        requires { HasRoom self.old (tab ∷ third_text operation z) }
+        ensures { Wrote self.old (tab ∷ third_text operation z) self.new }
+    {
+        if takes_two(operation) {
+            self.bytes(b"\t-");
+            return;
+        }
+        self.pattern(z);
+    }
 }

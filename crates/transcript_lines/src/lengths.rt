@@ -1,4 +1,4 @@
-// How long the texts are.
+// How long the texts are, known before the first byte is written: where one has no room the buffer stays as it was (R8.14).
 ghost use Rattle.std.specs.Prelude.{◌≡◌, List, ℕ, ◌+◌, ◌*◌, ◌≤◌, length, get_or};
 ghost use Rattle.worksheet_spec.specs.Lines.{most_lines};
 ghost use Rattle.transcript_spec.specs.Texts.{decimal, flags_text, step_text, steps_text};
@@ -43,11 +43,10 @@ fn steps(words: &[u32; SHEET_SIZE], lines: usize) -> usize
     requires { lines ≤ most_lines }
     ensures { (result ≡ length (steps_text lines 1 words.now)) × (result ≤ 58 * most_lines) }
 {
-    let mut n: usize = 0;
-    let mut k: usize = 0;
-    while k < lines {
-        n += step((k as u32) + 1, words[LINE_SIZE * k]);
-        k += 1;
+    let (sheet, _) = words.as_chunks::<LINE_SIZE>();
+    let mut n = 0;
+    for (k, line) in sheet[..lines].iter().enumerate() {
+        n += step(k as u32 + 1, line[0]);
     }
     n
 }

@@ -2,24 +2,15 @@
 use Prim.Native.Nat.{ℕ, zero, suc, ◌+◌, ◌*◌, ◌-◌, ◌≤◌, ◌<◌}
 use mathlib.Core.Path.{◌≡◌, sym, ◌∙◌, ap}
 use mathlib.Core.Logic.{⊎_elim}
-use mathlib.Core.List.{List, [], ◌∷◌, ◌++◌, append-nil, append_assoc}
+use mathlib.Core.List.{List, ◌++◌, append-nil, append_assoc}
 use native.Mathlib.Omega.{arith}
 use lib.ListN.{length, get_or, drop, length-append}
-use lib.Seq.{drop-drop, get_or-drop}
+use lib.Seq.{drop-drop}
 use Rattle.worksheet_spec.specs.Lines.{line_size, most_lines}
 use Rattle.transcript_spec.specs.Texts.{step_text, steps_text}
 use Rattle.transcript_spec.proofs.DecimalLaws.{one-length, two-lengths, small-or-not}
 use Rattle.transcript_spec.proofs.FieldLaws.{third-most}
 use Rattle.transcript_spec.proofs.TextLengths.{step-length}
-
--- a step's text depends on the words of its own line
-pub same_step : (number : ℕ) (words : List ℕ) (i : ℕ)
-    → step_text number (get_or words i 0 ∷ get_or words (i + 1) 0 ∷ get_or words (i + 2) 0 ∷ get_or words (i + 3) 0 ∷ get_or words (i + 4) 0 ∷ get_or words (i + 5) 0 ∷ [])
-    ≡ step_text number (drop i words)
-unfolding step_text
-same_step number words i =
-    let e : i + 0 ≡ i = omega arith in
-    rw (get_or-drop i words 0 0, get_or-drop i words 1 0, get_or-drop i words 2 0, get_or-drop i words 3 0, get_or-drop i words 4 0, get_or-drop i words 5 0, e)
 
 one-more-from : (k number : ℕ) (words : List ℕ) → steps_text (suc k) number words ≡ steps_text k number words ++ step_text (number + k) (drop (line_size * k) words)
 unfolding steps_text

@@ -4,7 +4,10 @@ use Rattle.std.specs.Prelude.{[], ◌∷◌, ◌++◌, eqb, ltb, length, get_or,
 use Prim.Native.Char.{code}
 use Rattle.augmented_spec.specs.declared.Flags.{Flags}
 use Rattle.augmented_spec.specs.declared.Pair.{Pair}
-use Rattle.worksheet_spec.specs.Lines.{Step, add, subtract, multiply, fused, step_number, line_size, most_lines}
+use Rattle.worksheet_spec.specs.declared.Step.{Step}
+use Rattle.worksheet_spec.specs.declared.Step.TheVariants.{Add as add, Subtract as subtract, Multiply as multiply, Fused as fused}
+use Rattle.worksheet_spec.specs.Steps.{step_number}
+use Rattle.worksheet_spec.specs.Lines.{line_size, most_lines}
 use Rattle.question_spec.specs.Ascii.{ascii, tab, newline}
 use Rattle.question_spec.specs.Questions.{pattern_text, question_text}
 

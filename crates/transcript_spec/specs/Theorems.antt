@@ -1,10 +1,13 @@
 -- What holds of the texts. Each name is a statement; proofs/Theorems.antt has its proof.
 use Rattle.std.specs.Prelude.{ℕ, ◌+◌, ◌*◌, ◌-◌, ◌^◌, ◌≤◌, ◌<◌, ◌≡◌, ◌≢◌, Bool, true, false, List, [], ◌∷◌, ◌++◌, length, get_or, take, drop}
 use Prim.Native.Char.{code}
-use Rattle.augmented_spec.specs.Direct.{sum, difference, product, operation_number, none, I, OX, UX}
+use Rattle.augmented_spec.specs.declared.Operation.TheVariants.{Sum as sum, Difference as difference, Product as product}
+use Rattle.augmented_spec.specs.Operations.{operation_number}
+use Rattle.augmented_spec.specs.Direct.{none, I, OX, UX}
 use Rattle.augmented_spec.specs.declared.Flags.{Flags}
 use Rattle.augmented_spec.specs.declared.Pair.{Pair}
-use Rattle.worksheet_spec.specs.Lines.{add, subtract, multiply, fused, step_number}
+use Rattle.worksheet_spec.specs.declared.Step.TheVariants.{Add as add, Subtract as subtract, Multiply as multiply, Fused as fused}
+use Rattle.worksheet_spec.specs.Steps.{step_number}
 use Rattle.question_spec.specs.Ascii.{ascii}
 use Rattle.question_spec.specs.Questions.{pattern_text, question_text}
 use Rattle.transcript_spec.specs.Texts.{

@@ -1,2 +1,1 @@
 pub mod SheetWords
-pub mod Operations

@@ -3,95 +3,71 @@
 
 pub mod numbers;
 
-ghost use Rattle.std.specs.Prelude.{◌≡◌, ◌≤◌, length};
+ghost use Rattle.std.specs.Prelude.{◌≡◌, ◌≤◌, [], length};
 ghost use Rattle.rounding_spec.specs.Format.{binary32};
-ghost use Rattle.augmented_spec.specs.Direct.{direct_pair, operation_of};
-ghost use Rattle.worksheet_spec.specs.Lines.{most_lines, sheet_size};
+ghost use Rattle.augmented_spec.specs.Direct.{direct_pair};
+ghost use Rattle.augmented_spec.specs.Operations.{operation_number};
+ghost use Rattle.worksheet_spec.specs.Lines.{sheet_size};
 ghost use Rattle.worksheet_spec.specs.Sheets.{sheet_of};
-ghost use Rattle.worksheet_spec.specs.Filling.{Fills};
+ghost use Rattle.worksheet_spec.specs.Filling.{filled, Fills};
 ghost use Rattle.worksheet.specs.Answers.{answer_filled};
 ghost use Rattle.worksheet_lines.specs.Inner.{Follows};
 
-use augmented_spec::{DIFFERENCE, Flags, PRODUCT, Pair, SUM};
+use augmented_spec::{Flags, Operation, Pair};
 use pattern::flipped;
-use worksheet_lines::{Foot, Rows};
+use worksheet_lines::{Foot, Lines};
 use worksheet_rules::{products, sums};
-use worksheet_spec::{LINE_SIZE, MOST_LINES, SHEET_SIZE};
-
-#[derive(Clone, Copy)]
-pub enum Filled {
-    Sheet { lines: u32, pair: Pair },
-    Operation,
-    Words,
-}
+use worksheet_spec::{Filled, NotFilled, SHEET_SIZE};
 
 // The pair is the one that the lines reach. The flags are the direct pair's.
-pub fn fill(operation: u32, x: u32, y: u32, words: &mut [u32]) -> Filled
+pub fn fill(operation: u32, x: u32, y: u32, words: &mut [u32]) -> Result<Filled, NotFilled>
     ensures { Fills operation x y words.old (answer_filled result) words.new }
 {
-    if operation < SUM {
-        return Filled::Operation;
-    }
-    if operation > PRODUCT {
-        return Filled::Operation;
-    }
-    if words.len() < SHEET_SIZE {
-        return Filled::Words;
-    }
-    written(operation, x, y, words)
-}
-
-// The lines are made in rows of their own, and copied when they are all there.
-fn written(operation: u32, x: u32, y: u32, words: &mut [u32]) -> Filled
-    requires { (1 ≤ operation) × (operation ≤ 3) × (sheet_size ≤ length words.old) }
-    ensures { Fills operation x y words.old (answer_filled result) words.new }
-{
-    let mut lines = [[0u32; LINE_SIZE]; MOST_LINES];
-    let foot = sheet(&mut lines, operation, x, y);
-    worksheet_lines::copy_out(lines, words);
-    let pair = Pair {
-        first: foot.first,
-        second: foot.second,
-        flags: flags(operation, x, y),
+    let Ok(operation) = Operation::try_from(operation) else {
+        return Err(NotFilled::Operation);
     };
-    Filled::Sheet {
-        lines: counted(foot.next),
-        pair,
+    if words.len() < SHEET_SIZE {
+        return Err(NotFilled::Words);
+    }
+    Ok(written(operation, x, y, words))
+}
+
+// The lines are made by value, and copied when they are all there.
+fn written(operation: Operation, x: u32, y: u32, words: &mut [u32]) -> Filled
+    requires { sheet_size ≤ length words.old }
+    ensures { Fills (operation_number operation) x y words.old (filled result.lines result.pair) words.new }
+{
+    let mut lines = Lines::new();
+    let foot = sheet(&mut lines, operation, x, y);
+    lines.copy_out(words);
+    Filled {
+        lines: lines.count(),
+        pair: Pair {
+            first: foot.first,
+            second: foot.second,
+            flags: flags(operation, x, y),
+        },
     }
 }
 
-// So few lines fit a u32.
-fn counted(next: usize) -> u32
-    requires { next ≤ most_lines }
-    ensures { result ≡ next }
-{
-    next as u32
-}
-
-fn sheet(lines: &mut Rows, operation: u32, x: u32, y: u32) -> Foot
-    ensures { Follows lines.old lines.new 0 (sheet_of (operation_of operation) x y) result }
+#[tactic(auto, unfolding(worksheet_spec::specs::Sheets::sheet_of))]
+fn sheet(lines: &mut Lines, operation: Operation, x: u32, y: u32) -> Foot
+    ensures { Follows [] lines.new (sheet_of operation x y) result }
 {
     match operation {
-        SUM => sums::sum(lines, x, y),
-        DIFFERENCE => sums::sum(lines, x, flipped(y)),
-        // PRODUCT
-        _ => products::product(lines, x, y),
+        Operation::Sum => sums::sum(lines, x, y),
+        Operation::Difference => sums::sum(lines, x, flipped(y)),
+        Operation::Product => products::product(lines, x, y),
     }
 }
 
-fn flags(operation: u32, x: u32, y: u32) -> Flags
-    ensures { result ≡ (direct_pair (operation_of operation) binary32 x y).flags }
+#[tactic(auto, unfolding(augmented_spec::specs::Direct::direct_pair))]
+fn flags(operation: Operation, x: u32, y: u32) -> Flags
+    ensures { result ≡ (direct_pair operation binary32 x y).flags }
 {
     match operation {
-        SUM => {
-            let direct = augmented::sum(x, y);
-            direct.flags
-        }
-        DIFFERENCE => {
-            let direct = augmented::difference(x, y);
-            direct.flags
-        }
-        // PRODUCT
-        _ => augmented::product_flags(x, y),
+        Operation::Sum => augmented::sum(x, y).flags,
+        Operation::Difference => augmented::difference(x, y).flags,
+        Operation::Product => augmented::product_flags(x, y),
     }
 }

@@ -6,7 +6,7 @@ ghost use Rattle.worksheet_spec.specs.Lines.{value, equal};
 ghost use Rattle.worksheet_spec.specs.Sheets.{swaps, at_edge, overflows, tiny_tie, rest_tie, branch_of};
 ghost use Rattle.worksheet_choices.specs.Inner.{branch_case};
 
-use choose::choose_sign;
+use choose::choose;
 use pattern::{copy_sign, flipped, is_infinite, is_zero};
 
 // How a product goes on, by its first line.
@@ -35,7 +35,7 @@ pub fn equal(x: u32, y: u32) -> bool
 {
     let size = x % 0x8000_0000;
     let other = y % 0x8000_0000;
-    choose_sign(x == y, size <= 0x7f80_0000, size + other == 0)
+    choose(x == y, size <= 0x7f80_0000, size + other == 0)
 }
 
 // |y| > |x|. The bits of a NaN x are above those of every y that is no NaN, so that x needs no test of its own.
@@ -43,7 +43,7 @@ pub fn swaps(x: u32, y: u32) -> bool
     ensures { result ≡ swaps x y }
 {
     let other = y % 0x8000_0000;
-    choose_sign(other <= 0x7f80_0000, x % 0x8000_0000 < other, false)
+    choose(other <= 0x7f80_0000, x % 0x8000_0000 < other, false)
 }
 
 // a is 2^127 of either sign, and b is 2^102 with the other one. Such values have one pattern each, so that patterns are compared.
@@ -52,13 +52,13 @@ pub fn at_edge(a: u32, b: u32) -> bool
 {
     let half = a == copy_sign(TWO_TO_127, a);
     let rest = b == flipped(copy_sign(TWO_TO_102, a));
-    choose_sign(half, rest, false)
+    choose(half, rest, false)
 }
 
 pub fn overflows(second: u32, a: u32) -> bool
     ensures { result ≡ overflows second a }
 {
-    choose_sign(is_zero(second), false, is_infinite(a))
+    choose(is_zero(second), false, is_infinite(a))
 }
 
 // Where a tiny product is lowered (R5.16).
@@ -66,7 +66,7 @@ pub fn tiny_tie(a: u32, z: u32, w: u32, t2: u32) -> bool
     ensures { result ≡ tiny_tie a z w t2 }
 {
     let half = z == flipped(copy_sign(TWO_TO_MINUS_102, a));
-    choose_sign(half, equal(w, t2), false)
+    choose(half, equal(w, t2), false)
 }
 
 // beta is not zero, and r is 2^-126 with its sign.
@@ -74,7 +74,7 @@ pub fn rest_tie(beta: u32, r: u32) -> bool
     ensures { result ≡ rest_tie beta r }
 {
     let half = r == copy_sign(TWO_TO_MINUS_126, beta);
-    choose_sign(is_zero(beta), false, half)
+    choose(is_zero(beta), false, half)
 }
 
 // The bits below the sign are in the order of magnitudes: 2^-125 is 0x0100_0000.

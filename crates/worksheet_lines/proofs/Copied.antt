@@ -1,29 +1,13 @@
 -- Rows, copied one after the other.
-use mathlib.Core.Path.{◌≡◌, sym}
+use mathlib.Core.Path.{◌≡◌}
 use mathlib.Core.List.{List, [], ◌∷◌, ◌++◌, append_assoc, append-nil}
 use Prim.Native.Nat.{ℕ, ◌+◌, ◌*◌, ◌-◌, ◌<◌}
 use native.Mathlib.Omega.{arith}
 use native.Mathlib.Numerals.{add-one}
-use lib.ListN.{length, take, drop, get_or, set, drop_of_length-le, length-append}
-use lib.Seq.{drop-cons, take-suc, take_at, drop_at, drop-drop}
+use lib.ListN.{length, take, drop, get_or, length-append}
+use lib.Seq.{take-suc, take_at, drop_at, drop-drop}
 use Rattle.worksheet_spec.specs.Lines.{line_size}
 use Rattle.worksheet_lines.specs.Inner.{flat}
-
--- ---- one row
-word-by-word : (l : List ℕ) → length l ≡ line_size → l ≡ get_or l 0 0 ∷ get_or l 1 0 ∷ get_or l 2 0 ∷ get_or l 3 0 ∷ get_or l 4 0 ∷ get_or l 5 0 ∷ []
-word-by-word l e =
-    let a = drop-cons l 0 0 (omega arith) in
-    let b = drop-cons l 1 0 (omega arith) in
-    let d = drop-cons l 2 0 (omega arith) in
-    let f = drop-cons l 3 0 (omega arith) in
-    let g = drop-cons l 4 0 (omega arith) in
-    let h = drop-cons l 5 0 (omega arith) in
-    let n = drop_of_length-le l {i = line_size} (omega arith) in
-    cc (a, b, d, f, g, h, n)
-
-pub line-copied : (ws l : List ℕ) → length ws ≡ line_size → length l ≡ line_size
-    → set (set (set (set (set (set ws 0 (get_or l 0 0)) 1 (get_or l 1 0)) 2 (get_or l 2 0)) 3 (get_or l 3 0)) 4 (get_or l 4 0)) 5 (get_or l 5 0) ≡ l
-line-copied ws l p q = rw (word-by-word ws p) (sym (word-by-word l q))
 
 -- ---- the rows so far, and one more
 pub flat-snoc : (ls : List (List ℕ)) (l : List ℕ) → flat (ls ++ (l ∷ [])) ≡ flat ls ++ l

@@ -1,4 +1,4 @@
-pub mod Copied
 pub mod Row
 pub mod Rows
 pub mod SharedLines
+pub mod Copied

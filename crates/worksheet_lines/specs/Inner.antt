@@ -1,25 +1,26 @@
--- What the makers of lines promise each other: lines in the rows of a sheet that is made by value (R11.10).
-use Rattle.std.specs.Prelude.{ℕ, ◌+◌, ◌≡◌, List, [], ◌∷◌, ◌++◌, length, set}
-use Rattle.worksheet_spec.specs.Lines.{Line, Gives, Sheet}
+-- What the makers of lines promise each other: lines after those of a sheet so far, as rows of words (R11.10), and the foot that they
+-- reach.
+use Rattle.std.specs.Prelude.{ℕ, ◌+◌, ◌-◌, ◌≡◌, List, [], ◌∷◌, ◌++◌, length, map, replicate}
+use Rattle.worksheet_spec.specs.Lines.{line_size, most_lines, Line, Gives, Sheet}
 use Rattle.worksheet_spec.specs.Filling.{line_words}
 use Rattle.worksheet_lines.specs.declared.Foot.{Foot}
 
--- A line went into the nth row. Its result and its mark are the step's on its operands.
-pub record Written (before after : List (List ℕ)) (n : ℕ) (l : Line) : Type 0 where
+-- A line was added. Its result and its mark are the step's on its operands.
+pub record Written (before after : List (List ℕ)) (l : Line) : Type 0 where
   pub gives : Gives l.step l.x l.y l.z l.result l.mark
-  pub rows : after ≡ set before n (line_words l)
+  pub rows : after ≡ before ++ line_words l ∷ []
+  pub count : length after ≡ length before + 1
 
--- rows with lines in them from the nth on
-unfoldable pub rows_with : List (List ℕ) → ℕ → List Line → List (List ℕ)
-rows_with rows n [] = rows
-rows_with rows n (l ∷ ls) = rows_with (set rows n (line_words l)) (n + 1) ls
-
--- A sheet's lines went into the rows from the nth on; its foot came back, with the number of the next row.
-pub record Follows (before after : List (List ℕ)) (n : ℕ) (s : Sheet) (foot : Foot) : Type 0 where
+-- A sheet's lines were added; its foot came back.
+pub record Follows (before after : List (List ℕ)) (s : Sheet) (foot : Foot) : Type 0 where
   pub first : foot.first ≡ s.first
   pub second : foot.second ≡ s.second
-  pub next : foot.next ≡ n + length s.lines
-  pub rows : after ≡ rows_with before n s.lines
+  pub rows : after ≡ before ++ map line_words s.lines
+  pub count : length after ≡ length before + length s.lines
+
+-- all rows: those of lines, and unused ones
+unfoldable pub padded : List (List ℕ) → List (List ℕ)
+padded rows = rows ++ replicate (most_lines - length rows) (replicate line_size 0)
 
 -- the words of all rows
 unfoldable pub flat : List (List ℕ) → List ℕ

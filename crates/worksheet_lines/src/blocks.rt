@@ -1,90 +1,79 @@
 // What the lines of sums and products share.
-ghost use Rattle.std.specs.Prelude.{List, ℕ, ◌+◌, ◌<◌, ◌≤◌};
+ghost use Rattle.std.specs.Prelude.{List, ℕ, ◌+◌, ◌<◌, ◌≤◌, length};
 ghost use Rattle.worksheet_spec.specs.Lines.{most_lines, ends};
 ghost use Rattle.worksheet_spec.specs.Sheets.{recomposition, zero_finish, recomposed_finished, edge_finish};
 ghost use Rattle.worksheet_lines.specs.Inner.{Follows};
 
-use crate::{Foot, Rows};
+use crate::{Foot, Lines};
 use pattern::flipped;
 use worksheet_spec::{KAPPA, MINUS_TWO, PLUS_ZERO, PSI, TWO};
 
-// A foot to which the first line alone leads: its result, twice.
+// A foot to which no more lines lead: one result, twice.
 pub fn first_line(a: u32) -> Foot
-    ensures { (rows : List (List ℕ)) → Follows rows rows 1 (ends a a) result }
+    ensures { (rows : List (List ℕ)) → Follows rows rows (ends a a) result }
 {
     Foot {
         first: a,
         second: a,
-        next: 1,
     }
 }
 
-pub fn recomposition(lines: &mut Rows, n: usize, a: u32, b: u32) -> Foot
-    requires { n + 3 ≤ most_lines }
-    ensures { Follows lines.old lines.new n (recomposition a b) result }
+#[inline(always)]
+pub fn recomposition(lines: &mut Lines, a: u32, b: u32) -> Foot
+    requires { length lines.old + 3 ≤ most_lines }
+    ensures { Follows lines.old lines.new (recomposition a b) result }
 {
-    let z = crate::mul(lines, n, PSI, a);
-    let d = crate::sub(lines, n + 1, z, a);
-    let e = crate::mul(lines, n + 2, TWO, b);
+    let z = lines.mul(PSI, a);
+    let d = lines.sub(z, a);
+    let e = lines.mul(TWO, b);
     if worksheet_choices::equal(e, d) {
         return Foot {
             first: z,
             second: flipped(b),
-            next: n + 3,
         };
     }
     Foot {
         first: a,
         second: b,
-        next: n + 3,
     }
 }
 
 // A second that is zero gets the sign that first has (R5.6).
-pub fn zero_finish(lines: &mut Rows, n: usize, first: u32, second: u32) -> Foot
-    requires { n < most_lines }
-    ensures { Follows lines.old lines.new n (zero_finish first second) result }
+pub fn zero_finish(lines: &mut Lines, first: u32, second: u32) -> Foot
+    requires { length lines.old < most_lines }
+    ensures { Follows lines.old lines.new (zero_finish first second) result }
 {
     if pattern::is_zero(second) {
-        let nought = crate::mul(lines, n, PLUS_ZERO, first);
+        let nought = lines.mul(PLUS_ZERO, first);
         return Foot {
             first,
             second: nought,
-            next: n + 1,
         };
     }
-    Foot {
-        first,
-        second,
-        next: n,
-    }
+    Foot { first, second }
 }
 
-pub fn recomposed_finished(lines: &mut Rows, n: usize, a: u32, b: u32) -> Foot
-    requires { n + 3 < most_lines }
-    ensures { Follows lines.old lines.new n (recomposed_finished a b) result }
+#[inline(always)]
+pub fn recomposed_finished(lines: &mut Lines, a: u32, b: u32) -> Foot
+    requires { length lines.old + 3 < most_lines }
+    ensures { Follows lines.old lines.new (recomposed_finished a b) result }
 {
-    let pair = recomposition(lines, n, a, b);
-    zero_finish(lines, pair.next, pair.first, pair.second)
+    let pair = recomposition(lines, a, b);
+    zero_finish(lines, pair.first, pair.second)
 }
 
 // An infinite a stands for a pair at the edge, or for itself twice.
-pub fn edge_finish(lines: &mut Rows, n: usize, a: u32, half: u32, rest: u32) -> Foot
-    requires { n + 1 < most_lines }
-    ensures { Follows lines.old lines.new n (edge_finish a half rest) result }
+pub fn edge_finish(lines: &mut Lines, a: u32, half: u32, rest: u32) -> Foot
+    requires { length lines.old + 1 < most_lines }
+    ensures { Follows lines.old lines.new (edge_finish a half rest) result }
 {
     if worksheet_choices::at_edge(half, rest) {
-        let first = crate::mul(lines, n, KAPPA, half);
-        let second = crate::mul(lines, n + 1, MINUS_TWO, rest);
-        return Foot {
-            first,
-            second,
-            next: n + 2,
-        };
+        let first = lines.mul(KAPPA, half);
+        let second = lines.mul(MINUS_TWO, rest);
+        return Foot { first, second };
     }
     Foot {
         first: a,
         second: a,
-        next: n,
     }
 }

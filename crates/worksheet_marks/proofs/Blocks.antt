@@ -18,7 +18,8 @@ use Rattle.errorfree_spec.proofs.Recomposed as recomposed
 use Rattle.errorfree_spec.proofs.Signed.{Is, rel-dist}
 use Rattle.errorfree_spec.proofs.Split.{Split}
 use Rattle.worksheet_spec.specs.Constants.{psi, two, plus_zero}
-use Rattle.worksheet_spec.specs.Lines.{Line, line, multiply, Sheet, before, ends, value, is_zero_pattern}
+use Rattle.worksheet_spec.specs.declared.Step.TheVariants.{Multiply as multiply}
+use Rattle.worksheet_spec.specs.Lines.{Line, line, Sheet, before, ends, value, is_zero_pattern}
 use Rattle.worksheet_spec.specs.Sheets.{recomposition, zero_finish, recomposed_finished, lowering}
 use Rattle.worksheet_spec.proofs.Entries.{◌&◌}
 use Rattle.worksheet_spec.proofs.Constants.{psi-value, two-value}

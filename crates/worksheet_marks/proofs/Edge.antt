@@ -16,7 +16,8 @@ use Rattle.errorfree_spec.proofs.Edge.{half_limit, edge_rest, last, last-add, ka
 use Rattle.errorfree_spec.proofs.Factors as factors
 use Rattle.errorfree_spec.proofs.NoNumber.{both_of}
 use Rattle.worksheet_spec.specs.Constants.{kappa, minus_two}
-use Rattle.worksheet_spec.specs.Lines.{line, multiply, before, ends, value}
+use Rattle.worksheet_spec.specs.declared.Step.TheVariants.{Multiply as multiply}
+use Rattle.worksheet_spec.specs.Lines.{line, before, ends, value}
 use Rattle.worksheet_spec.specs.Sheets.{at_edge, edge_finish}
 use Rattle.worksheet_spec.proofs.Entries.{◌&◌}
 use Rattle.worksheet_spec.proofs.Blocks.{test-is, no_test}

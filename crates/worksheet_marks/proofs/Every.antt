@@ -13,7 +13,7 @@ use Rattle.pattern_spec.specs.Classes.{both_finite}
 use Rattle.binary32_spec.specs.Steps.{add_step, mul_step}
 use Rattle.binary32_spec.proofs.Theorems.{add-finite, mul-finite}
 use Rattle.errorfree_spec.proofs.NoNumber.{not-both, number-of, both_of}
-use Rattle.augmented_spec.specs.Direct.{sum, difference, product}
+use Rattle.augmented_spec.specs.declared.Operation.TheVariants.{Sum as sum, Difference as difference, Product as product}
 use Rattle.worksheet_spec.specs.Lines.{Line, value, minus, is_zero_pattern}
 use Rattle.worksheet_spec.specs.Sheets.{Branch, branch_of, sheet_of}
 use Rattle.worksheet_spec.proofs.Branches.{branch-zero, branch-tiny, branch-middle, branch-other}

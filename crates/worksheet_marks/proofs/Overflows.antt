@@ -25,7 +25,8 @@ use Rattle.errorfree_spec.proofs.Halved.{y-big}
 use Rattle.errorfree_spec.proofs.NoNumber.{not-both, some-false, sub-left}
 use Rattle.errorfree_spec.proofs.Steps.{to_even, even-at, over-of}
 use Rattle.worksheet_spec.specs.Constants.{psi, two, half}
-use Rattle.worksheet_spec.specs.Lines.{Line, line, add, value, is_zero_pattern}
+use Rattle.worksheet_spec.specs.declared.Step.TheVariants.{Add as add}
+use Rattle.worksheet_spec.specs.Lines.{Line, line, value, is_zero_pattern}
 use Rattle.worksheet_spec.specs.Sheets.{halved_sum, sum_in_order}
 use Rattle.worksheet_spec.proofs.Entries.{◌&◌}
 use Rattle.worksheet_spec.proofs.InfiniteLines.{opening, infinite-sum-lines}

@@ -12,7 +12,7 @@ use Rattle.rounding_spec.specs.Value.{Value, nan, infinite, finite, is_finite, i
 use Rattle.binary32_spec.specs.Steps.{add_step, mul_step}
 use Rattle.binary32_spec.specs.Marks.{mul_mark}
 use Rattle.pattern_spec.specs.Classes.{both_finite}
-use Rattle.augmented_spec.specs.Direct.{sum, difference, product}
+use Rattle.augmented_spec.specs.declared.Operation.TheVariants.{Sum as sum, Difference as difference, Product as product}
 use Rattle.worksheet_spec.specs.Constants.{psi, half}
 use Rattle.worksheet_spec.specs.Lines.{Line, value, minus, equal, is_zero_pattern, marks}
 use Rattle.worksheet_spec.specs.Sheets.{Branch, when_nan, when_infinite, when_zero, when_tiny, when_middle, otherwise, branch_of, sheet_of}

@@ -6,7 +6,8 @@ use mathlib.Core.List.{List, [], ◌∷◌, ◌++◌}
 use Prim.Native.Nat.{ℕ}
 use Rattle.binary32_spec.specs.Steps.{sub_step, mul_step}
 use Rattle.worksheet_spec.specs.Constants.{psi, two, minus_two, half, kappa, two_to_24, two_to_48, two_to_minus_24, plus_zero, factors, smallest}
-use Rattle.worksheet_spec.specs.Lines.{add, subtract, multiply, Line, line, fused_line, Sheet, before, ends, minus, equal, is_zero_pattern}
+use Rattle.worksheet_spec.specs.declared.Step.TheVariants.{Add as add, Subtract as subtract, Multiply as multiply}
+use Rattle.worksheet_spec.specs.Lines.{Line, line, fused_line, Sheet, before, ends, minus, equal, is_zero_pattern}
 use Rattle.worksheet_spec.specs.Sheets.{recomposition, zero_finish, recomposed_finished, at_edge, edge_finish}
 use Rattle.worksheet_spec.specs.Theorems.{Among, Member, Known, results}
 

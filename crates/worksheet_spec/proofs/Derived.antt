@@ -6,10 +6,12 @@ use lib.Dec.{leb}
 use Rattle.rounding_spec.specs.Format.{binary32, sign_bit}
 use Rattle.rounding_spec.specs.Value.{is_nan}
 use Rattle.binary32_spec.specs.Steps.{add_step, sub_step, mul_step, fma_step}
-use Rattle.augmented_spec.specs.Direct.{Operation, sum, difference, product}
+use Rattle.augmented_spec.specs.declared.Operation.{Operation}
+use Rattle.augmented_spec.specs.declared.Operation.TheVariants.{Sum as sum, Difference as difference, Product as product}
 use Rattle.worksheet_spec.specs.Constants.{half, two_to_24, two_to_48, two_to_minus_24, plus_zero, smallest}
 use Rattle.pattern_spec.specs.Classes.{copy_sign}
-use Rattle.worksheet_spec.specs.Lines.{multiply, line, Sheet, before, ends, value, minus}
+use Rattle.worksheet_spec.specs.declared.Step.TheVariants.{Multiply as multiply}
+use Rattle.worksheet_spec.specs.Lines.{line, Sheet, before, ends, value, minus}
 use Rattle.worksheet_spec.specs.Sheets.{Branch, when_nan, when_infinite, when_zero, when_tiny, when_middle, otherwise, recomposition, zero_finish, recomposed_finished, halved_sum, overflows, sum_from}
 use Rattle.worksheet_spec.specs.Sheets.{sum_in_order, swaps}
 use Rattle.worksheet_spec.specs.Sheets.{sum_sheet, infinite_product, lowered, lowering, tiny_product, rest_tie, scaled_down, middle_product, other_product, branch_of, product_by, product_sheet}

@@ -5,9 +5,10 @@ use mathlib.Core.List.{List, [], ◌∷◌, ◌++◌}
 use Prim.Native.Nat.{ℕ}
 use Rattle.rounding_spec.specs.Value.{is_nan}
 use Rattle.binary32_spec.specs.Steps.{add_step, sub_step, mul_step, fma_step}
-use Rattle.augmented_spec.specs.Direct.{sum, difference, product}
+use Rattle.augmented_spec.specs.declared.Operation.TheVariants.{Sum as sum, Difference as difference, Product as product}
 use Rattle.pattern_spec.specs.Classes.{copy_sign}
-use Rattle.worksheet_spec.specs.Lines.{add, subtract, multiply, Line, line, fused_line, Sheet, before, ends, value, minus, is_zero_pattern}
+use Rattle.worksheet_spec.specs.declared.Step.TheVariants.{Add as add, Subtract as subtract, Multiply as multiply}
+use Rattle.worksheet_spec.specs.Lines.{Line, line, fused_line, Sheet, before, ends, value, minus, is_zero_pattern}
 use Rattle.worksheet_spec.specs.Constants.{psi, two, minus_two, half, kappa, two_to_24, two_to_48, two_to_minus_24, plus_zero, smallest}
 use Rattle.worksheet_spec.specs.Sheets.{Branch, when_nan, when_infinite, when_zero, when_tiny, when_middle, otherwise, recomposition, zero_finish, recomposed_finished, at_edge, edge_finish}
 use Rattle.worksheet_spec.specs.Sheets.{halved_sum}

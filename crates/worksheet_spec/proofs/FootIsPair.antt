@@ -8,7 +8,9 @@ use Rattle.rounding_spec.specs.Value.{Value, nan, infinite, finite, is_nan, nan_
 use Rattle.binary32_spec.specs.Steps.{result}
 use Rattle.binary32_spec.proofs.Result.{result-number}
 use Rattle.augmented_spec.specs.Pairs.{pair_of, second_of}
-use Rattle.augmented_spec.specs.Direct.{Operation, sum, difference, product, direct_pair}
+use Rattle.augmented_spec.specs.declared.Operation.{Operation}
+use Rattle.augmented_spec.specs.declared.Operation.TheVariants.{Sum as sum, Difference as difference, Product as product}
+use Rattle.augmented_spec.specs.Direct.{direct_pair}
 use Rattle.augmented_spec.specs.Theorems.{second_operand}
 use Rattle.augmented_spec.proofs.Answered.{first-number, second-number}
 use Rattle.augmented_spec.proofs.Read.{exact_for, first-pattern, second-pattern}

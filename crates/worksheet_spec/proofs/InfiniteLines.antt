@@ -8,7 +8,8 @@ use Rattle.rounding_spec.specs.Value.{Value, infinite, is_nan, is_finite}
 use Rattle.binary32_spec.specs.Steps.{add_step, sub_step, mul_step}
 use Rattle.errorfree_spec.proofs.NoNumber.{none-zero}
 use Rattle.worksheet_spec.specs.Constants.{psi, two}
-use Rattle.worksheet_spec.specs.Lines.{add, subtract, multiply, Line, line, Sheet, before, ends, value, is_zero_pattern}
+use Rattle.worksheet_spec.specs.declared.Step.TheVariants.{Add as add, Subtract as subtract, Multiply as multiply}
+use Rattle.worksheet_spec.specs.Lines.{Line, line, Sheet, before, ends, value, is_zero_pattern}
 use Rattle.worksheet_spec.specs.Sheets.{recomposition, zero_finish, recomposed_finished, halved_sum, sum_from, sum_in_order, swaps, sum_sheet, infinite_product, branch_of, product_by, product_sheet}
 use Rattle.worksheet_spec.specs.Sheets.{sheet_of}
 use Rattle.worksheet_spec.specs.Theorems.{infinite_sum_lines, infinite_product_lines, InfiniteLines}

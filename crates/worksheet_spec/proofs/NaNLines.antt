@@ -14,7 +14,8 @@ use Rattle.binary32_spec.specs.Steps.{mul_value, mul_step, fma_step}
 use Rattle.binary32_spec.proofs.Theorems.{mul-decodes, step-invalid, step-nan}
 use Rattle.pattern_spec.specs.Comparisons.{same}
 use Rattle.worksheet_spec.specs.Constants.{half}
-use Rattle.worksheet_spec.specs.Lines.{multiply, line, fused_line, Sheet, before, ends, value, minus}
+use Rattle.worksheet_spec.specs.declared.Step.TheVariants.{Multiply as multiply}
+use Rattle.worksheet_spec.specs.Lines.{line, fused_line, Sheet, before, ends, value, minus}
 use Rattle.worksheet_spec.specs.Sheets.{at_edge, edge_finish, infinite_product, branch_of, product_by, product_sheet, sheet_of}
 use Rattle.worksheet_spec.specs.Theorems.{EndsAtNaN, SmallestTimesInfinity}
 use Rattle.worksheet_spec.proofs.Sums.{sum-ends}

@@ -19,7 +19,8 @@ use Rattle.binary32_spec.proofs.Theorems.{mul-decodes}
 use Rattle.binary32_spec.proofs.Result.{result-number, result-nan, mul-step}
 use Rattle.errorfree_spec.proofs.Steps.{to_even}
 use Rattle.worksheet_spec.specs.Constants.{half}
-use Rattle.worksheet_spec.specs.Lines.{multiply, line, Sheet, before, ends, value, minus}
+use Rattle.worksheet_spec.specs.declared.Step.TheVariants.{Multiply as multiply}
+use Rattle.worksheet_spec.specs.Lines.{line, Sheet, before, ends, value, minus}
 use Rattle.worksheet_spec.specs.Sheets.{Branch, infinite_product, branch_of, product_by, product_sheet}
 use Rattle.worksheet_spec.proofs.Patterns.{number_at}
 use Rattle.worksheet_spec.proofs.Foots.{Foots, foots-infinite}

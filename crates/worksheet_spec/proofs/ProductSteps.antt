@@ -19,7 +19,9 @@ use Rattle.errorfree_spec.proofs.Steps.{is-one-less}
 use Rattle.pattern_spec.proofs.Theorems.{same-means}
 use Rattle.worksheet_spec.specs.Constants.{half, plus_zero, smallest}
 use Rattle.pattern_spec.specs.Classes.{copy_sign}
-use Rattle.worksheet_spec.specs.Lines.{Step, subtract, multiply, fused, Line, line, Sheet, before, value, minus, equal, is_zero_pattern}
+use Rattle.worksheet_spec.specs.declared.Step.{Step}
+use Rattle.worksheet_spec.specs.declared.Step.TheVariants.{Subtract as subtract, Multiply as multiply, Fused as fused}
+use Rattle.worksheet_spec.specs.Lines.{Line, line, Sheet, before, value, minus, equal, is_zero_pattern}
 use Rattle.worksheet_spec.specs.Sheets.{Branch, when_nan, when_infinite, when_zero, when_tiny, when_middle, otherwise, recomposition, zero_finish, infinite_product, lowered, lowering, tiny_product}
 use Rattle.worksheet_spec.specs.Sheets.{scaled_down}
 use Rattle.worksheet_spec.specs.Sheets.{middle_product, other_product, branch_of, product_by, product_sheet}

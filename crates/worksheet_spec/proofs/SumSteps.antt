@@ -20,7 +20,9 @@ use Rattle.errorfree_spec.proofs.Recomposed.{psi-finite}
 use Rattle.errorfree_spec.proofs.Edge.{half_limit, kappa-is}
 use Rattle.worksheet_spec.specs.Constants.{psi, two, half, kappa, plus_zero, two_to_127, two_to_102}
 use Rattle.pattern_spec.specs.Classes.{copy_sign}
-use Rattle.worksheet_spec.specs.Lines.{Step, add, subtract, Line, Sheet, ends, value, minus, equal, is_zero_pattern}
+use Rattle.worksheet_spec.specs.declared.Step.{Step}
+use Rattle.worksheet_spec.specs.declared.Step.TheVariants.{Add as add, Subtract as subtract}
+use Rattle.worksheet_spec.specs.Lines.{Line, Sheet, ends, value, minus, equal, is_zero_pattern}
 use Rattle.worksheet_spec.specs.Sheets.{recomposition, zero_finish, recomposed_finished, at_edge, edge_finish, halved_sum, overflows, sum_from, sum_in_order, swaps, sum_sheet}
 use Rattle.worksheet_spec.specs.Theorems.{steps_of, recomposition_steps, finish_step, edge_steps, opening_steps, halved_steps, sum_steps}
 use Rattle.worksheet_spec.proofs.Patterns.{minus-value, negate-finite}

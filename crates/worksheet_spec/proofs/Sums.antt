@@ -27,7 +27,8 @@ use Rattle.errorfree_spec.proofs.Steps.{to_even, even-at}
 use Rattle.errorfree_spec.proofs.FastTwoSum.{add-finite, fast-two-sum}
 use Rattle.errorfree_spec.proofs.Halved.{sum-edge}
 use Rattle.worksheet_spec.specs.Constants.{half}
-use Rattle.worksheet_spec.specs.Lines.{add, line, Sheet, before, ends, value, is_zero_pattern}
+use Rattle.worksheet_spec.specs.declared.Step.TheVariants.{Add as add}
+use Rattle.worksheet_spec.specs.Lines.{line, Sheet, before, ends, value, is_zero_pattern}
 use Rattle.worksheet_spec.specs.Sheets.{recomposed_finished, halved_sum, overflows, sum_from, sum_in_order, swaps, sum_sheet}
 use Rattle.worksheet_spec.proofs.Patterns.{add-width, sub-width, number_at}
 use Rattle.worksheet_spec.proofs.Constants.{half-value}

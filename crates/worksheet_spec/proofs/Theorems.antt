@@ -12,10 +12,12 @@ use lib.ListN.{length, take}
 use Rattle.rounding_spec.specs.Value.{Value, nan, infinite, finite, is_nan, is_finite, decode}
 use Rattle.binary32_spec.specs.Steps.{add_step, mul_step}
 use Rattle.pattern_spec.specs.Answer.{refused}
-use Rattle.augmented_spec.specs.Direct.{sum, difference, product}
+use Rattle.augmented_spec.specs.declared.Operation.TheVariants.{Sum as sum, Difference as difference, Product as product}
 use Rattle.worksheet_spec.specs.declared.FilledNumbers.{FilledNumbers}
 use Rattle.worksheet_spec.specs.Constants.{psi, two, half, kappa, two_to_24, two_to_48, two_to_minus_24, plus_zero, smallest, two_to_127, two_to_102, two_to_minus_102, two_to_minus_126}
-use Rattle.worksheet_spec.specs.Lines.{most_lines, Step, add, subtract, multiply, fused, Line, line, value, minus, equal, is_zero_pattern}
+use Rattle.worksheet_spec.specs.declared.Step.{Step}
+use Rattle.worksheet_spec.specs.declared.Step.TheVariants.{Add as add, Subtract as subtract, Multiply as multiply, Fused as fused}
+use Rattle.worksheet_spec.specs.Lines.{most_lines, Line, line, value, minus, equal, is_zero_pattern}
 use Rattle.worksheet_spec.specs.Sheets.{sum_in_order, swaps, sum_sheet, product_sheet, sheet_of}
 use Rattle.worksheet_spec.specs.Filling.{filling, filled_numbers}
 use Rattle.worksheet_spec.specs.Theorems.{positive_pattern, ConstantPatterns, StepNumbers, EachLine, Derived, FirstLine, steps_of, recomposition_steps, finish_step, edge_steps, opening_steps}

@@ -3,9 +3,12 @@ use Rattle.std.specs.Prelude.{ℕ, ◌*◌, ◌-◌, ◌≡◌, not, cond, List,
 use Rattle.rounding_spec.specs.Format.{binary32}
 use Rattle.pattern_spec.specs.Answer.{Answer, refused, done, is_done}
 use Rattle.augmented_spec.specs.declared.Pair.{Pair}
-use Rattle.augmented_spec.specs.Direct.{Operation, direct_pair, is_operation, operation_of, none}
+use Rattle.augmented_spec.specs.declared.Operation.{Operation}
+use Rattle.augmented_spec.specs.Operations.{is_operation, operation_of}
+use Rattle.augmented_spec.specs.Direct.{direct_pair, none}
 use Rattle.worksheet_spec.specs.declared.FilledNumbers.{FilledNumbers}
-use Rattle.worksheet_spec.specs.Lines.{line_size, sheet_size, step_number, Line}
+use Rattle.worksheet_spec.specs.Steps.{step_number}
+use Rattle.worksheet_spec.specs.Lines.{line_size, sheet_size, Line}
 use Rattle.worksheet_spec.specs.Sheets.{sheet_of}
 
 -- ---- words: of a line (R5.22), of lines one after the other, and of a sheet, whose unused words are 0 (R8.6)

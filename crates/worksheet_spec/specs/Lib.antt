@@ -1,4 +1,6 @@
 pub mod Constants
+pub mod Steps
+pub mod Refusals
 pub mod Lines
 pub mod Sheets
 pub mod Filling

@@ -6,6 +6,8 @@ use Rattle.pattern_spec.specs.Classes.{flip}
 use Rattle.binary32_spec.specs.Steps.{add_step, sub_step, mul_step, fma_step}
 use Rattle.binary32_spec.specs.Marks.{add_mark, sub_mark, mul_mark, fma_mark}
 use Rattle.pattern_spec.specs.Comparisons.{same}
+use Rattle.worksheet_spec.specs.declared.Step.{Step}
+use Rattle.worksheet_spec.specs.declared.Step.TheVariants.{Add as add, Subtract as subtract, Multiply as multiply, Fused as fused}
 
 -- ---- sizes: words of a line (R5.22), most lines (R5.21), and words of a sheet (R8.5)
 abbrev pub line_size : ℕ
@@ -18,19 +20,6 @@ abbrev pub sheet_size : ℕ
 sheet_size = most_lines * line_size
 
 -- ---- a line
-pub data Step : Type 0 where
-  add : Step
-  subtract : Step
-  multiply : Step
-  fused : Step
-
--- step numbers (R5.22)
-abbrev pub step_number : Step → ℕ
-step_number add = 1
-step_number subtract = 2
-step_number multiply = 3
-step_number fused = 4
-
 -- the mark of a step (R2.8)
 abbrev pub mark_of : Step → ℕ → ℕ → ℕ → ℕ
 mark_of add x y z = add_mark x y

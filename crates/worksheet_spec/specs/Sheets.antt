@@ -4,11 +4,13 @@
 use Rattle.std.specs.Prelude.{ℕ, ◌^◌, Bool, not, cond, ◌&&◌, [], ◌∷◌, ltb, leb, eqb}
 use Rattle.rounding_spec.specs.Value.{Value, nan, infinite, finite, is_nan, is_infinite}
 use Rattle.binary32_spec.specs.Steps.{add_step, sub_step, mul_step, fma_step}
-use Rattle.augmented_spec.specs.Direct.{Operation, sum, difference, product}
+use Rattle.augmented_spec.specs.declared.Operation.{Operation}
+use Rattle.augmented_spec.specs.declared.Operation.TheVariants.{Sum as sum, Difference as difference, Product as product}
 use Rattle.pattern_spec.specs.Comparisons.{less_magnitude}
 use Rattle.worksheet_spec.specs.Constants.{psi, two, minus_two, half, kappa, two_to_24, two_to_48, two_to_minus_24, plus_zero, smallest}
 use Rattle.worksheet_spec.specs.Constants.{two_to_127, two_to_102, two_to_minus_102, two_to_minus_126}
-use Rattle.worksheet_spec.specs.Lines.{add, subtract, multiply, Line, line, fused_line, Sheet, before, ends}
+use Rattle.worksheet_spec.specs.declared.Step.TheVariants.{Add as add, Subtract as subtract, Multiply as multiply}
+use Rattle.worksheet_spec.specs.Lines.{Line, line, fused_line, Sheet, before, ends}
 use Rattle.pattern_spec.specs.Classes.{copy_sign}
 use Rattle.worksheet_spec.specs.Lines.{value, minus, equal, is_zero_pattern}
 

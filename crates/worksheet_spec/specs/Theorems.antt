@@ -6,12 +6,18 @@ use Rattle.rounding_spec.specs.Format.{binary32}
 use Rattle.rounding_spec.specs.Value.{Value, nan, infinite, finite, is_finite, encode}
 use Rattle.binary32_spec.specs.Steps.{add_step, sub_step, mul_step, fma_step}
 use Rattle.binary32_spec.specs.Marks.{add_mark, sub_mark, mul_mark, fma_mark}
-use Rattle.augmented_spec.specs.Direct.{Operation, sum, difference, product, direct_pair, operation_number}
+use Rattle.augmented_spec.specs.declared.Operation.{Operation}
+use Rattle.augmented_spec.specs.declared.Operation.TheVariants.{Sum as sum, Difference as difference, Product as product}
+use Rattle.augmented_spec.specs.Operations.{operation_number}
+use Rattle.augmented_spec.specs.Direct.{direct_pair}
 use Rattle.pattern_spec.specs.Comparisons.{less_magnitude}
 use Rattle.worksheet_spec.specs.declared.FilledNumbers.{FilledNumbers}
 use Rattle.worksheet_spec.specs.Constants.{psi, two, minus_two, half, kappa, two_to_24, two_to_48, two_to_minus_24, plus_zero, smallest}
 use Rattle.worksheet_spec.specs.Constants.{factors, two_to_127, two_to_102, two_to_minus_102, two_to_minus_126}
-use Rattle.worksheet_spec.specs.Lines.{line_size, most_lines, sheet_size, Step, add, subtract, multiply, fused, step_number}
+use Rattle.worksheet_spec.specs.declared.Step.{Step}
+use Rattle.worksheet_spec.specs.declared.Step.TheVariants.{Add as add, Subtract as subtract, Multiply as multiply, Fused as fused}
+use Rattle.worksheet_spec.specs.Steps.{step_number}
+use Rattle.worksheet_spec.specs.Lines.{line_size, most_lines, sheet_size}
 use Rattle.worksheet_spec.specs.Lines.{Line, line, fused_line, Gives, before, ends, value, minus, equal, is_zero_pattern}
 use Rattle.worksheet_spec.specs.Sheets.{sheet_of}
 use Rattle.worksheet_spec.specs.Filling.{FilledSheet, filled, filling, after_filling, HasDirectPair, Fills, FillsNumbered}

@@ -2,7 +2,11 @@
 // numbers. No function is here: the code that fills a sheet stands above.
 #![tactic(auto)]
 
-use augmented_spec::Flags;
+ghost use Rattle.std.specs.Prelude.{◌≡◌};
+ghost use Rattle.worksheet_spec.specs.Steps.{Numbers, step_number};
+ghost use Rattle.worksheet_spec.specs.Refusals.{refusal_number};
+
+use augmented_spec::{Flags, Pair};
 
 // Words of a line, most lines, and words of a sheet (R5.21, R5.22).
 pub const LINE_SIZE: usize = 6;
@@ -11,14 +15,48 @@ pub const MOST_LINES: usize = 13;
 
 pub const SHEET_SIZE: usize = MOST_LINES * LINE_SIZE;
 
+// The step of a line.
+#[derive(Clone, Copy, PartialEq, Eq)]
+pub enum Step {
+    Add,
+    Subtract,
+    Multiply,
+    Fused,
+}
+
+// A number that is no step's.
+#[derive(Clone, Copy, PartialEq, Eq)]
+pub struct NoStep;
+
 // Step numbers (R5.22).
-pub const ADD: u32 = 1;
+impl TryFrom<u32> for Step {
+    type Error = NoStep;
 
-pub const SUBTRACT: u32 = 2;
+    ghost try_from_gives = { Numbers };
 
-pub const MULTIPLY: u32 = 3;
+    fn try_from(number: u32) -> Result<Step, NoStep> {
+        match number {
+            1 => Ok(Step::Add),
+            2 => Ok(Step::Subtract),
+            3 => Ok(Step::Multiply),
+            4 => Ok(Step::Fused),
+            _ => Err(NoStep),
+        }
+    }
+}
 
-pub const FUSED: u32 = 4;
+impl From<Step> for u32 {
+    ghost from_gives = { λ step number. number ≡ step_number step };
+
+    fn from(step: Step) -> u32 {
+        match step {
+            Step::Add => 1,
+            Step::Subtract => 2,
+            Step::Multiply => 3,
+            Step::Fused => 4,
+        }
+    }
+}
 
 // The constants of the step sheet (R5.1): first factors (R5.2), and u, which is taken away. PSI is 1 - 2^-24.
 pub const PSI: u32 = 0x3f7f_ffff;
@@ -42,6 +80,32 @@ pub const PLUS_ZERO: u32 = 0x0000_0000;
 
 // u, 2^-149
 pub const SMALLEST: u32 = 0x0000_0001;
+
+// What a filled sheet answers: its line count, and the pair at its foot with its flags.
+#[derive(Clone, Copy)]
+pub struct Filled {
+    pub lines: u32,
+    pub pair: Pair,
+}
+
+// Why no sheet is filled: the operation number is no operation's, or too few words are lent.
+#[derive(Clone, Copy, PartialEq, Eq)]
+pub enum NotFilled {
+    Operation,
+    Words,
+}
+
+// Refusals (R8.5).
+impl From<NotFilled> for u32 {
+    ghost from_gives = { λ refusal number. number ≡ refusal_number refusal };
+
+    fn from(refusal: NotFilled) -> u32 {
+        match refusal {
+            NotFilled::Operation => 10,
+            NotFilled::Words => 9,
+        }
+    }
+}
 
 // What filling answers, as numbers: the refusal's and zeros; or 0, the line count, and the pair at the foot with its flags.
 #[repr(C)]

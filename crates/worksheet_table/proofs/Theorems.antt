@@ -9,7 +9,7 @@ use Rattle.rounding_spec.specs.Format.{binary32}
 use Rattle.rounding_spec.specs.Value.{decode, is_nan}
 use Rattle.binary32_spec.specs.Steps.{add_step, mul_step}
 use Rattle.pattern_spec.specs.Classes.{flip}
-use Rattle.augmented_spec.specs.Direct.{sum, difference, product}
+use Rattle.augmented_spec.specs.declared.Operation.TheVariants.{Sum as sum, Difference as difference, Product as product}
 use Rattle.pattern_spec.specs.Comparisons.{less_magnitude}
 use Rattle.worksheet_spec.specs.Lines.{Sheet, minus}
 use Rattle.worksheet_spec.specs.Sheets.{sheet_of, sum_sheet, swaps, sum_in_order, product_sheet}

@@ -7,7 +7,8 @@ use Rattle.rounding_spec.specs.Value.{Value, nan, infinite, finite, decode}
 use Rattle.pattern_spec.specs.Classes.{flip, copy_sign}
 use Rattle.binary32_spec.specs.Steps.{add_step, sub_step, mul_step, fma_step}
 use Rattle.pattern_spec.specs.Comparisons.{same, less_magnitude}
-use Rattle.worksheet_spec.specs.Lines.{Line, add, subtract, multiply, line as line_of_two, fused_line, Sheet, ends}
+use Rattle.worksheet_spec.specs.declared.Step.TheVariants.{Add as add, Subtract as subtract, Multiply as multiply}
+use Rattle.worksheet_spec.specs.Lines.{Line, line as line_of_two, fused_line, Sheet, ends}
 
 -- ---- what stands on a line
 -- the constants (R5.1), and the powers of two that results are compared with (R5.7, R5.15 to R5.18): `constant_pattern` has their patterns

@@ -4,8 +4,10 @@
 -- A way's sample is named by its row of Table. Operands and results of a sample differ where such a question was found, and have both
 -- signs, so that a line with another operand is, most often, another line.
 use Rattle.std.specs.Prelude.{ℕ, ◌≡◌, List, [], ◌∷◌}
-use Rattle.augmented_spec.specs.Direct.{Operation, sum, difference, product}
-use Rattle.worksheet_spec.specs.Lines.{Line, add, subtract, multiply, line, fused_line, marks, Sheet, minus}
+use Rattle.augmented_spec.specs.declared.Operation.{Operation}
+use Rattle.augmented_spec.specs.declared.Operation.TheVariants.{Sum as sum, Difference as difference, Product as product}
+use Rattle.worksheet_spec.specs.declared.Step.TheVariants.{Add as add, Subtract as subtract, Multiply as multiply}
+use Rattle.worksheet_spec.specs.Lines.{Line, line, fused_line, marks, Sheet, minus}
 use Rattle.worksheet_spec.specs.Sheets.{sheet_of}
 use Rattle.worksheet_table.specs.Table.{sheet_by_table}
 

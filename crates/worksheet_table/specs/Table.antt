@@ -6,7 +6,8 @@ use Rattle.std.specs.Prelude.{ℕ, cond, List, [], ◌∷◌, ◌++◌}
 use Rattle.rounding_spec.specs.Format.{binary32}
 use Rattle.rounding_spec.specs.Value.{decode}
 use Rattle.pattern_spec.specs.Classes.{flip}
-use Rattle.augmented_spec.specs.Direct.{Operation, sum, difference, product}
+use Rattle.augmented_spec.specs.declared.Operation.{Operation}
+use Rattle.augmented_spec.specs.declared.Operation.TheVariants.{Sum as sum, Difference as difference, Product as product}
 use Rattle.pattern_spec.specs.Comparisons.{less_magnitude}
 use Rattle.worksheet_spec.specs.Lines.{Sheet}
 use Rattle.worksheet_table.specs.Programs.{ψ, +2, -2, ½, κ, 2^24, 2^48, 2^-24, +0, u, 2^127, 2^102, 2^-102, 2^-125, 2^-126}

@@ -3,7 +3,8 @@ use Rattle.std.specs.Prelude.{ℕ, ◌≡◌, Bool, true, false, not, ◌&&◌, 
 use Rattle.rounding_spec.specs.Format.{binary32}
 use Rattle.rounding_spec.specs.Value.{decode, is_nan}
 use Rattle.binary32_spec.specs.Steps.{add_step, mul_step}
-use Rattle.augmented_spec.specs.Direct.{Operation, sum, product}
+use Rattle.augmented_spec.specs.declared.Operation.{Operation}
+use Rattle.augmented_spec.specs.declared.Operation.TheVariants.{Sum as sum, Product as product}
 use Rattle.pattern_spec.specs.Comparisons.{less_magnitude}
 use Rattle.worksheet_spec.specs.Sheets.{sheet_of}
 use Rattle.worksheet_table.specs.Programs.{Way, taken, how_many_taken, sheet_along, all_well_made}

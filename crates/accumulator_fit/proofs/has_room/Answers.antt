@@ -34,4 +34,4 @@ returns c e =
     let full = c.if-total-ne-TOTAL_SIZE.false in let top = c.wrapping_add_u64.ensures.value ∙ ap₂ (λ (x y : ℕ). (x + y * 4294967296 + 1) % 2 ^ 64) c.wide.ensures c.wide-2.ensures in
     let less = ltb-true _ _ e in
     let in-limits = sym (well-within t (omega (arith, full)) words (omega (arith, c.if-n-ge-MOST_TERMS.false)) (le_trans (le_of_eq (sym top)) c.if-wrapping_add_u64-gt1.false) less) in
-    (no-fault t full (fit-with-terms t in-limits c.if-total-ne1.false (omega (arith, less))) (omega (arith, c.if-n-ge-MOST_TERMS.false)), c.if-total-ne1.false)
+    (no-fault t full (fit-with-terms t in-limits c.if-total-ne1.false (omega (arith, less))), omega (arith, c.if-n-ge-MOST_TERMS.false), c.if-total-ne1.false)

@@ -1,5 +1,5 @@
 use mathlib.Core.Path.{refl, ap, ap₂, ◌∙◌}
-use Prim.Native.Nat.{ℕ, ◌+◌}
+use Prim.Native.Nat.{ℕ, ◌+◌, ◌≤◌, ◌<◌}
 use native.Mathlib.Nat.{add-zero}
 use native.Mathlib.Omega.{arith}
 use lib.Bits.{bit_or}
@@ -12,18 +12,15 @@ use Rattle.accumulator_join.proofs.add_words.Goals as goal
 pub loop-i-init : goal.loop-i-init
 loop-i-init c = (omega arith, refl, c.requires, omega arith, refl)
 
-pub loop-i-smaller : goal.loop-i-smaller
-loop-i-smaller c = simp length-set (omega arith)
-
 pub loop-i-preserved : goal.loop-i-preserved
 loop-i-preserved c =
-    let l = c.loop-i in let a = c.args in let inside = c.loop-i-test.true in let w = get_or l.first l.i 0 in
+    let l = c.loop-i in let a = c.args in let inside : l.i < length l.first = omega arith in let w = get_or l.first l.i 0 in
     let v = get_or a.second.now l.i 0 in
     let low = c.low_word-low in let sum = c.low_word-sum in let fits = (c.slice_known-in-loop-i-1.given l.i).fits in
     let also = (c.shared_slice_known-in-loop-i-1.given l.i).fits in
     let word = word-is w v l.carry low.result sum.result fits also l.invariant.3 low.ensures sum.ensures in
     let next =
-    ap₂ bit_or c.choose_pattern.ensures c.choose_pattern-in-loop-i.ensures
+    ap₂ bit_or c.choose.ensures c.choose-in-loop-i.ensures
     ∙ carry-is w v l.carry low.result sum.result fits also l.invariant.3 low.ensures sum.ensures in (
       simp length-set (omega arith),
       simp length-set l.invariant.1,
@@ -38,5 +35,5 @@ shape_of-first c = c.loop-i.invariant.1
 
 pub returns : goal.returns
 returns c =
-    let l = c.loop-i in let a = c.args in left-none l.first a.second.now l.i l.carry c.loop-i-test.false ∙ l.invariant.4
+    let l = c.loop-i in let a = c.args in let all : length l.first ≤ l.i = omega arith in left-none l.first a.second.now l.i l.carry all ∙ l.invariant.4
     ∙ ap (words_of_natural (length a.first.now)) (add-zero (natural a.first.now + natural a.second.now))

@@ -1,30 +1,39 @@
+use Rattle.std.proofs.lemmas.Result.{err_from_is_err_and}
 use mathlib.Core.Path.{refl, sym, ◌∙◌}
 use Rattle.accumulator_spec.proofs.Adding.{fit-bounds}
-use Rattle.accumulator_join.proofs.Numbers.{both-sound, one-wrong, both-fit}
+use Rattle.accumulator_fit.proofs.Lent.{sound}
+use Rattle.accumulator_join.proofs.Outcomes.{first-wrong, second-wrong, both-fit}
 use Rattle.accumulator_join.proofs.join.Goals as goal
 
-pub returns-then-wrong-ne0 : goal.returns-then-wrong-ne0
-returns-then-wrong-ne0 c =
-    let k = c.refusal_of_two-wrong in let a = c.args in
-    let r = one-wrong a.first.now a.second.now (λ e. c.if-wrong-ne0.true (k.ensures ∙ e)) in record {
-      joins_numbered = (k.ensures ∙ r.0, r.1);
+pub returns-in_err-refusal : goal.returns-in_err-refusal
+returns-in_err-refusal c =
+    let a = c.args in let p = err_from_is_err_and c.from_residual.result c.from_residual.ensures.1 in record {
+      joins = rw (p.1, p.2) (first-wrong a.first.now a.second.now _ (sym c.in_err-refusal.was ∙ c.refusal.ensures));
+      second_kept = refl;
+    }
+
+pub returns-in_err-refusal-2 : goal.returns-in_err-refusal-2
+returns-in_err-refusal-2 c =
+    let a = c.args in let p = err_from_is_err_and c.from_residual-in_err-refusal-2.result c.from_residual-in_err-refusal-2.ensures.1 in record {
+      joins = rw (p.1, p.2)
+          (second-wrong a.first.now a.second.now (sym c.in_ok-refusal.was ∙ c.refusal.ensures) _ (sym c.in_err-refusal-2.was ∙ c.refusal-2.ensures));
       second_kept = refl;
     }
 
 pub join_fit-requires : goal.join_fit-requires
 join_fit-requires c =
-    let a = c.args in
-    let b = both-sound a.first.now a.second.now (sym c.refusal_of_two-wrong.ensures ∙ c.if-wrong-ne0.false) in
-    let f = fit-bounds a.first.now b.0.1 in
-    let s = fit-bounds a.second.now b.1.1 in record {
-      lengths = (b.0.0, b.1.0, f.few, s.few);
+    let k = sound c.args.first.now (sym c.refusal.ensures ∙ c.in_ok-refusal.was) in
+    let l = sound c.args.second.now (sym c.refusal-2.ensures ∙ c.in_ok-refusal-2.was) in
+    let f = fit-bounds c.args.first.now k.1 in
+    let s = fit-bounds c.args.second.now l.1 in record {
+      lengths = (k.0, l.0, f.few, s.few);
       signs = (f.sign, s.sign);
     }
 
 pub returns : goal.returns
 returns c =
-    let a = c.args in
-    let b = both-sound a.first.now a.second.now (sym c.refusal_of_two-wrong.ensures ∙ c.if-wrong-ne0.false) in record {
-      joins_numbered = both-fit a.first.now a.second.now b.0 b.1 _ _ c.join_fit.ensures;
+    let k = sound c.args.first.now (sym c.refusal.ensures ∙ c.in_ok-refusal.was) in
+    let l = sound c.args.second.now (sym c.refusal-2.ensures ∙ c.in_ok-refusal-2.was) in record {
+      joins = both-fit c.args.first.now c.args.second.now k l _ _ c.join_fit.ensures;
       second_kept = refl;
     }

@@ -16,5 +16,5 @@ add-requires c =
 
 pub returns : goal.returns
 returns c =
-    let a = c.args in let k = c.add in let p = c.place.ensures in number-term a.number a.minus a.sig a.exp k.new.number (array-length number_size a.number _ c.well_formed.0)
+    let a = c.args in let k = c.add in let p = c.place.ensures in number-term a.number a.by.sign a.by.sig a.by.exp k.new.number (array-length number_size a.number _ c.well_formed.0)
     (k.ensures ∙ same-term p.0 p.1 p.2 (take number_size a.number))

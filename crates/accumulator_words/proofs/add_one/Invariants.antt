@@ -1,4 +1,4 @@
-use Rattle.std.proofs.Common.{◌≡◌, ◌-◌, ◌≤◌, cond, ◌++◌, length, take, drop}
+use Rattle.std.proofs.Common.{◌≡◌, ◌≤◌, cond, ◌++◌, length, take, drop}
 use Rattle.accumulator_spec.proofs.Carry.{walk}
 use Rattle.accumulator_words.proofs.add_one.Given as goal
 
@@ -6,6 +6,3 @@ abbrev pub invariant-loop-i : goal.invariant-loop-i
 invariant-loop-i l =
     (l.i ≤ length l.words) × (length l.words ≡ length l.initial.words) × (l.mask ≡ cond l.minus 0xffff_ffff 0)
     × (take l.i l.words ++ walk l.minus (drop l.i l.words) 1 ≡ walk l.minus l.initial.words 1)
-
-abbrev pub decreases-loop-i : goal.decreases-loop-i
-decreases-loop-i l = length l.words - l.i

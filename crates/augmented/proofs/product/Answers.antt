@@ -22,4 +22,4 @@ pub returns-in-NotANumber : goal.returns-in-NotANumber
 unfolding value_of
 returns-in-NotANumber c =
     let e = rw c.in-NotANumber.is at c.product-total.ensures in
-    product-nan c.args.x c.args.y e.is _ c.nan_of_two.ensures _ c.twice-in-NotANumber.ensures
+    product-nan c.args.x c.args.y e.is _ c.nan_of.ensures _ c.twice-in-NotANumber.ensures

@@ -1,14 +1,10 @@
-use mathlib.Core.Path.{sym, ◌∙◌}
-use Rattle.augmented_spec.proofs.Rests.{shown-infinite, shown-finite, twice-infinite, twice-is}
+use mathlib.Core.Path.{refl}
+use Rattle.augmented_spec.proofs.Answered.{same-pair}
+use Rattle.augmented_spec.proofs.Rests.{product_small, twice-is}
 use Rattle.augmented_product.proofs.twice_rounded.Goals as goal
-
-pub returns-then-is_infinite : goal.returns-then-is_infinite
-returns-then-is_infinite c =
-    let is = c.round_with_rest-first.ensures.pattern_value in twice-infinite c.args.sign _ _ is _ c.pair.ensures (shown-infinite c.args.sign _ _ is (sym c.is_infinite.ensures ∙ c.if-is_infinite.true))
 
 pub returns : goal.returns
 returns c =
-    let is = c.round_with_rest-first.ensures.pattern_value in let below = shown-finite c.args.sign _ _ is (sym c.is_infinite.ensures ∙ c.if-is_infinite.false) in
-    twice-is c.args.sign _ _ is c.args.exp _ _ c.round_with_rest-first.ensures.rest_value c.round_with_rest-first.ensures.up_value below
-    _ _ _ _ c.round_with_rest-second.ensures.pattern_value c.zero_takes.ensures
-    c.round_with_rest-second.ensures.rest_value c.pair-2.ensures
+    let n = c.args.number in let first = c.round_with_rest-first.ensures in let second = c.round_with_rest-second.ensures in
+    twice-is n.sign _ _ first.pattern_value n.exp _ _ first.rest_value first.up_value (product_small n.sign n.sig n.exp c.requires.0 c.requires.1)
+    _ _ _ _ second.pattern_value c.zero_takes.ensures second.rest_value (same-pair refl refl c.raised.ensures)

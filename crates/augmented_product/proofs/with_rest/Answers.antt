@@ -1,16 +1,15 @@
-use mathlib.Core.Path.{◌∙◌}
-use mathlib.Core.Bool.{false}
-use Prim.Native.Nat.{◌*◌, ◌^◌}
-use Rattle.augmented_spec.proofs.Rests.{rest-fits, with-rest-is, halved-pair}
+use mathlib.Core.Path.{ap, ◌∙◌}
+use mathlib.Core.Bool.{Bool, false}
+use Prim.Native.Nat.{ℕ, ◌*◌, ◌^◌}
+use Rattle.rounding_spec.specs.Format.{binary32}
+use Rattle.rounding_spec.specs.Value.{decode, is_infinite}
+use Rattle.augmented_spec.specs.Pairs.{flags_of}
+use Rattle.augmented_spec.proofs.Answered.{same-pair}
+use Rattle.augmented_spec.proofs.Rests.{plain-patterns, first-shows}
 use Rattle.augmented_product.proofs.with_rest.Goals as goal
-
-pub rest_pattern-second-requires : goal.rest_pattern-second-requires
-rest_pattern-second-requires c =
-    rest-fits c.args.sign c.args.sig c.args.exp c.requires _ c.round_with_rest-first.ensures.rest_value _ _ c.round_with_rest-first.ensures.pattern_value c.is_infinite-over.ensures _
-    c.choose_exponent-unit.ensures
 
 pub returns : goal.returns
 returns c =
-    let halves = with-rest-is c.args.sign c.args.sig c.args.exp c.requires _ c.round_with_rest-first.ensures.rest_value _ _ c.round_with_rest-first.ensures.pattern_value c.is_infinite-over.ensures _
-    c.choose_exponent-unit.ensures _ c.round_with_rest-first.ensures.up_value _ _ c.rest_pattern-second.ensures c.choose_pattern.ensures in
-    c.pair.ensures ∙ halved-pair c.args.sign (c.args.sig * 2 ^ c.args.exp) false halves
+    let n = c.args.number in let h = plain-patterns n.sign (n.sig * 2 ^ n.exp) c.near-halves.result c.near-halves.ensures in
+    let over = c.is_infinite-over.ensures ∙ ap (λ (q : ℕ). is_infinite (decode binary32 q)) h.0 ∙ first-shows n.sign (n.sig * 2 ^ n.exp) in
+    same-pair h.0 h.1 (c.raised.ensures ∙ ap (λ (o : Bool). flags_of false o false) over)

@@ -1,20 +1,28 @@
 use mathlib.Core.Path.{◌≡◌, refl, sym, ap, ap₂, ◌∙◌}
-use mathlib.Core.Bool.{Bool, true, false, cond}
+use mathlib.Core.Bool.{Bool, true, false, cond, true≢false}
 use mathlib.Core.List.{[], ◌∷◌}
-use Prim.Native.Nat.{ℕ, ◌+◌, ◌*◌, ◌%◌, ◌^◌}
+use Prim.Native.Nat.{ℕ, ◌%◌, ◌^◌, ◌<◌, ◌≤◌}
 use lib.Dec.{ltb}
+use borrow.Author.Tests.{lt-ltb, le-ltb, ltb-true}
+use native.Mathlib.Decide.{dec_le}
+use native.Mathlib.Omega.{arith}
+use native.Mathlib.Nat.{lt_of_le_of_lt, le_of_lt}
 use Rattle.rounding_spec.specs.Format.{binary32}
 use Rattle.rounding_spec.specs.Value.{Value, decode, is_nan, is_finite, nan_of}
 use Rattle.rounding_spec.proofs.NaN.{nan_swap}
+use Rattle.rounding_spec.specs.declared.Number.{Number}
+use Rattle.pattern_spec.specs.declared.Class.{Class}
+use Rattle.pattern_spec.specs.declared.Class.TheVariants.{Finite, Infinite, NotANumber}
 use Rattle.pattern_spec.specs.Exact.{finer}
 use Rattle.pattern_spec.specs.Classes.{class_of, value_of}
 use Rattle.pattern_spec.specs.Inner.{Descending, larger, smaller}
 use Rattle.pattern_spec.proofs.Classified.{chosen-descending}
+use Rattle.pattern_spec.proofs.Shown.{finite-is}
 use Rattle.pattern_spec.proofs.Exacts.{ordered-sum}
 use Rattle.binary32_spec.specs.Steps.{result}
 use Rattle.binary32_spec.proofs.Result.{result-same}
 use Rattle.augmented_spec.specs.Pairs.{pair_of, exact_sum}
-use Rattle.augmented_spec.specs.Inner.{in_one_word}
+use Rattle.augmented_spec.specs.Inner.{both, patterns_of}
 use Rattle.augmented_spec.proofs.Unrounded.{finite-class, special-class, first-special}
 use Rattle.augmented_sum.proofs.of_patterns.Goals as goal
 
@@ -34,41 +42,52 @@ module _ (x y p q : ℕ) (larger-is : p ≡ larger x y) (smaller-is : q ≡ smal
       by false n = refl
 
   -- the halves of the operands in order are those of the operands
-  same-halves : is_nan (decode binary32 p) ≡ false → in_one_word (p ∷ q ∷ []) (pair_of binary32 (exact_sum binary32 p q)) ≡ in_one_word (x ∷ y ∷ []) (pair_of binary32 (exact_sum binary32 x y))
+  same-halves : is_nan (decode binary32 p) ≡ false → patterns_of (p ∷ q ∷ []) (pair_of binary32 (exact_sum binary32 p q)) ≡ patterns_of (x ∷ y ∷ []) (pair_of binary32 (exact_sum binary32 x y))
   same-halves n =
-      ap (λ (v : Value). in_one_word (p ∷ q ∷ []) (pair_of binary32 v)) same_sum
-      ∙ ap₂ (λ (a b : ℕ). a + b * 2 ^ 32) (same (pair_of binary32 (exact_sum binary32 x y)).first) (same (pair_of binary32 (exact_sum binary32 x y)).second)
+      ap (λ (v : Value). patterns_of (p ∷ q ∷ []) (pair_of binary32 v)) same_sum
+      ∙ ap₂ both (same (pair_of binary32 (exact_sum binary32 x y)).first) (same (pair_of binary32 (exact_sum binary32 x y)).second)
     where
       same : (v : Value) → result binary32 (p ∷ q ∷ []) v ≡ result binary32 (x ∷ y ∷ []) v
       same = result-same binary32 (p ∷ q ∷ []) (x ∷ y ∷ []) (same-nan n)
 
+  smaller-finite : is_finite (decode binary32 p) ≡ true → is_finite (decode binary32 q) ≡ true
+  smaller-finite h = sym (finite-is q) ∙ lt-ltb (q % 2 ^ 31) 0x7f80_0000 (lt_of_le_of_lt descending (ltb-true (p % 2 ^ 31) 0x7f80_0000 (finite-is p ∙ h)))
+    where
+      descending : q % 2 ^ 31 ≤ p % 2 ^ 31
+      descending = rw (larger-is, smaller-is) (elim (dec_le (y % 2 ^ 31) (x % 2 ^ 31)) [
+        | yes h ↦ rw (le-ltb (x % 2 ^ 31) (y % 2 ^ 31) h) h
+        | no h ↦ let l : x % 2 ^ 31 < y % 2 ^ 31 = omega arith in rw (lt-ltb (x % 2 ^ 31) (y % 2 ^ 31) l) (le_of_lt l)
+      ])
+
+no-number : (q : ℕ) (k : Class) → k ≡ class_of q → ((n : Number) → k ≡ Finite n → ⊥) → is_finite (decode binary32 q) ≡ false
+unfolding value_of
+no-number q (Finite n) e h = absurd (h n refl)
+no-number q (Infinite s) e h = special-class q (Infinite s) e refl
+no-number q NotANumber e h = special-class q NotANumber e refl
+
+pub special-requires : goal.special-requires
+special-requires c =
+    special-sum c.args.x c.args.y _ _ c.larger-p.ensures c.smaller-q.ensures (no-number _ _ c.classify.ensures c.in_default.not-Finite)
+
+pub unreachable-requires : goal.unreachable-requires
+unreachable-requires c =
+    let o = finite-class _ _ _ c.classify.ensures c.in-Finite.is in
+    let f = smaller-finite c.args.x c.args.y _ _ c.larger-p.ensures c.smaller-q.ensures (ap is_finite o.1) in
+    true≢false (sym f ∙ no-number _ _ c.classify-2.ensures c.in_default-classify.not-Finite)
+
 pub finite_plus-requires : goal.finite_plus-requires
 finite_plus-requires c =
-    let is = c.classify-a.ensures in let o = finite-class _ _ _ _ _ is c.in-Finite.is in
+    let o = finite-class _ _ _ c.classify.ensures c.in-Finite.is in let r = finite-class _ _ _ c.classify-2.ensures c.in-Finite-classify.is in
     let order : Descending (class_of c.larger-p.result) (class_of c.smaller-q.result) =
     rw (c.larger-p.ensures, c.smaller-q.ensures) (chosen-descending c.args.x c.args.y) in record {
       operand = o.0;
       value_of_p = o.1;
-      below = rw (sym is ∙ c.in-Finite.is) at order;
+      operand_2 = r.0;
+      value_of_q = r.1;
+      below = rw (sym c.classify.ensures ∙ c.in-Finite.is, sym c.classify-2.ensures ∙ c.in-Finite-classify.is) at order;
     }
 
-pub special-requires : goal.special-requires
-unfolding value_of
-special-requires c =
-    special-sum c.args.x c.args.y _ _ c.larger-p.ensures c.smaller-q.ensures (special-class _ _ c.classify-a.ensures (rw c.in-Infinite.is refl))
-
-pub special-requires-in-NotANumber : goal.special-requires-in-NotANumber
-unfolding value_of
-special-requires-in-NotANumber c =
-    special-sum c.args.x c.args.y _ _ c.larger-p.ensures c.smaller-q.ensures (special-class _ _ c.classify-a.ensures (rw c.in-NotANumber.is refl))
-
-pub returns-in-Finite : goal.returns-in-Finite
-returns-in-Finite c =
-    let o = finite-class _ _ _ _ _ c.classify-a.ensures c.in-Finite.is in
+pub returns : goal.returns
+returns c =
+    let o = finite-class _ _ _ c.classify.ensures c.in-Finite.is in
     c.finite_plus.ensures ∙ same-halves c.args.x c.args.y _ _ c.larger-p.ensures c.smaller-q.ensures (ap is_nan o.1)
-
-pub returns-in-Infinite : goal.returns-in-Infinite
-returns-in-Infinite c = c.special.ensures
-
-pub returns-in-NotANumber : goal.returns-in-NotANumber
-returns-in-NotANumber c = c.special-in-NotANumber.ensures

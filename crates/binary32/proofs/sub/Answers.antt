@@ -6,7 +6,7 @@ use Rattle.binary32.proofs.sub.Goals as goal
 pub returns-then-is_nan : goal.returns-then-is_nan
 returns-then-is_nan c =
     let a = sub-nan _ _ (nan_is _ (sym c.is_nan.ensures ∙ c.if-is_nan.true)) in
-    rw (c.special.ensures, c.nan_of_two.ensures) (record { result_value = a.0; mark_value = a.1 })
+    rw (c.special.ensures, c.nan_of.ensures) (record { result_value = a.0; mark_value = a.1 })
 
 pub returns : goal.returns
 returns c =

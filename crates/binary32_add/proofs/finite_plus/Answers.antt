@@ -8,7 +8,7 @@ use Rattle.binary32_add.proofs.finite_plus.Goals as goal
 
 pub finite_sum-requires : goal.finite_sum-requires
 finite_sum-requires c = record {
-  d_le_e = rw c.in-Finite.is at c.requires.below;
+  order = rw c.in-Finite.is at c.requires.below;
   operand = c.requires.operand;
   operand_2 = rw c.in-Finite.is at c.requires.bounded;
 }

@@ -1,27 +1,19 @@
-use borrow.Author.Tests.{not-true, not-false}
-use mathlib.Core.Path.{sym, ◌∙◌}
-use Rattle.conservation_spec.specs.Replay.{Asking, Lent}
+use mathlib.Core.Path.{refl, sym}
+use Rattle.std.proofs.lemmas.Result.{err_from_is_err_and}
+use Rattle.pattern_spec.specs.Answer.{refused, done}
+use Rattle.conservation_spec.specs.Refusals.{refusal_number}
 use Rattle.conservation_spec.proofs.Outcome.{refusal-outcome, ready, done-outcome}
 use Rattle.conservation.proofs.replay.Goals as goal
 
-pub returns-then-is_refusal : goal.returns-then-is_refusal
-returns-then-is_refusal c =
-    let a = c.args in
-    let q : Asking = record { operations = a.operations.now; xs = a.xs.now; ys = a.ys.now; counts = a.counts.now } in
-    let l : Lent = record { words = a.words.now; totals = record { first = a.first.now; other = a.other.now } } in
-    refusal-outcome q l _ c.answer-answer.ensures (not-true _ (sym c.is_refusal.ensures ∙ c.if-is_refusal.true))
+pub returns-in_err-fit : goal.returns-in_err-fit
+returns-in_err-fit c =
+    let p = err_from_is_err_and c.from_residual.result c.from_residual.ensures.1 in
+    rw (p.1, p.2) (refusal-outcome _ _ (refused (refusal_number c.in_err-fit.field-0.0)) c.in_err-fit.ensures refl)
 
 pub ask_all-requires : goal.ask_all-requires
 ask_all-requires c =
-    let a = c.args in
-    let q : Asking = record { operations = a.operations.now; xs = a.xs.now; ys = a.ys.now; counts = a.counts.now } in
-    let l : Lent = record { words = a.words.now; totals = record { first = a.first.now; other = a.other.now } } in
-    let r = ready q l _ c.answer-answer.ensures (not-false _ (sym c.is_refusal.ensures ∙ c.if-is_refusal.false)) in record { lengths = r.0; within = r.1 }
+    let r = ready _ _ (done tt) c.in_ok-fit.ensures refl in record { equal = r.0; within = r.1 }
 
 pub returns : goal.returns
 returns c =
-    let a = c.args in
-    let k = c.ask_all.ensures in let q : Asking = record { operations = a.operations.now; xs = a.xs.now; ys = a.ys.now; counts = a.counts.now } in
-    let l : Lent = record { words = a.words.now; totals = record { first = a.first.now; other = a.other.now } } in
-    done-outcome q l _ c.answer-answer.ensures (not-false _ (sym c.is_refusal.ensures ∙ c.if-is_refusal.false))
-    (λ i. (c.type_inv.xs i).fits) (λ i. (c.type_inv.ys i).fits) _ (sym k)
+    done-outcome _ _ (done tt) c.in_ok-fit.ensures refl (λ i. (c.type_inv.xs i).fits) (λ i. (c.type_inv.ys i).fits) _ (sym c.ask_all.ensures)

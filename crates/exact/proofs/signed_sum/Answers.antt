@@ -20,6 +20,6 @@ overflow_sub-high c =
 pub returns : goal.returns
 returns c =
     let a = c.args in sum-chosen a.s a.a a.t a.b
-    ∙ sym (ap₂ finite (c.choose_sign-2.ensures ∙ ap (λ (x : Bool). cond (ltb a.b a.a) a.s x)
-    (c.choose_sign.ensures ∙ ap (λ (x : Bool). cond (ltb a.a a.b) a.t x) c.choose_sign-common.ensures))
-    (c.choose.ensures ∙ ap₂ (λ (h l : ℕ). cond (beq a.s a.t) (h + l) (h - l)) c.choose-high.ensures c.choose-low.ensures))
+    ∙ sym (ap₂ finite (c.choose-2.ensures ∙ ap (λ (x : Bool). cond (ltb a.b a.a) a.s x)
+    (c.choose.ensures ∙ ap (λ (x : Bool). cond (ltb a.a a.b) a.t x) c.choose-common.ensures))
+    (c.choose-3.ensures ∙ ap₂ (λ (h l : ℕ). cond (beq a.s a.t) (h + l) (h - l)) c.choose-high.ensures c.choose-low.ensures))

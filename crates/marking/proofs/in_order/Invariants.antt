@@ -1,16 +1,10 @@
 use mathlib.Core.Path.{◌≡◌}
 use mathlib.Core.List.{[]}
-use Prim.Native.Nat.{◌-◌, ◌%◌, ◌≤◌}
-use lib.ListN.{length}
-use Rattle.augmented_spec.specs.Direct.{operation_of}
+use Prim.Native.Nat.{◌*◌}
 use Rattle.worksheet_spec.specs.Lines.{line_size}
 use Rattle.marking_spec.specs.Marking.{claims, in_order}
 use Rattle.marking_spec.proofs.InOrder.{from}
 use Rattle.marking.proofs.in_order.Given as goal
 
-abbrev pub invariant-loop-at : goal.invariant-loop-at
-invariant-loop-at l =
-    (l.at ≤ length l.lines) × (l.at % line_size ≡ 0) × (from (operation_of l.operation) l.x l.y l.lines l.at ≡ in_order (operation_of l.operation) l.x l.y [] (claims l.lines))
-
-abbrev pub decreases-loop-at : goal.decreases-loop-at
-decreases-loop-at l = length l.lines - l.at
+abbrev pub invariant-loop-i : goal.invariant-loop-i
+invariant-loop-i l = from l.operation l.x l.y l.words (line_size * l.i) ≡ in_order l.operation l.x l.y [] (claims l.words)

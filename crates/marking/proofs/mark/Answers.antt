@@ -1,33 +1,16 @@
-use mathlib.Core.Path.{refl, sym, ◌∙◌}
-use mathlib.Core.Logic.{inl, inr}
-use native.Mathlib.Omega.{arith}
+use mathlib.Core.Path.{sym, ◌∙◌}
 use Rattle.marking_spec.proofs.Counts.{markable}
-use Rattle.marking_spec.proofs.Answered.{no-operation, unfit-words, looked-at}
+use Rattle.marking_spec.proofs.Answered.{none-asked, unfit-asked, fit-asked}
 use Rattle.marking.proofs.mark.Goals as goal
 
-pub returns-then-operation-lt-SUM : goal.returns-then-operation-lt-SUM
-returns-then-operation-lt-SUM c = record {
-  answer = sym (no-operation _ _ _ _ (inl (omega arith)));
-  lines_kept = refl;
-}
+pub returns-in_default-clause-answer : goal.returns-in_default-clause-answer
+returns-in_default-clause-answer c = sym (none-asked _ _ _ _ c.in_default.ensures)
 
-pub returns-then-operation-gt-PRODUCT : goal.returns-then-operation-gt-PRODUCT
-returns-then-operation-gt-PRODUCT c = record {
-  answer = sym (no-operation _ _ _ _ (inr (omega arith)));
-  lines_kept = refl;
-}
+pub returns-then-not-is_markable-clause-answer : goal.returns-then-not-is_markable-clause-answer
+returns-then-not-is_markable-clause-answer c = sym (unfit-asked _ _ _ _ c.in-Ok.operation c.in-Ok.ensures (sym c.if-not-is_markable.ensures))
 
 pub in_order-requires : goal.in_order-requires
-in_order-requires c = markable _ (sym c.is_markable.ensures ∙ c.if-is_markable.true)
+in_order-requires c = markable _ (sym c.if-not-is_markable.ensures)
 
-pub returns-then-is_markable : goal.returns-then-is_markable
-returns-then-is_markable c = record {
-  answer = c.in_order.ensures ∙ sym (looked-at _ _ _ _ (omega arith) (omega arith) (sym c.is_markable.ensures ∙ c.if-is_markable.true));
-  lines_kept = refl;
-}
-
-pub returns : goal.returns
-returns c = record {
-  answer = sym (unfit-words _ _ _ _ (omega arith) (omega arith) (sym c.is_markable.ensures ∙ c.if-is_markable.false));
-  lines_kept = refl;
-}
+pub returns-clause-answer : goal.returns-clause-answer
+returns-clause-answer c = c.in_order.ensures ∙ sym (fit-asked _ _ _ _ c.in-Ok.operation c.in-Ok.ensures (sym c.if-not-is_markable.ensures))

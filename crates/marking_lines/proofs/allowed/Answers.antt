@@ -1,27 +1,21 @@
 use native.Mathlib.Omega.{arith}
-use mathlib.Core.Path.{sym, ◌∙◌}
-use Rattle.marking_lines.proofs.LineTests.{below_steps, above-steps, first-unknown, second-unknown, third-looked-up, third-unused}
+use Rattle.marking_spec.specs.Marking.{claims, known}
+use Rattle.marking_lines.proofs.LineTests.{no-step, allowed-by, third-looked-up, third-unused}
 use Rattle.marking_lines.proofs.allowed.Goals as goal
 
-pub returns-then-line-lt-ADD : goal.returns-then-line-lt-ADD
-returns-then-line-lt-ADD c = below_steps _ _ c.if-line-lt-ADD.true
+pub returns-in_default : goal.returns-in_default
+returns-in_default c = no-step _ c.args.line c.in_default.ensures
 
-pub returns-then-line-gt-FUSED : goal.returns-then-line-gt-FUSED
-returns-then-line-gt-FUSED c = above-steps _ _ (omega arith) c.if-line-gt-FUSED.true
+pub returns-in-Fused : goal.returns-in-Fused
+returns-in-Fused c =
+    let q = c.args in let ks = known q.x q.y (claims q.earlier.now) in
+    grind (arith, allowed-by ks q.line c.in-Ok.step c.in-Ok.ensures, third-looked-up ks q.line c.in-Ok.step c.in-Fused.is)
 
-pub returns-then-not-known : goal.returns-then-not-known
-returns-then-not-known c = first-unknown _ _ (omega arith) (omega arith) (sym c.if-not-known.true ∙ c.known.ensures)
+pub returns-in_default-step : goal.returns-in_default-step
+returns-in_default-step c =
+    let q = c.args in let ks = known q.x q.y (claims q.earlier.now) in
+    grind (arith, allowed-by ks q.line c.in-Ok.step c.in-Ok.ensures, third-unused ks q.line c.in-Ok.step c.in_default-step.not-Fused)
 
-pub returns-then-not-known-2 : goal.returns-then-not-known-2
-returns-then-not-known-2 c =
-    second-unknown _ _ (omega arith) (omega arith) (sym c.if-not-known.false ∙ c.known.ensures) (sym c.if-not-known-2.true ∙ c.known-2.ensures)
-
-pub returns-then-line-eq-FUSED : goal.returns-then-line-eq-FUSED
-returns-then-line-eq-FUSED c =
-    third-looked-up _ _ (omega arith) (omega arith) (sym c.if-not-known.false ∙ c.known.ensures) (sym c.if-not-known-2.false ∙ c.known-2.ensures)
-    c.if-line-eq-FUSED.true _ c.known-then-line-eq-FUSED.ensures
-
-pub returns : goal.returns
-returns c =
-    third-unused _ _ (omega arith) (omega arith) (sym c.if-not-known.false ∙ c.known.ensures) (sym c.if-not-known-2.false ∙ c.known-2.ensures)
-    c.if-line-eq-FUSED.false
+pub returns-else-known-2 : goal.returns-else-known-2
+returns-else-known-2 c =
+    let q = c.args in let ks = known q.x q.y (claims q.earlier.now) in grind (arith, allowed-by ks q.line c.in-Ok.step c.in-Ok.ensures)

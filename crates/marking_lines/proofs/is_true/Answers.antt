@@ -1,9 +1,9 @@
-use Rattle.marking_lines.proofs.LineTests.{false-result, true-result}
+use native.Mathlib.Omega.{arith}
+use Rattle.marking_lines.proofs.LineTests.{true-by}
 use Rattle.marking_lines.proofs.is_true.Goals as goal
 
 pub returns-then-line-outcome : goal.returns-then-line-outcome
-returns-then-line-outcome c = false-result _ c.step-outcome.ensures.0 c.step-outcome.ensures.1 c.if-line-outcome.true
+returns-then-line-outcome c = let s = c.step-outcome in grind (arith, true-by c.args.line s.ensures.0 s.ensures.1)
 
-pub returns : goal.returns
-returns c =
-    let s = c.step-outcome in true-result _ s.ensures.0 s.ensures.1 c.if-line-outcome.false
+pub returns-else-line-outcome : goal.returns-else-line-outcome
+returns-else-line-outcome c = let s = c.step-outcome in grind (arith, true-by c.args.line s.ensures.0 s.ensures.1)

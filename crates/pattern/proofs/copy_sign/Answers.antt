@@ -6,5 +6,5 @@ use Rattle.pattern.proofs.copy_sign.Goals as goal
 
 pub returns : goal.returns
 returns c =
-    let b = c.args in c.choose_pattern.ensures
+    let b = c.args in c.choose.ensures
     ∙ ap (λ (z : ℕ). cond (leb (2 ^ 31) b.a) z b.c) c.flipped.ensures

@@ -6,4 +6,4 @@ use Rattle.pattern.proofs.zero_takes.Goals as goal
 
 pub returns : goal.returns
 returns c =
-    let x = c.args.x in c.choose_pattern.ensures ∙ ap₂ (λ (k : Bool) (p : ℕ). cond k p x) c.is_zero.ensures (c.choose_pattern-zero.ensures ∙ sym (add-zero _))
+    let x = c.args.x in c.choose.ensures ∙ ap₂ (λ (k : Bool) (p : ℕ). cond k p x) c.is_zero.ensures (c.choose-zero.ensures ∙ sym (add-zero _))

@@ -8,26 +8,26 @@ use Rattle.rounding_spec.proofs.Packed.{zeros-ge, shift_le, packed-bounds, packe
 use Rattle.rounding.proofs.rest_pattern.Goals as goal
 
 pub overflow_sub-room : goal.overflow_sub-room
-overflow_sub-room c = (zeros-ge c.args.rest c.requires.0).0
+overflow_sub-room c = (zeros-ge c.args.rest.sig c.requires.0).0
 
 pub overflow_cast-room : goal.overflow_cast-room
-overflow_cast-room c = let z = zeros-ge c.args.rest c.requires.0 in omega arith
+overflow_cast-room c = let z = zeros-ge c.args.rest.sig c.requires.0 in omega arith
 
-pub overflow_sub-unit : goal.overflow_sub-unit
-overflow_sub-unit c = (shift_le c.args.rest c.requires.0 c.args.unit _ c.choose_exponent-shift.ensures).0
+pub overflow_sub-rest : goal.overflow_sub-rest
+overflow_sub-rest c = (shift_le c.args.rest.sig c.requires.0 c.args.rest.exp _ c.choose-shift.ensures).0
 
 pub overflow_shl-rest : goal.overflow_shl-rest
 overflow_shl-rest c =
-    let l = shift_le c.args.rest c.requires.0 c.args.unit _ c.choose_exponent-shift.ensures in
+    let l = shift_le c.args.rest.sig c.requires.0 c.args.rest.exp _ c.choose-shift.ensures in
     omega arith
 
 pub packed-requires : goal.packed-requires
 packed-requires c =
-    packed-bounds c.args.rest c.requires.0 c.args.unit _ c.choose_exponent-shift.ensures _ c.choose_exponent-exp.ensures c.requires.1
+    packed-bounds c.args.rest.sig c.requires.0 c.args.rest.exp _ c.choose-shift.ensures _ c.choose-exp.ensures c.requires.1
 
 pub returns : goal.returns
 returns c =
     c.packed.ensures
-    ∙ packed-is c.args.rest c.requires.0 c.args.unit _ c.choose_exponent-shift.ensures _ c.choose_exponent-exp.ensures
-    c.choose_sign-minus.result c.requires.1
-    ∙ ap (λ (m : Bool). encode binary32 (finite m (c.args.rest * 2 ^ c.args.unit))) c.choose_sign-minus.ensures
+    ∙ packed-is c.args.rest.sig c.requires.0 c.args.rest.exp _ c.choose-shift.ensures _ c.choose-exp.ensures
+    c.choose-minus.result c.requires.1
+    ∙ ap (λ (m : Bool). encode binary32 (finite m (c.args.rest.sig * 2 ^ c.args.rest.exp))) c.choose-minus.ensures

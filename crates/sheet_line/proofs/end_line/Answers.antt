@@ -1,6 +1,4 @@
-use mathlib.Core.Path.{sym, ap, ◌∙◌}
-use native.Mathlib.Omega.{arith}
-use Rattle.question.specs.Answers.{answer_question}
+use Rattle.std.proofs.Common.{arith, sym}
 use Rattle.sheet_spec.proofs.Positions.{counts, lines-most}
 use Rattle.sheet_line.proofs.Answering.{as_many, good-ends, bad-ends}
 use Rattle.sheet_line.proofs.end_line.Goals as goal
@@ -11,22 +9,19 @@ overflow_add-number c = omega (arith, lines-most _ c.requires.0)
 pub slice_bounds-read-end : goal.slice_bounds-read-end
 slice_bounds-read-end c = as_many c.args.line.now c.args.position.length (counts _ c.requires.0).length c.told-line
 
-pub returns-in_default : goal.returns-in_default
-returns-in_default c =
-    let p = c.requires in
+pub returns-in-Ok : goal.returns-in-Ok
+returns-in-Ok c =
     let a = c.args in
-    let whole = sym (as_many a.line.now a.position.length (counts _ p.0).length c.told-line) in
-    rw c.ended.ensures
-    (bad-ends a.position a.line.now a.total.now a.out.now whole p.1 c.read-question.result c.in_default.not-Asked c.read-question.ensures c.refusal.result c.refusal.ensures c.bad-written.result
-    c.bad-written.new.out c.bad-written.ensures)
-
-pub returns : goal.returns
-returns c =
-    let p = c.requires in
-    let a = c.args in
-    let q = c.in-Asked in
     let s = c.answer-written in
-    let whole = sym (as_many a.line.now a.position.length (counts _ p.0).length c.told-line) in
-    rw c.ended-2.ensures
-    (good-ends a.position a.line.now a.total.now a.out.now whole p.1 q.operation q.x q.y (ap answer_question (sym q.is) ∙ c.read-question.ensures) s.result s.new.total s.new.out
-    (s.ensures.writes, s.ensures.total_after))
+    let whole = sym (as_many a.line.now a.position.length (counts _ c.requires.0).length c.told-line) in
+    rw c.ended.ensures (good-ends a.position a.line.now a.total.now a.out.now whole c.requires.1 c.in-Ok.question c.in-Ok.ensures s.result _ _ s.ensures.writes s.ensures.total_after)
+
+pub returns-in-Err : goal.returns-in-Err
+returns-in-Err c =
+    let a = c.args in
+    let whole = sym (as_many a.line.now a.position.length (counts _ c.requires.0).length c.told-line) in
+    rw c.ended-in-Err.ensures
+    (bad-ends a.position a.line.now a.total.now a.out.now whole c.requires.1 c.in-Err.why c.in-Err.ensures _ c.from.ensures c.bad-written.result _ c.bad-written.ensures)
+
+pub shared_ref_as_front-read : goal.shared_ref_as_front-read
+shared_ref_as_front-read c = (counts _ c.requires.0).length

@@ -1,5 +1,5 @@
 use Rattle.std.proofs.Common.{length, ◌-◌, ◌≤◌, ◌≡◌, take}
-use Rattle.std.specs.Io.KnownBytes.{Keeps, Appends}
+use Rattle.std.specs.Io.KnownBytes.{Appends}
 use Rattle.sheet_spec.specs.States.{take_bytes, bytes_text}
 use Rattle.sheet_spec.specs.Positions.{state_of}
 use Rattle.sheet_stream.proofs.take.Given as goal
@@ -12,7 +12,6 @@ invariant-loop-at g l = record {
   state : state_of l.here l.line l.total ≡ take_bytes (state_of l.initial.here l.initial.line l.initial.total) (take l.at l.bytes);
   written : Appends (g.W.Write.contents l.initial.output) (g.W.Write.contents l.output)
       (bytes_text (state_of l.initial.here l.initial.line l.initial.total) (take l.at l.bytes));
-  said : Keeps (g.E.Write.contents l.initial.errors) (g.E.Write.contents l.errors);
 }
 
 abbrev pub decreases-loop-at : goal.decreases-loop-at

@@ -1,20 +1,24 @@
-use Rattle.transcript_spec.specs.Texts.{pair_text}
-use Rattle.question_spec.specs.Ascii.{newline}
-use Rattle.transcript_spec.proofs.Stored.{stored}
-use lib.ListN.{length-set}
-use mathlib.Core.Path.{refl, ◌∙◌}
-use Prim.Native.Nat.{◌+◌}
-use Rattle.transcript_spec.proofs.Pasted.{then}
 use native.Mathlib.Omega.{arith}
+use Rattle.transcript_spec.specs.Texts.{pair_text}
+use Rattle.transcript_spec.proofs.TextLengths.{pair-length}
+use Rattle.transcript_fields.proofs.Writing.{and_then}
 use Rattle.transcript_lines.proofs.put_pair.Goals as goal
 
-pub shape_of-out : goal.shape_of-out
-shape_of-out c =
-    let put_four = c.put_four-a in let put-patterns = c.put_patterns-b in let put_byte = c.put_byte-c in let put-flags = c.put_flags-d in
-    length-set put-flags.new.out put-flags.result _ ∙ (put-flags.auto.out ∙ (put_byte.auto.out ∙ (put-patterns.auto.out ∙ put_four.auto.out)))
+pub bytes-requires : goal.bytes-requires
+bytes-requires c = omega (arith, c.requires, pair-length c.args.pair)
+
+pub patterns-requires : goal.patterns-requires
+patterns-requires c = omega (arith, c.requires, pair-length c.args.pair)
+
+pub byte-requires : goal.byte-requires
+byte-requires c = omega (arith, c.requires, pair-length c.args.pair)
+
+pub flags-requires : goal.flags-requires
+flags-requires c = omega (arith, c.requires, pair-length c.args.pair)
+
+pub byte-requires-2 : goal.byte-requires-2
+byte-requires-2 c = omega (arith, c.requires, pair-length c.args.pair)
 
 pub returns : goal.returns
 unfolding pair_text
-returns c =
-    let put_four = c.put_four-a in let put-patterns = c.put_patterns-b in let put_byte = c.put_byte-c in let put-flags = c.put_flags-d in then put_four.ensures
-    (then put-patterns.ensures (then put_byte.ensures (then put-flags.ensures (stored put-flags.new.out put-flags.result newline (put-flags.result + 1) (omega arith) refl))))
+returns c = and_then c.bytes.ensures (and_then c.patterns.ensures (and_then c.byte.ensures (and_then c.flags.ensures c.byte-2.ensures)))

@@ -4,4 +4,4 @@ use Rattle.worksheet_choices.proofs.equal.Goals as goal
 
 pub returns : goal.returns
 returns c =
-    c.choose_sign.ensures ∙ equal_is c.args.x c.args.y c.ranges.x.fits c.ranges.y.fits
+    c.choose.ensures ∙ equal_is c.args.x c.args.y c.ranges.x.fits c.ranges.y.fits

@@ -4,5 +4,5 @@ use Rattle.worksheet_choices.proofs.rest_tie.Goals as goal
 
 pub returns : goal.returns
 returns c =
-    c.choose_sign.ensures
+    c.choose.ensures
     ∙ rest-tie-is c.args.beta c.args.r c.ranges.r.fits _ _ c.copy_sign.ensures c.is_zero.ensures

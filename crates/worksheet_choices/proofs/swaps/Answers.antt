@@ -4,4 +4,4 @@ use Rattle.worksheet_choices.proofs.swaps.Goals as goal
 
 pub returns : goal.returns
 returns c =
-    let b = c.args in c.choose_sign.ensures ∙ swaps-is b.x b.y
+    let b = c.args in c.choose.ensures ∙ swaps-is b.x b.y

@@ -7,6 +7,3 @@ use Rattle.accumulator_read.proofs.leading.first_digits.Given as goal
 
 abbrev pub invariant-loop-i : goal.invariant-loop-i
 invariant-loop-i l = (l.i ≤ number_size) × (l.sig < 2 ^ 64) × Digits (natural (drop l.i l.words)) l.i l.sig l.exp
-
-abbrev pub decreases-loop-i : goal.decreases-loop-i
-decreases-loop-i l = l.i

@@ -8,7 +8,7 @@ use Rattle.accumulator_read.proofs.leading.turned.Goals as goal
 pub loop-i-preserved : goal.loop-i-preserved
 loop-i-preserved c =
     let l = c.loop-i in let k = c.well_formed.0 in let e = array-length number_size c.args.number _ k in
-    (omega arith, next c.args.minus c.args.number l.i (omega arith) l.words _ (array-words number_size c.args.number _ k) c.choose_pattern-mask.ensures l.invariant.1)
+    (omega arith, next c.args.minus c.args.number l.i (omega arith) l.words _ (array-words number_size c.args.number _ k) c.choose-mask.ensures l.invariant.1)
 
 pub returns : goal.returns
 returns c =

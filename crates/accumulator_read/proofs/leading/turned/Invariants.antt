@@ -1,11 +1,8 @@
 use mathlib.Core.Path.{◌≡◌}
-use Prim.Native.Nat.{◌-◌, ◌≤◌}
+use Prim.Native.Nat.{◌≤◌}
 use Rattle.accumulator_spec.specs.Totals.{number_size}
 use Rattle.accumulator_read.proofs.TurnedWords.{upto}
 use Rattle.accumulator_read.proofs.leading.turned.Given as goal
 
 abbrev pub invariant-loop-i : goal.invariant-loop-i
 invariant-loop-i l = (l.i ≤ number_size) × (l.words ≡ upto l.minus l.initial.words l.i)
-
-abbrev pub decreases-loop-i : goal.decreases-loop-i
-decreases-loop-i l = number_size - l.i

@@ -1,22 +1,14 @@
-use mathlib.Core.Path.{refl, ◌∙◌}
-use Prim.Native.Nat.{◌-◌}
-use native.Mathlib.Omega.{arith}
-use Rattle.conservation_spec.proofs.Misfits.{within_more, within-not, within-done}
+use mathlib.Core.Path.{◌∙◌}
+use Prim.Native.Nat.{ℕ}
+use lib.Dec.{leb}
+use Rattle.std.proofs.Common.{rules}
+use Rattle.std.proofs.lemmas.Iterator.{YieldsList-from_slice}
+use Rattle.std.proofs.lemmas.Iterator.Search.{all_from_yields_List}
+use Rattle.conservation_spec.proofs.Misfits.{within-is}
 use Rattle.conservation.proofs.fitting.all_within.Goals as goal
 
-pub loop-i-init : goal.loop-i-init
-loop-i-init c = (omega arith, refl)
-
-pub overflow_cast-counts : goal.overflow_cast-counts
-overflow_cast-counts c = let w = (c.shared_slice_known-1.given c.loop-i.i).fits in omega arith
-
-pub returns-then-counts-i : goal.returns-then-counts-i
-returns-then-counts-i c =
-    let l = c.loop-i in let a = c.args in within-not a.counts.now a.most l.i (omega arith) c.if-counts-i.true ∙ l.invariant.1
-
-pub loop-i-preserved : goal.loop-i-preserved
-loop-i-preserved c =
-    let l = c.loop-i in let a = c.args in (omega arith, within_more a.counts.now a.most l.i (omega arith) c.if-counts-i.false ∙ l.invariant.1)
-
 pub returns : goal.returns
-returns c = let l = c.loop-i in let a = c.args in within-done a.counts.now a.most l.i (omega arith) ∙ l.invariant.1
+returns c =
+    let a = c.args in
+    all_from_yields_List (λ (n : ℕ). leb n a.most) _ _ _ c.all.ensures.ran (YieldsList-from_slice a.counts.now cc) (λ x b q k. search rules)
+    ∙ within-is a.counts.now a.most

@@ -1,17 +1,13 @@
-use native.Mathlib.Omega.{arith}
-use mathlib.Core.Path.{ap, ◌∙◌}
+use mathlib.Core.Path.{sym, ap, ◌∙◌}
+use Rattle.augmented_spec.specs.declared.Operation.{Operation}
 use Rattle.accumulator_spec.specs.Columns.{column}
-use Rattle.conservation_spec.proofs.Settled.{one-term, sum-set, difference-set, product-set}
+use Rattle.conservation_spec.specs.Lists.{set_terms}
+use Rattle.conservation_spec.proofs.Settled.{one-term, product-asked}
 use Rattle.conservation.proofs.settling.add_set.Goals as goal
 
-pub returns-in-1 : goal.returns-in-1
-returns-in-1 c =
-    c.add_two.ensures ∙ ap (column c.args.total.now) (sum-set _ _ _ c.in-1.is)
-
-pub returns-in-2 : goal.returns-in-2
-returns-in-2 c =
-    c.add_two-in-2.ensures ∙ ap (column c.args.total.now) (difference-set _ _ _ c.in-2.is c.flipped.ensures)
-
-pub returns-in_default : goal.returns-in_default
-returns-in_default c =
-    one-term _ _ _ c.add_product.ensures.1 ∙ ap (column c.args.total.now) (product-set c.args.operation _ _ (omega arith) (omega arith))
+pub returns-in-Product : goal.returns-in-Product
+returns-in-Product c =
+    let a = c.args in
+    one-term _ _ _ c.add_product.ensures.1
+    ∙ ap (λ (o : Operation). column a.total.now (set_terms o a.x a.y))
+    (sym (product-asked a.operation c.try_from.result c.try_from.ensures (sym c.unwrap_or.ensures ∙ c.in-Product.is)))

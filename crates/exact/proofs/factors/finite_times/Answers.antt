@@ -37,4 +37,4 @@ returns-in-Finite c =
     let a = c.args in
     let f = product-bounded _ _ _ _ c.requires.operand (rw c.in-Finite.is at c.requires.bounded) in
     rw c.in-Finite.is
-    (record { is = ap (finite (unlike a.s c.in-Finite.t)) (product_value a.m a.e c.in-Finite.n c.in-Finite.d); bounded = f })
+    (record { is = ap (finite (unlike a.m.sign c.in-Finite.n.sign)) (product_value a.m.sig a.m.exp c.in-Finite.n.sig c.in-Finite.n.exp); bounded = f })

@@ -1,22 +1,19 @@
-use mathlib.Core.Path.{refl, sym, ◌∙◌}
-use Prim.Native.Nat.{◌-◌}
-use native.Mathlib.Omega.{arith}
-use Rattle.marking_spec.proofs.Lookup.{result-more, no_result}
+use mathlib.Core.Path.{refl, ap, ◌∙◌}
+use mathlib.Core.List.{List}
+use Prim.Native.Nat.{ℕ, ◌/◌}
+use lib.ListN.{length, get_or}
+use Rattle.std.proofs.Common.{rules}
+use Rattle.std.specs.List.{list_any}
+use Rattle.worksheet_spec.specs.Lines.{line_size}
+use Rattle.std.proofs.lemmas.Iterator.{YieldsList-from_slice}
+use Rattle.std.proofs.lemmas.Iterator.Search.{any_from_yields_List}
+use Rattle.marking_spec.proofs.Lookup.{either, among-results}
 use Rattle.marking_lines.proofs.operands.is_result.Goals as goal
-
-pub loop-at-init : goal.loop-at-init
-loop-at-init c = (omega arith, refl)
-
-pub returns-then-is_either : goal.returns-then-is_either
-returns-then-is_either c =
-    let start = c.args in let l = c.loop-at in let found = sym c.is_either.ensures ∙ c.if-is_either.true in
-    sym (sym l.invariant.1 ∙ result-more start.p start.earlier.now l.at (omega arith) ∙ rw found)
-
-pub loop-at-preserved : goal.loop-at-preserved
-loop-at-preserved c =
-    let start = c.args in let l = c.loop-at in let passed = sym c.is_either.ensures ∙ c.if-is_either.false in
-    (omega arith, sym (result-more start.p start.earlier.now l.at (omega arith) ∙ rw passed) ∙ l.invariant.1)
 
 pub returns : goal.returns
 returns c =
-    let start = c.args in let l = c.loop-at in sym (sym l.invariant.1 ∙ no_result start.p start.earlier.now l.at (omega arith))
+    let p = c.args.p in
+    any_from_yields_List (λ (line : List ℕ). either p (get_or line 4 0)) _ _ _ c.any.ensures.ran
+    (YieldsList-from_slice c.as_chunks.result.0.now cc) (λ x b q k. search rules)
+    ∙ ap (list_any (λ (line : List ℕ). either p (get_or line 4 0))) c.as_chunks.ensures.front
+    ∙ among-results (length c.args.earlier.now / line_size) p c.args.earlier.now refl

@@ -1,26 +1,30 @@
-use mathlib.Core.Path.{sym}
-use native.Mathlib.Omega.{arith}
+use Rattle.std.proofs.Common.{arith, sym, ◌∙◌}
+use borrow.Author.Tests.{lt-ltb, ne_eqb}
 use Rattle.sheet_spec.proofs.Positions.{has-stopped, more-good, too_long, lines_left, too_many, as-empty}
+use Rattle.sheet_line.proofs.position.goes_on.Goals.{then-position-via-then-position, then-position-via-else-position+then-position-2}
+use Rattle.sheet_line.proofs.position.goes_on.Goals.{then-position-via-else-position+else-position-2+then-position-gt-KEPT_BYTES}
 use Rattle.sheet_line.proofs.position.goes_on.Goals as goal
 
 pub returns-then-position : goal.returns-then-position
-returns-then-position c = sym (has-stopped _ c.if-position.true)
-
-pub returns-then-position-2 : goal.returns-then-position-2
-returns-then-position-2 c = sym (more-good _ c.if-position.false c.if-position-2.true)
-
-pub returns-then-position-gt-KEPT_BYTES : goal.returns-then-position-gt-KEPT_BYTES
-returns-then-position-gt-KEPT_BYTES c =
-    sym (too_long _ c.if-position.false c.if-position-2.false c.if-position-gt-KEPT_BYTES.true)
+returns-then-position c =
+    elim c.then-position.branch [
+      | then-position-via-then-position w ↦ sym (has-stopped _ w.if-position.true)
+      | then-position-via-else-position+then-position-2 w ↦ sym (more-good _ w.if-position.false w.if-position-2.true)
+      | then-position-via-else-position+else-position-2+then-position-gt-KEPT_BYTES w ↦
+          sym (too_long _ w.if-position.false w.if-position-2.false w.if-position-gt-KEPT_BYTES.true)
+    ]
 
 pub returns-then-position-lt-MOST_INPUT_LINES : goal.returns-then-position-lt-MOST_INPUT_LINES
 returns-then-position-lt-MOST_INPUT_LINES c =
-    sym (lines_left _ c.if-position.false c.if-position-2.false c.if-position-gt-KEPT_BYTES.false c.if-position-lt-MOST_INPUT_LINES.true)
+    lt-ltb _ _ c.if-position-lt-MOST_INPUT_LINES.true
+    ∙ sym (lines_left _ c.if-position.false c.if-position-2.false c.if-position-gt-KEPT_BYTES.false c.if-position-lt-MOST_INPUT_LINES.true)
 
-pub returns-then-position-gt-MOST_INPUT_LINES : goal.returns-then-position-gt-MOST_INPUT_LINES
-returns-then-position-gt-MOST_INPUT_LINES c =
-    sym (too_many _ c.if-position.false c.if-position-2.false c.if-position-gt-KEPT_BYTES.false c.if-position-gt-MOST_INPUT_LINES.true)
+pub returns-then-position-eq-MOST_INPUT_LINES : goal.returns-then-position-eq-MOST_INPUT_LINES
+returns-then-position-eq-MOST_INPUT_LINES c =
+    sym (as-empty _ c.if-position.false c.if-position-2.false c.if-position-gt-KEPT_BYTES.false c.if-position-eq-MOST_INPUT_LINES.true)
 
-pub returns : goal.returns
-returns c =
-    sym (as-empty _ c.if-position.false c.if-position-2.false c.if-position-gt-KEPT_BYTES.false (omega (arith, c.if-position-lt-MOST_INPUT_LINES.false, c.if-position-gt-MOST_INPUT_LINES.false)))
+pub returns-else-position-eq-MOST_INPUT_LINES : goal.returns-else-position-eq-MOST_INPUT_LINES
+returns-else-position-eq-MOST_INPUT_LINES c =
+    let more = c.if-position-lt-MOST_INPUT_LINES.false in
+    ne_eqb _ _ c.if-position-eq-MOST_INPUT_LINES.false
+    ∙ sym (too_many _ c.if-position.false c.if-position-2.false c.if-position-gt-KEPT_BYTES.false (omega (arith, c.if-position-eq-MOST_INPUT_LINES.false)))

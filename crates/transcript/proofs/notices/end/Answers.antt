@@ -1,6 +1,8 @@
+use Rattle.std.proofs.Common.{rules}
+use mathlib.Core.Path.{refl}
 use Rattle.transcript_spec.proofs.TextLengths.{counts-length}
 use Rattle.transcript_spec.specs.Texts.{end_text}
-use Rattle.transcript_spec.proofs.Written.{whole}
+use Rattle.transcript_fields.proofs.Writing.{whole_text}
 use Rattle.transcript_spec.proofs.Buffers.{too_short}
 use native.Mathlib.Omega.{arith}
 use Rattle.transcript.proofs.notices.end.Goals as goal
@@ -12,4 +14,4 @@ returns-then-out-decimal c =
 
 pub returns : goal.returns
 unfolding end_text
-returns c = whole c.put_counts.ensures
+returns c = whole_text c.put_counts.ensures refl (search (rules, c.put_counts.ensures.same_buffer))

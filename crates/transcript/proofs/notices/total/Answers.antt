@@ -1,5 +1,7 @@
+use Rattle.std.proofs.Common.{rules}
+use mathlib.Core.Path.{refl}
 use Rattle.transcript_spec.specs.Texts.{total_text}
-use Rattle.transcript_spec.proofs.Written.{whole}
+use Rattle.transcript_fields.proofs.Writing.{whole_text}
 use Rattle.transcript_spec.proofs.Buffers.{too_short}
 use native.Mathlib.Omega.{arith}
 use Rattle.transcript.proofs.notices.total.Goals as goal
@@ -9,5 +11,9 @@ unfolding total_text
 returns-then-out-lt24 c =
     too_short c.args.out.now (total_text c.args.first c.args.second) (omega arith)
 
+pub put_total-requires : goal.put_total-requires
+unfolding total_text
+put_total-requires c = omega arith
+
 pub returns : goal.returns
-returns c = whole c.put_total.ensures
+returns c = whole_text c.put_total.ensures refl (search (rules, c.put_total.ensures.same_buffer))

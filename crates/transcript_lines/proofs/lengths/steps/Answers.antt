@@ -1,28 +1,23 @@
-use Prim.Native.Nat.{ℕ, ◌+◌, ◌*◌}
-use mathlib.Core.Path.{◌≡◌, sym, ap, ◌∙◌}
+use Prim.Native.Nat.{ℕ, ◌*◌}
+use mathlib.Core.Path.{ap, ◌∙◌, sym}
+use mathlib.Core.List.{List}
 use native.Mathlib.Omega.{arith}
 use lib.ListN.{get_or, drop}
-use lib.Seq.{get_or-drop}
+use Rattle.std.proofs.lemmas.List.{get_or-take}
 use Rattle.worksheet_spec.specs.Lines.{line_size}
 use Rattle.transcript_spec.specs.Texts.{steps_text}
 use Rattle.transcript_spec.proofs.WholeSteps.{more-length}
+use Rattle.transcript_lines.proofs.SheetLines.{line_at}
 use Rattle.transcript_lines.proofs.lengths.steps.Goals as goal
 
 pub loop-k-init : goal.loop-k-init
 unfolding steps_text
-loop-k-init c = (omega arith, omega arith, omega arith)
-
-pub step-n-requires : goal.step-n-requires
-step-n-requires c = tt
+loop-k-init c = (omega arith, omega arith)
 
 pub loop-k-preserved : goal.loop-k-preserved
 loop-k-preserved c =
-    let l = c.loop-k in let words = c.args.words.now in let at = line_size * l.k in
-    let e : at + 0 ≡ at = omega arith in
-    let first : get_or (drop at words) 0 0 ≡ get_or words at 0 = get_or-drop at words 0 0 ∙ ap (λ (n : ℕ). get_or words n 0) e in
-    (omega arith, omega (arith, more-length l.k words, c.step-n.ensures.0 (drop at words) first), omega arith)
-
-pub returns : goal.returns
-returns c =
-    let l = c.loop-k in let e : l.k ≡ c.args.lines = omega arith in
-    rw (sym e) (l.invariant.1, omega arith)
+    let l = c.loop-k in let words = c.args.words.now in
+    let line = line_at l.k c.args.lines words c.as_chunks.result.0.now (omega arith) (omega arith) (omega arith) c.as_chunks.ensures.front in
+    let its = drop (line_size * l.k) words in
+    let first = sym (ap (λ (w : List ℕ). get_or w 0 0) line ∙ get_or-take line_size its 0 0 (omega arith)) in
+    (omega (arith, more-length l.k words, c.step-n.ensures.0 its first), omega arith)

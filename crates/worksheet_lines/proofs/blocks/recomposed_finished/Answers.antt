@@ -2,7 +2,7 @@ use Rattle.worksheet_lines.proofs.SharedLines.{room-to-finish, recomposed-and-fi
 use Rattle.worksheet_lines.proofs.blocks.recomposed_finished.Goals as goal
 
 pub zero_finish-requires : goal.zero_finish-requires
-zero_finish-requires c = room-to-finish _ _ _ c.recomposition-pair.ensures c.requires
+zero_finish-requires c = room-to-finish _ _ c.recomposition-pair.ensures c.requires
 
 pub returns : goal.returns
-returns c = recomposed-and-finished _ _ _ c.recomposition-pair.ensures c.zero_finish.ensures
+returns c = recomposed-and-finished _ _ c.recomposition-pair.ensures c.zero_finish.ensures

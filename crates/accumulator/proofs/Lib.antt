@@ -1,2 +1,0 @@
-pub mod Told
-pub mod Theorems

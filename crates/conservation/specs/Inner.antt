@@ -1,0 +1,17 @@
+-- What functions below `replay` ask of each other.
+use Rattle.std.specs.Prelude.{◌≡◌, List, ℕ, length}
+use Rattle.conservation_spec.specs.Replay.{Asking, Lent}
+use Rattle.conservation.specs.declared.questions.Questions.{Questions}
+
+-- what is asked, and what is lent
+abbrev pub asking : Questions → Asking
+asking q = record { operations = q.operations.now; xs = q.xs.now; ys = q.ys.now; counts = q.counts.now }
+
+abbrev pub lent : List ℕ → List ℕ → List ℕ → Lent
+lent words first other = record { words = words; totals = record { first = first; other = other } }
+
+-- arrays of one length
+abbrev pub Equal : Questions → Type 0
+Equal q =
+    (length q.xs.now ≡ length q.operations.now) × (length q.ys.now ≡ length q.operations.now)
+    × (length q.counts.now ≡ length q.operations.now)

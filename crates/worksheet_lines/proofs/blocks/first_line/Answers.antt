@@ -1,5 +1,0 @@
-use Rattle.worksheet_lines.proofs.Rows.{foot-follows}
-use Rattle.worksheet_lines.proofs.blocks.first_line.Goals as goal
-
-pub returns : goal.returns
-returns c rows = foot-follows rows 1 _ _

@@ -27,10 +27,7 @@ pub fn clear(total: &mut [u32]) -> Result<(), NotDone>
 pub fn is_cleared(total: &[u32]) -> bool
     ensures { result ≡ is_cleared total.now }
 {
-    if total.len() != TOTAL_SIZE {
-        return false;
-    }
-    accumulator_words::is_zero(total)
+    total.len() == TOTAL_SIZE && accumulator_words::is_zero(total)
 }
 
 pub fn add_pattern(total: &mut [u32], x: u32) -> Result<(), NotDone>

@@ -1,4 +1,4 @@
-// The calls on totals with the answer as numbers, the refusal's or 0, for callers that hand it on.
+// The calls on totals with the answer as numbers, the refusal's or 0, for the C interface: a `Result` does not go there.
 ghost use Rattle.std.specs.Prelude.{◌≡◌};
 ghost use Rattle.pattern_spec.specs.Answer.{refusal_of};
 ghost use Rattle.accumulator_spec.specs.Totals.{of_pattern, of_product, AddsNumbered, ClearsNumbered, reading, reading_numbers};
@@ -58,6 +58,7 @@ pub fn read(total: &[u32]) -> ReadingNumbers
     }
 }
 
+// No `From`: neither `Result` nor `u32` is this crate's, so that it cannot write one.
 fn number(answer: Result<(), NotDone>) -> u32
     ensures { result ≡ refusal_of (answer_of answer) }
 {

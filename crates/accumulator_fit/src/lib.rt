@@ -11,7 +11,7 @@ ghost use Rattle.accumulator_spec.specs.Totals.{within_limits, sign_fits, fit};
 ghost use Rattle.accumulator_fit.specs.Inner.{fault, below_limit};
 
 use accumulator_spec::{MOST_TERMS, NUMBER_SIZE, NotDone, SIGN_WORD, TOTAL_SIZE};
-use accumulator_words::{is_zero, wide};
+use accumulator_words::is_zero;
 use choose::choose;
 
 // The top three words of the number: the limit counts the weight of the third.
@@ -37,7 +37,7 @@ pub fn refusal(total: &[u32]) -> Result<(), NotDone>
 
 // Nothing is to be refused, and the sign word is 1: told by length, count, sign word and top words, of which nearly every total's top two
 // have nothing but the sign, all zeros or all ones. False leaves it open: where the total is empty, full, at its limit or unfit, or its
-// terms have been -0.
+// terms have been -0. Written step by step: as one expression it took each term 3 instructions more.
 pub fn has_room(total: &[u32]) -> bool
     ensures { result ≡ true → (fault total.now ≡ Ok tt) × (count total.now < most_terms) × (sign_word total.now ≡ 1) }
 {
@@ -51,7 +51,7 @@ pub fn has_room(total: &[u32]) -> bool
     if total[SIGN_WORD] != 1 {
         return false;
     }
-    let upper = wide(total[NEXT]) + wide(total[TOP]) * 0x1_0000_0000;
+    let upper = u64::from(total[NEXT]) + u64::from(total[TOP]) * 0x1_0000_0000;
     if std::num::wrapping_add_u64(upper, 1) > 1 {
         return false;
     }
@@ -64,10 +64,7 @@ fn is_fit(total: &[u32]) -> bool
     requires { length total.now ≡ total_size }
     ensures { result ≡ fit total.now }
 {
-    if !within_limits(total) {
-        return false;
-    }
-    sign_fits(total)
+    within_limits(total) && sign_fits(total)
 }
 
 // The sign word is 0 or 1; with 0 the number is 0, and with 1 there are terms.
@@ -76,13 +73,11 @@ fn sign_fits(total: &[u32]) -> bool
     requires { length total.now ≡ total_size }
     ensures { result ≡ sign_fits total.now }
 {
-    if total[SIGN_WORD] > 1 {
-        return false;
+    match total[SIGN_WORD] {
+        0 => is_zero(&total[0..NUMBER_SIZE]),
+        1 => total[NUMBER_SIZE] != 0,
+        _ => false,
     }
-    if total[SIGN_WORD] == 0 {
-        return is_zero(&total[0..NUMBER_SIZE]);
-    }
-    total[NUMBER_SIZE] != 0
 }
 
 // Of a total or of an old one. The limit is count * 1024 times the weight of the third. A negative number is below it where its complement,
@@ -93,34 +88,23 @@ pub fn within_limits(total: &[u32]) -> bool
     ensures { result ≡ within_limits total.now }
 {
     let n = total[NUMBER_SIZE];
-    if n > MOST_TERMS {
-        return false;
-    }
     let minus = total[TOP] >= 0x8000_0000;
-    if turned(minus, total[TOP]) != 0 {
-        return false;
-    }
-    if turned(minus, total[NEXT]) != 0 {
-        return false;
-    }
-    let top = turned(minus, total[THIRD]);
-    within(&total[0..THIRD], minus, top, n * 1024)
+    n <= MOST_TERMS
+        && turned(minus, total[TOP]) == 0
+        && turned(minus, total[NEXT]) == 0
+        && within(
+            &total[0..THIRD],
+            minus,
+            turned(minus, total[THIRD]),
+            n * 1024,
+        )
 }
 
 // The words below count at the limit itself, where a positive number must have none there.
 fn within(low: &[u32], minus: bool, top: u32, limit: u32) -> bool
     ensures { result ≡ below_limit low.now minus top limit }
 {
-    if top < limit {
-        return true;
-    }
-    if minus {
-        return false;
-    }
-    if top > limit {
-        return false;
-    }
-    is_zero(low)
+    top < limit || !minus && top == limit && is_zero(low)
 }
 
 // The word itself, or its complement.

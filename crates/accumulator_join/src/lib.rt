@@ -9,7 +9,6 @@ ghost use Rattle.accumulator_join.specs.Inner.{JoinsFit, word_sum};
 
 use accumulator_fit::refusal;
 use accumulator_spec::{MOST_TERMS, NUMBER_SIZE, NotDone, SIGN_WORD};
-use accumulator_words::wide;
 use choose::choose;
 
 pub fn join(first: &mut [u32], second: &[u32]) -> Result<(), NotDone>
@@ -42,7 +41,7 @@ fn join_fit(first: &mut [u32], second: &[u32]) -> Result<(), NotDone>
 }
 
 // Adds the second's words to the first's, lowest first, in one pass. What goes beyond the last word is lost, so that two's complement needs
-// no look at the signs.
+// no look at the signs. By index, since two words belong together: of what a loop over `iter_mut().zip(..)` writes nothing is known.
 fn add_words(first: &mut [u32], second: &[u32])
     requires { length second.now ≡ length first.old }
     ensures { first.new ≡ word_sum first.old second.now }
@@ -61,5 +60,5 @@ fn add_words(first: &mut [u32], second: &[u32])
 fn low_word(a: u32, b: u32) -> u32
     ensures { result ≡ (a + b) % 2 ^ 32 }
 {
-    ((wide(a) + wide(b)) % 0x1_0000_0000) as u32
+    ((u64::from(a) + u64::from(b)) % 0x1_0000_0000) as u32
 }

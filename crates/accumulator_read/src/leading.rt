@@ -4,7 +4,7 @@ ghost use Rattle.accumulator_spec.specs.Words.{natural, integer, complement};
 ghost use Rattle.accumulator_spec.specs.Inner.{Leading};
 
 use accumulator_spec::NUMBER_SIZE;
-use accumulator_words::{place, wide};
+use accumulator_words::place;
 use choose::choose;
 use rounding_spec::Number;
 
@@ -35,8 +35,8 @@ fn turned(number: [u32; NUMBER_SIZE], minus: bool) -> [u32; NUMBER_SIZE]
 {
     let mask = choose(minus, 0xffff_ffff, 0);
     let mut words = number;
-    for i in 0..NUMBER_SIZE {
-        words[i] ^= mask;
+    for w in words.iter_mut() {
+        *w ^= mask;
     }
     words
 }
@@ -56,7 +56,7 @@ pub fn first_digits(words: [u32; NUMBER_SIZE]) -> Digits
     let mut sig: u64 = 0;
     let mut exp: u16 = DIGITS;
     for i in (0..NUMBER_SIZE).rev() {
-        let w = wide(words[i]);
+        let w = u64::from(words[i]);
         if sig < 0x1_0000_0000 {
             sig = sig * 0x1_0000_0000 + w;
             exp -= 32;

@@ -37,7 +37,7 @@ pub fn add(number: &mut [u32], term: Placed)
     ensures { number.new ≡ after_placed number.old term }
 {
     let w = term.word;
-    walk(&mut number[w..], term.minus, term.sig, term.shift);
+    walk(&mut number[w..], term);
 }
 
 // The same for a significand below 2^32, which reaches into two words; any other may reach into three.
@@ -46,29 +46,29 @@ pub fn add_short(number: &mut [u32], term: Placed)
     ensures { number.new ≡ after_placed number.old term }
 {
     let w = term.word;
-    walk_short(&mut number[w..], term.minus, term.sig, term.shift);
+    walk_short(&mut number[w..], term);
 }
 
-// Adds sig * 2^shift to the words' number, or takes it away, over three words and seldom more. What goes beyond the last word is lost.
-// Taking away is adding to the complements, so that nothing jumps by the sign.
-fn walk(words: &mut [u32], minus: bool, sig: u64, shift: u16)
-    requires { (3 ≤ length words.old) × (shift < 32) }
-    ensures { words.new ≡ after_walk words.old minus (sig * 2 ^ shift) }
+// Adds sig * 2^shift to the number of a term's words, from its lowest one on, or takes it away, over three words and seldom more. What goes
+// beyond the last word is lost. Taking away is adding to the complements, so that nothing jumps by the sign.
+fn walk(words: &mut [u32], term: Placed)
+    requires { (3 ≤ length words.old) × (term.shift < 32) }
+    ensures { words.new ≡ after_walk words.old term.minus (term.sig * 2 ^ term.shift) }
 {
-    let carry = add_two_words(words, minus, sig << shift);
+    let carry = add_two_words(words, term.minus, term.sig << term.shift);
     // The digits that the shift moves beyond 64. Halved first: without a shift this would be one by 64.
-    let high = sig / 2 >> 63 - shift;
-    add_word(&mut words[2..], minus, high + carry);
+    let high = term.sig / 2 >> 63 - term.shift;
+    add_word(&mut words[2..], term.minus, high + carry);
 }
 
 // The same over two words and seldom more. Not one function with `walk`, by the size of the significand: terms took 1.2 times as long.
-fn walk_short(words: &mut [u32], minus: bool, sig: u64, shift: u16)
-    requires { (2 ≤ length words.old) × (shift < 32) × (sig < 2 ^ 32) }
-    ensures { words.new ≡ after_walk words.old minus (sig * 2 ^ shift) }
+fn walk_short(words: &mut [u32], term: Placed)
+    requires { (2 ≤ length words.old) × (term.shift < 32) × (term.sig < 2 ^ 32) }
+    ensures { words.new ≡ after_walk words.old term.minus (term.sig * 2 ^ term.shift) }
 {
-    let carry = add_two_words(words, minus, sig << shift);
+    let carry = add_two_words(words, term.minus, term.sig << term.shift);
     if carry != 0 {
-        add_one(&mut words[2..], minus);
+        add_one(&mut words[2..], term.minus);
     }
 }
 
@@ -78,7 +78,7 @@ fn add_two_words(words: &mut [u32], minus: bool, low: u64) -> u64
     ensures { TwoWordsAdded words.old minus low result words.new }
 {
     let mask = choose(minus, 0xffff_ffff_ffff_ffff, 0);
-    let held = wide(words[0]) + wide(words[1]) * 0x1_0000_0000 ^ mask;
+    let held = u64::from(words[0]) + u64::from(words[1]) * 0x1_0000_0000 ^ mask;
     let sum = std::num::wrapping_add_u64(held, low);
     let written = sum ^ mask;
     words[0] = (written % 0x1_0000_0000) as u32;
@@ -92,7 +92,7 @@ fn add_word(words: &mut [u32], minus: bool, n: u64)
     ensures { words.new ≡ after_walk words.old minus n }
 {
     let mask = choose(minus, 0xffff_ffff, 0);
-    let sum = wide(words[0] ^ mask) + n;
+    let sum = u64::from(words[0] ^ mask) + n;
     words[0] = (sum % 0x1_0000_0000) as u32 ^ mask;
     if sum >= 0x1_0000_0000 {
         add_one(&mut words[1..], minus);
@@ -104,19 +104,13 @@ fn add_one(words: &mut [u32], minus: bool)
     ensures { words.new ≡ after_walk words.old minus 1 }
 {
     let mask = choose(minus, 0xffff_ffff, 0);
-    for i in 0..words.len() {
-        let sum = wide(words[i] ^ mask) + 1;
-        words[i] = (sum % 0x1_0000_0000) as u32 ^ mask;
+    for w in words.iter_mut() {
+        let sum = u64::from(*w ^ mask) + 1;
+        *w = (sum % 0x1_0000_0000) as u32 ^ mask;
         if sum < 0x1_0000_0000 {
             return;
         }
     }
-}
-
-pub fn wide(w: u32) -> u64
-    ensures { result ≡ w }
-{
-    w as u64
 }
 
 pub fn is_zero(words: &[u32]) -> bool

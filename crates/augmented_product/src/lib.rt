@@ -1,11 +1,13 @@
-// Pairs of finite products.
+// Pairs of finite products. What is asked of them (`ProductDigits`) is a predicate and no type: `exact::product` hands out a `Class` of a
+// `Number`, as `classify` does, and a type of 48 digits would be a second class and a second number for products alone.
 #![tactic(auto)]
 
-ghost use Rattle.std.specs.Prelude.{◌≡◌, false, ◌*◌, ◌^◌, ◌<◌};
+ghost use Rattle.std.specs.Prelude.{◌≡◌, false, ◌*◌, ◌^◌};
 ghost use Rattle.rounding_spec.specs.Format.{binary32};
 ghost use Rattle.rounding_spec.specs.Numbers.{number_value};
 ghost use Rattle.augmented_spec.specs.Pairs.{pair_of};
 ghost use Rattle.augmented_spec.specs.Inner.{finite_answer, product_answer, ShortRest};
+ghost use Rattle.augmented_product.specs.Inner.{ProductDigits, SmallProduct};
 
 use augmented_spec::{Flags, Pair};
 use augmented_sum::near;
@@ -15,7 +17,7 @@ use rounding_spec::{Number, Ties};
 
 // Where the exponent is below 149, the rest can have digits below u.
 pub fn of_number(number: Number) -> Pair
-    requires { number.sig < 2 ^ 48 }
+    requires { ProductDigits number }
     ensures { result ≡ product_answer number.sign (number.sig * 2 ^ number.exp) }
 {
     if number.exp < 149 {
@@ -27,7 +29,7 @@ pub fn of_number(number: Number) -> Pair
 
 // The flags alone. Where the exponent is below 149, the product is too small to overflow.
 pub fn flags_of_number(number: Number) -> Flags
-    requires { number.sig < 2 ^ 48 }
+    requires { ProductDigits number }
     ensures { result ≡ (product_answer number.sign (number.sig * 2 ^ number.exp)).flags }
 {
     if number.exp < 149 {
@@ -39,7 +41,7 @@ pub fn flags_of_number(number: Number) -> Flags
 
 // Whether the rest, rounded again, leaves something over; on which side it is makes no difference.
 fn underflows(number: Number) -> bool
-    requires { (number.sig < 2 ^ 48) × (number.exp < 149) }
+    requires { SmallProduct number }
     ensures { result ≡ (product_answer number.sign (number.sig * 2 ^ number.exp)).flags.underflow }
 {
     let first = round_with_rest(Ties::ToZero, number);
@@ -66,7 +68,7 @@ fn with_rest(number: Number) -> Pair
 
 // First is the rounded number, second what that left over, rounded again on its side of first.
 fn twice_rounded(number: Number) -> Pair
-    requires { (number.sig < 2 ^ 48) × (number.exp < 149) }
+    requires { SmallProduct number }
     ensures { result ≡ product_answer number.sign (number.sig * 2 ^ number.exp) }
 {
     let first = round_with_rest(Ties::ToZero, number);

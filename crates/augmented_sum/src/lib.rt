@@ -72,12 +72,12 @@ fn unrounded(x: u32, y: u32) -> u32
     ensures { result ≡ add_step x y }
 {
     if is_infinite(x) & ((x == y) | is_finite(y)) {
-        return x;
+        x
+    } else if is_infinite(y) & is_finite(x) {
+        y
+    } else {
+        nan_of([x, y])
     }
-    if is_infinite(y) & is_finite(x) {
-        return y;
-    }
-    nan_of([x, y])
 }
 
 // Two operands so far apart that they are their own pair, but for the sign of a zero.

@@ -77,7 +77,8 @@ fn finite_sum(a: Number, b: Number) -> Outcome
     round_sum(a.sign, a.sig << gap, b.sign, b.sig, b.exp + 149)
 }
 
-// Two addends ±a * 2^exp and ±b * 2^exp.
+// Two addends ±a * 2^exp and ±b * 2^exp: no two `Number`s, which would have two exponents, and whose signs and significands go on to
+// `exact::signed_sum` as four.
 pub fn round_sum(s: bool, a: u64, t: bool, b: u64, exp: u16) -> Outcome
     requires { (a < 2 ^ 63) × (b < 2 ^ 63) }
     ensures { result ≡ outcome (plus_finite s (a * 2 ^ exp) t (b * 2 ^ exp)) }

@@ -1,1 +1,2 @@
 pub mod Ordering
+pub mod Places

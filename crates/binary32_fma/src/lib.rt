@@ -112,7 +112,7 @@ fn aligned(x: Addends) -> Outcome
     ensures { result ≡ outcome (plus (number_value x.high) (number_value x.low)) }
 {
     let gap = x.high.exp - x.low.exp;
-    let up = choose(gap <= x.room, gap, x.room);
+    let up = gap.min(x.room);
     let low = jammed(x.low.sig, gap - up);
     round_sum(
         x.high.sign,
@@ -128,7 +128,7 @@ fn jammed(b: u64, g: u16) -> u64
     requires { b < 2 ^ 48 }
     ensures { Jammed b g result }
 {
-    let h = choose(g > 48, 48, g);
+    let h = g.min(48);
     let q = b >> h;
     choose(q << h == b, q, q - q % 2 + 1)
 }

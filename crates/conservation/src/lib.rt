@@ -15,7 +15,7 @@ use conservation_spec::NotReplayed;
 use questions::Questions;
 
 // The ith question has the ith operation number and patterns, and the first counts[i] of the lent words to fill. Every misfit is found
-// before anything is changed.
+// before anything is changed. The arrays are those that C lends (`numbers::replay`), of which the clause `Replays` speaks.
 pub fn replay(
     operations: &[u32],
     xs: &[u32],
@@ -42,7 +42,8 @@ pub fn replay(
     Ok(())
 }
 
-// Each question gets what the last one left, of the words and of both totals.
+// Each question gets what the last one left, of the words and of both totals. These stay apart: it is given a part of the words, and a
+// struct of all three would have to promise of every call that it still lends the same ones, as `Wrote` does of a writer's buffer.
 fn ask_all(questions: Questions, words: &mut [u32], first: &mut [u32], other: &mut [u32])
     requires equal { Equal questions }
     requires within { all_within questions.counts.now (length words.old) ≡ true }

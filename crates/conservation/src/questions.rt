@@ -26,6 +26,7 @@ impl<'a> Questions<'a> {
         self.operations.len()
     }
 
+    // By its place: zipped, four arrays come as pairs in pairs, where each part has to be taken out by hand too.
     pub fn get(self, i: usize) -> Question
         requires equal { Equal self }
         requires inside { i < length self.operations.now }

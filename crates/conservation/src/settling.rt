@@ -5,6 +5,7 @@ ghost use Rattle.accumulator_spec.specs.Totals.{of_pattern};
 ghost use Rattle.accumulator_spec.specs.Columns.{column};
 ghost use Rattle.conservation_spec.specs.Lists.{pair_enters, set_terms};
 ghost use Rattle.conservation_spec.specs.Inner.{Settles};
+ghost use Rattle.conservation.specs.Inner.{posed, totals};
 
 use crate::questions::Question;
 use accumulator::{add_pattern, add_product};
@@ -13,9 +14,7 @@ use pattern::{both_finite, flipped};
 
 // The terms of the foot are the filled pair's, never the operands'.
 pub fn settle(question: Question, words: &mut [u32], first: &mut [u32], other: &mut [u32])
-    ensures { Settles (record { operation = question.operation; x = question.x; y = question.y; words = words.old })
-        (record { first = first.entry.now; other = other.old })
-        words.new (record { first = first.exit.now; other = other.new }) }
+    ensures { Settles (posed question words.old) (totals first.entry.now other.old) words.new (totals first.exit.now other.new) }
 {
     let Question {
         operation,

@@ -25,6 +25,8 @@ pub fn infinite_times(s: bool, b: Class) -> Class
     }
 }
 
+// `Operand` stays a predicate, here and for sums: products, scaled operands and rests are `Number`s past its bounds, so that a type for it
+// would be a second number, with a second class.
 pub fn finite_times(m: Number, b: Class) -> Class
     requires operand { Operand m.sig m.exp }
     requires bounded { Bounded Operand b }

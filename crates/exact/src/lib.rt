@@ -38,7 +38,7 @@ pub fn signed_sum(s: bool, a: u64, t: bool, b: u64) -> Signed
     let high = choose(above, a, b);
     let low = choose(above, b, a);
     // An exact zero is minus only where both addends are.
-    let common = choose(s, t, false);
+    let common = s & t;
     Signed {
         sign: choose(above, s, choose(a < b, t, common)),
         sig: choose(s == t, high + low, high - low),

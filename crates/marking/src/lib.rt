@@ -14,7 +14,7 @@ use marking_lines::{allowed, is_true};
 use marking_spec::{Claim, FEWEST_MARKED, MOST_MARKED, NotMarked};
 use worksheet_spec::LINE_SIZE;
 
-// Whether the lines are right.
+// Whether the lines are right. The operation comes as a number, since any may come, and R8.18 says what one that is no operation's is told.
 pub fn mark(operation: u32, x: u32, y: u32, lines: &[u32]) -> Result<bool, NotMarked>
     ensures answer { answer_marked result ≡ marking operation x y lines.now }
     ensures lines_kept { lines.exit.now ≡ lines.entry.now }

@@ -43,8 +43,8 @@ pub enum NotMarked {
     NotTrue { line: u32 },
 }
 
-// An answer as numbers: the refusal's, or 0; the line that 14 or 15 is about, or 0; whether the lines are right, which is false where they
-// are refused.
+// An answer as numbers for C: the refusal's, or 0; the line that 14 or 15 is about, or 0; whether the lines are right, which is false where
+// they are refused.
 #[repr(C)]
 #[derive(Clone, Copy)]
 pub struct MarkedNumbers {

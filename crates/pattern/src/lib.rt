@@ -39,6 +39,7 @@ pub fn classify(x: u32) -> Class
     }
 }
 
+// `is_finite` to `is_zero`, and `larger` beside `smaller`, are no twins: each is one line with a test, or an order, of its own.
 pub fn is_finite(x: u32) -> bool
     ensures { result ≡ is_finite (decode binary32 x) }
 {

@@ -22,7 +22,8 @@ pub fn round(ties: Ties, number: Number) -> u32
 }
 
 // A rounded number, and what the rounding left over, in the unit of the significand that was rounded. `none` is whether that is nothing,
-// which is known before the rest is brought to its unit: asked of the rest, a step took 9 to 13 instructions more (docs/SPEED.md).
+// which is known before the rest is brought to its unit: asked of the rest, a step took 9 to 13 instructions more (docs/SPEED.md). `up` is
+// the side that the rest lies on, and no flag of whether there is one: a rest of 0 has a side too (`up_value`).
 #[derive(Clone, Copy)]
 pub struct WithRest {
     pub pattern: u32,
@@ -67,9 +68,11 @@ pub fn round_with_rest(ties: Ties, number: Number) -> WithRest
 fn last_place(digits: u64) -> u64
     ensures { result ≡ max 149 (digits - 24) }
 {
-    if digits <= 173 { 149 } else { digits - 24 }
+    digits.max(173) - 24
 }
 
+// A word, how many of its digits go and, for `left_over`, what is kept of it stay numbers: only these two private functions take them
+// together, and `keep` and `dist`, which their contracts cite, take them so.
 fn kept(ties: Ties, n: u64, shift: u64) -> u64
     requires { 0 < shift }
     ensures { result ≡ keep ties shift n }
@@ -92,16 +95,16 @@ fn kept_far(ties: Ties, n: u64, shift: u64) -> u64
     ensures { result ≡ keep ties shift n }
 {
     if shift > 64 {
-        return 0;
+        0
+    } else if n > 0x8000_0000_0000_0000 {
+        1
+    } else {
+        0
     }
-    if n > 0x8000_0000_0000_0000 {
-        return 1;
-    }
-    0
 }
 
 // The distance of two numbers, whether the second is the larger, and whether they are equal: the same of `WithRest`, before the rest is
-// brought to its unit.
+// brought to its unit, and with both flags for the same reasons.
 #[derive(Clone, Copy)]
 pub struct Left {
     pub rest: u64,
@@ -167,18 +170,19 @@ pub fn rest_pattern(rest: Number, up: bool) -> u32
 {
     let zero = rest.sig == 0;
     let room = (u64::leading_zeros(2 * rest.sig + 1) - 39) as u16;
-    let shift = choose(room < rest.exp, room, rest.exp);
+    let shift = room.min(rest.exp);
     let exp = choose(zero, 0, rest.exp - shift);
     let minus = choose(zero, rest.sign, rest.sign != up);
     packed(minus, exp as u64, rest.sig << shift)
 }
 
-// A carry out of the fraction runs into the exponent field by itself.
+// A carry out of the fraction runs into the exponent field by itself. This takes no `Number`, whose exponent has 16 bits: that would ask
+// more of callers than `exp ≤ 0x1_0000` does.
 pub fn packed(sign: bool, exp: u64, sig: u64) -> u32
     requires { (exp ≤ 0x1_0000) × (sig ≤ 0x100_0000) }
     ensures { result ≡ packed sign exp sig }
 {
     let bits = exp * 0x80_0000 + sig;
-    let below = choose(bits < INFINITY, bits, INFINITY) as u32;
+    let below = bits.min(INFINITY) as u32;
     if sign { 0x8000_0000 + below } else { below }
 }

@@ -21,7 +21,8 @@ use Rattle.sheet_spec.specs.declared.Progressed.{Progressed}
 use Rattle.sheet_spec.proofs.Lengths.{byte-most}
 use Rattle.sheet_spec.proofs.Bytes.{states-join, texts-join}
 use Rattle.sheet_spec.proofs.Positions.{halted}
-use Rattle.sheet_feed.specs.Inner.{TakesByte}
+use Rattle.sheet_feed.specs.Inner.{state_in, TakesByte}
+use Rattle.sheet_feed.specs.declared.step.Run.{Run}
 
 -- ---- the loop: what has been taken, and what has been printed
 pub record Taken (bytes : List ℕ) (s : State) (out : List ℕ) (at used : ℕ) (here : State) (out' : List ℕ) : Type 0 where
@@ -51,7 +52,7 @@ module _ (bytes : List ℕ) (s : State) (at : ℕ) (below : at < length bytes) w
       sym (ap (bytes_text s) next-bytes ∙ texts-join (take at bytes) (get_or bytes at 0 ∷ []) s ∙ ap (λ (t : List ℕ). bytes_text s (take at bytes) ++ t) b)
 
 -- one byte more, with the rest of the buffer lent
-module _ (bytes : List ℕ) (s : State) (out : List ℕ) (at used : ℕ) (here : State) (out' : List ℕ) (h : Taken bytes s out at used here out') (room : line_room ≤ length out' - used) where
+module _ (bytes : List ℕ) (s : State) (out : List ℕ) (at used : ℕ) (q : Run) (out' : List ℕ) (h : Taken bytes s out at used (state_in q) out') (room : line_room ≤ length out' - used) where
   abbrev rest : List ℕ
   rest = take (length out' - used) (drop used out')
 
@@ -61,8 +62,11 @@ module _ (bytes : List ℕ) (s : State) (out : List ℕ) (at used : ℕ) (here :
   pub room-for-line : line_room ≤ length rest
   room-for-line = omega (arith, rest-long)
 
-  module _ (r : Progressed) (after : State) (part : List ℕ) (t : TakesByte here (get_or bytes at 0) rest r after part) where
-    pub used-within : used + r.written ≤ length out'
+  abbrev here : State
+  here = state_in q
+
+  module _ (n : ℕ) (v : Run) (part : List ℕ) (t : TakesByte q (get_or bytes at 0) rest n v part) where
+    pub used-within : used + n ≤ length out'
     used-within = omega (arith, t.text.ends, byte-most here (get_or bytes at 0))
 
     now-long : length (put_mid used (length out' - used) out' part) ≡ length out'
@@ -74,24 +78,24 @@ module _ (bytes : List ℕ) (s : State) (out : List ℕ) (at used : ℕ) (here :
         elim (dec_le (suc k) at) [
           | yes l ↦ h.each k l
           | no l ↦ let e : at ≡ k = omega arith in
-              subst (λ (n : ℕ). ((take_bytes s (take n bytes)).stopped ≡ false) × (length (bytes_text s (take n bytes)) + line_room ≤ length out)) e
-              (ap (λ (q : State). q.stopped) (sym h.state) ∙ going, omega (arith, h.text.ends, h.long, h.fits))
+              subst (λ (i : ℕ). ((take_bytes s (take i bytes)).stopped ≡ false) × (length (bytes_text s (take i bytes)) + line_room ≤ length out)) e
+              (ap (λ (w : State). w.stopped) (sym h.state) ∙ going, omega (arith, h.text.ends, h.long, h.fits))
         ]
 
-    pub one-taken : here.stopped ≡ false → at < length bytes → Taken bytes s out (at + 1) (used + r.written) after (put_mid used (length out' - used) out' part)
+    pub one-taken : here.stopped ≡ false → at < length bytes → Taken bytes s out (at + 1) (used + n) (state_in v) (put_mid used (length out' - used) out' part)
     one-taken going below = record {
       within = omega arith;
       fits = omega (arith, used-within, now-long);
-      state = t.state ∙ ap (λ (q : State). take_byte q (get_or bytes at 0)) h.state ∙ next-state bytes s at below;
+      state = t.state ∙ ap (λ (w : State). take_byte w (get_or bytes at 0)) h.state ∙ next-state bytes s at below;
       text =
-          subst (λ (l : List ℕ). Put out 0 l (used + r.written) (put_mid used (length out' - used) out' part))
-          (ap (λ (q : State). bytes_text s (take at bytes) ++ byte_text q (get_or bytes at 0)) h.state ∙ next-text bytes s at below) (after-part h.text h.fits t.text);
+          subst (λ (l : List ℕ). Put out 0 l (used + n) (put_mid used (length out' - used) out' part))
+          (ap (λ (w : State). bytes_text s (take at bytes) ++ byte_text w (get_or bytes at 0)) h.state ∙ next-text bytes s at below) (after-part h.text h.fits t.text);
       each = so-each going;
       long = now-long ∙ h.long;
     }
 
 -- ---- the end of the loop: no byte is left, or there is no room for another line's text, or the run has stopped
-pub feeds : (bytes : List ℕ) (s : State) (out : List ℕ) (r : Progressed) (line total out' : List ℕ) → Taken bytes s out r.taken r.written (state_of r.position line total) out'
+feeds : (bytes : List ℕ) (s : State) (out : List ℕ) (r : Progressed) (line total out' : List ℕ) → Taken bytes s out r.taken r.written (state_of r.position line total) out'
     → (length out' - r.written < line_room) ⊎ (goes_on r.position ≡ false) → Feeds bytes s out r (state_of r.position line total) out'
 feeds bytes s out r line total out' h w = record {
   within = h.within;
@@ -101,9 +105,24 @@ feeds bytes s out r line total out' h w = record {
   whole = elim w [ inl k ↦ inr (inr (omega (arith, h.long, h.fits))) | inr e ↦ inr (inl (halted r.position line total e)) ];
 }
 
-pub feeds-all : (bytes : List ℕ) (s : State) (out : List ℕ) (at : ℕ) (r : Progressed) (line total out' : List ℕ) → Taken bytes s out at r.written (state_of r.position line total) out'
+feeds-all : (bytes : List ℕ) (s : State) (out : List ℕ) (at : ℕ) (r : Progressed) (line total out' : List ℕ) → Taken bytes s out at r.written (state_of r.position line total) out'
     → length bytes ≤ at → r.taken ≡ length bytes → Feeds bytes s out r (state_of r.position line total) out'
 feeds-all bytes s out at r line total out' h end is =
     let e : at ≡ r.taken = omega (arith, h.within) in
     let all = subst (λ (n : ℕ). Taken bytes s out n r.written (state_of r.position line total) out') e h in
     record { within = all.within; state = all.state; text = all.text; each = all.each; whole = inl is }
+
+-- the run gives back what it was lent
+module _ (bytes : List ℕ) (s : State) (out : List ℕ) (at used : ℕ) (q : Run) (line total out' : List ℕ) (h : Taken bytes s out at used (state_in q) out')
+    (same-line : q.line.now ≡ line) (same-total : q.total.now ≡ total) where
+  given-back : Taken bytes s out at used (state_of q.position line total) out'
+  given-back =
+      subst (λ (l : List ℕ). Taken bytes s out at used (state_of q.position l total) out') same-line
+      (subst (λ (t : List ℕ). Taken bytes s out at used (state_of q.position q.line.now t) out') same-total h)
+
+  pub run-feeds : (length out' - used < line_room) ⊎ (goes_on q.position ≡ false)
+      → Feeds bytes s out (record { position = q.position; taken = at; written = used }) (state_of q.position line total) out'
+  run-feeds w = feeds bytes s out (record { position = q.position; taken = at; written = used }) line total out' given-back w
+
+  pub run-feeds-all : length bytes ≤ at → Feeds bytes s out (record { position = q.position; taken = length bytes; written = used }) (state_of q.position line total) out'
+  run-feeds-all end = feeds-all bytes s out at (record { position = q.position; taken = length bytes; written = used }) line total out' given-back end refl

@@ -11,7 +11,8 @@ ghost use Rattle.sheet_feed.specs.Inner.{LastLine};
 use augmented_spec::Halves;
 use sheet_spec::{KEPT_BYTES, Position, Progressed};
 
-// A line without newline counts, if it has a byte.
+// A line without newline counts, if it has a byte. `finish` is lent the line only to read, which a `Run` holds to change: its parts come
+// apart here, as they do to `end_line`, which both call.
 pub fn open_line(
     position: Position,
     line: &[u8; KEPT_BYTES],

@@ -10,6 +10,7 @@ ghost use Rattle.sheet_spec.specs.Calls.{Feeds, Ends};
 use sheet_line::position;
 pub use sheet_line::position::begin;
 use sheet_spec::{KEPT_BYTES, LAST_ROOM, Position, Progressed};
+use step::Run;
 
 // Bytes are taken as long as there is room for another line's text, so that the caller can write out in large pieces.
 pub fn feed(
@@ -22,22 +23,24 @@ pub fn feed(
     ensures { Feeds bytes.now (state_of position line.old total.old) out.old result
         (state_of result.position line.new total.new) out.new }
 {
-    let mut position = position;
+    let mut run = Run {
+        position,
+        line,
+        total,
+    };
     let mut written = 0;
     for (taken, &b) in bytes.iter().enumerate() {
-        if !position::more(position, out.len() - written) {
+        if !position::more(run.position, out.len() - written) {
             return Progressed {
-                position,
+                position: run.position,
                 taken,
                 written,
             };
         }
-        let next = step::byte(b, position, line, total, &mut out[written..]);
-        position = next.position;
-        written += next.written;
+        written += run.byte(b, &mut out[written..]);
     }
     Progressed {
-        position,
+        position: run.position,
         taken: bytes.len(),
         written,
     }

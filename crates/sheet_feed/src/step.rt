@@ -3,63 +3,54 @@ ghost use Rattle.std.specs.Prelude.{◌≡◌, true, ◌≤◌, ◌<◌, length}
 ghost use Rattle.transcript_spec.specs.Texts.{stop_text, line_room};
 ghost use Rattle.transcript_spec.specs.Buffers.{Put};
 ghost use Rattle.sheet_spec.specs.Printed.{most_input_lines};
-ghost use Rattle.sheet_spec.specs.Positions.{goes_on, state_of};
-ghost use Rattle.sheet_feed.specs.Inner.{TakesByte, stopped_at, Extends};
+ghost use Rattle.sheet_spec.specs.States.{extend};
+ghost use Rattle.sheet_spec.specs.Positions.{goes_on};
+ghost use Rattle.sheet_feed.specs.Inner.{TakesByte, SameLent, state_in, stopped_at};
 
 use sheet_line::position;
-use sheet_spec::{KEPT_BYTES, MOST_INPUT_LINES, Position, Progressed};
+use sheet_spec::{KEPT_BYTES, MOST_INPUT_LINES, Position};
 
-pub fn byte(
-    b: u8,
-    position: Position,
-    line: &mut [u8; KEPT_BYTES],
-    total: &mut [u32],
-    out: &mut [u8],
-) -> Progressed
-    requires { (goes_on position ≡ true) × (line_room ≤ length out.old) }
-    ensures { TakesByte (state_of position line.old total.old) b out.old result
-        (state_of result.position line.new total.new) out.new }
-{
-    if position.lines == MOST_INPUT_LINES {
-        return stopped(position, out);
-    }
-    if b == b'\n' {
-        let mut ended = sheet_line::end_line(position, line, total, out);
-        ended.taken = 1;
-        return ended;
-    }
-    extended(position, line, b)
+// A run, with what it is lent: the open line's bytes and the total.
+#[derive(Drop)]
+pub struct Run<'a> {
+    pub position: Position,
+    pub line: &'a mut [u8; KEPT_BYTES],
+    pub total: &'a mut [u32],
 }
 
-fn stopped(position: Position, out: &mut [u8]) -> Progressed
-    requires { line_room ≤ length out.old }
-    ensures { (result.position ≡ stopped_at position) × (result.taken ≡ 1)
-        × Put out.old 0 stop_text result.written out.new }
-{
-    let written = transcript::stop(out);
-    let mut last = position;
-    last.length = 0;
-    last.stopped = true;
-    Progressed {
-        position: last,
-        taken: 1,
-        written,
+impl Run<'_> {
+    // Answers how many bytes are written.
+    pub fn byte(&mut self, b: u8, out: &mut [u8]) -> usize
+        requires { (goes_on self.old.position ≡ true) × (line_room ≤ length out.old) }
+        ensures { TakesByte self.old b out.old result self.new out.new }
+    {
+        if self.position.lines == MOST_INPUT_LINES {
+            return self.stop(out);
+        }
+        if b == b'\n' {
+            let ended = sheet_line::end_line(self.position, self.line, self.total, out);
+            self.position = ended.position;
+            return ended.written;
+        }
+        self.extend(b);
+        0
     }
-}
 
-fn extended(position: Position, line: &mut [u8; KEPT_BYTES], b: u8) -> Progressed
-    requires { (goes_on position ≡ true) × (position.lines < most_input_lines) }
-    ensures { Extends position line.old b result line.new }
-{
-    let length = position::kept(position.length, line, b);
-    Progressed {
-        position: Position {
-            lines: position.lines,
-            good: position.good,
-            length,
-            stopped: false,
-        },
-        taken: 1,
-        written: 0,
+    fn stop(&mut self, out: &mut [u8]) -> usize
+        requires { line_room ≤ length out.old }
+        ensures { (self.new.position ≡ stopped_at self.old.position) × (self.new.line ≡ self.old.line)
+            × (self.new.total ≡ self.old.total) × Put out.old 0 stop_text result out.new }
+    {
+        self.position.length = 0;
+        self.position.stopped = true;
+        transcript::stop(out)
+    }
+
+    fn extend(&mut self, b: u8)
+        requires { (goes_on self.old.position ≡ true) × (self.old.position.lines < most_input_lines) }
+        ensures state { state_in self.new ≡ extend (state_in self.old) b }
+        ensures lent { SameLent self.old self.new }
+    {
+        self.position.length = position::kept(self.position.length, self.line, b);
     }
 }

@@ -1,3 +1,2 @@
-pub mod Extended
 pub mod Ready
 pub mod Answering

@@ -16,6 +16,8 @@ pub const CLOSING_ROOM: usize = 60;
 pub const LAST_ROOM: usize = LINE_ROOM + CLOSING_ROOM;
 
 // Where a run stands in its input: lines that have ended, good ones among them, bytes of the open line, and whether `stop` was printed.
+// `stopped` is a field, as in the specification's `State`: after `stop` too the counts stay, and `state_of` and `Feeds` (R8.15) speak of
+// both.
 #[derive(Clone, Copy)]
 pub struct Position {
     pub lines: u32,

@@ -7,14 +7,13 @@ use native.Mathlib.Omega.{arith}
 use native.Mathlib.Decide.{dec_le}
 use lib.ListN.{length, take}
 use lib.Seq.{take_all}
-use Rattle.std.specs.Prelude.{Option, Result, Ok, Err}
+use Rattle.std.specs.Prelude.{Option, Result, Ok}
 use Rattle.std.specs.declared.ops.ControlFlow.{ControlFlow}
 use Rattle.transcript_spec.specs.Texts.{line_room}
 use Rattle.sheet_spec.specs.States.{State, take_bytes, bytes_text}
 use Rattle.sheet_spec.specs.Positions.{goes_on, state_of}
 use Rattle.sheet_spec.specs.declared.Position.{Position}
-use Rattle.sheet_stream.specs.declared.NotWhole.{NotWhole}
-use Rattle.sheet_stream.specs.Inner.{AfterRead, position_of, another}
+use Rattle.sheet_stream.specs.Inner.{AfterRead, another}
 use Rattle.sheet_stream.specs.Written.{Wrote, PassWrites}
 use Rattle.sheet_stream.proofs.Writing.{wrote_none, wrote_at}
 
@@ -38,30 +37,17 @@ not_stopped p line total = by (goes_on p)
     by false = refl
 
 module _ {E : Type 0} (got : Result ℕ E) (n : ℕ) (is : got ≡ Ok n) (bytes : List ℕ) (room : ℕ) where
-  module _ (p : Position) (line total line' total' : List ℕ) (k : ℕ) (least : k ≡ min n (length bytes)) where
-    -- bytes that were taken, with all that they print written
-    pub taken : (n ≡ 0 → ⊥) → (flow : ControlFlow Position Position) → another flow ≡ goes_on (position_of flow)
-        → (line_room ≤ room → state_of (position_of flow) line' total' ≡ take_bytes (state_of p line total) (take k bytes))
-        → AfterRead got bytes room p line total (Ok flow) line' total'
-    taken z flow going t = subst (λ (g : Result ℕ E). AfterRead g bytes room p line total (Ok flow) line' total') (sym is) (by n z e)
-      where
-        e : take k bytes ≡ take n bytes
-        e = ap (λ (m : ℕ). take m bytes) least ∙ take-least n bytes
+  -- bytes that were taken, with all that they print written
+  pub taken : {A B : Type 0} (s : State) (p : Position) (line total : List ℕ) (k : ℕ) → k ≡ min n (length bytes) → (n ≡ 0 → ⊥) → (flow : ControlFlow A B) → another flow ≡ goes_on p
+      → (line_room ≤ room → state_of p line total ≡ take_bytes s (take k bytes)) → AfterRead got bytes room s (Ok flow) (state_of p line total)
+  taken s p line total k least z flow going t = subst (λ (g : Result ℕ E). AfterRead g bytes room s (Ok flow) (state_of p line total)) (sym is) (by n z e)
+    where
+      e : take k bytes ≡ take n bytes
+      e = ap (λ (m : ℕ). take m bytes) least ∙ take-least n bytes
 
-        by : (m : ℕ) → (m ≡ 0 → ⊥) → take k bytes ≡ take m bytes → AfterRead {E = E} (Ok m) bytes room p line total (Ok flow) line' total'
-        by zero z f = absurd (z refl)
-        by (suc m) z f = (
-          going ∙ not_stopped (position_of flow) line' total',
-          λ h. t h ∙ ap (λ (l : List ℕ). take_bytes (state_of p line total) l) f,
-        )
-
-    -- bytes that were taken until a write failed
-    pub cut : (n ≡ 0 → ⊥) → (why : NotWhole) → AfterRead got bytes room p line total (Err why) line' total'
-    cut z why = subst (λ (g : Result ℕ E). AfterRead g bytes room p line total (Err why) line' total') (sym is) (by n z)
-      where
-        by : (m : ℕ) → (m ≡ 0 → ⊥) → AfterRead {E = E} (Ok m) bytes room p line total (Err why) line' total'
-        by zero z = absurd (z refl)
-        by (suc m) z = tt
+      by : (m : ℕ) → (m ≡ 0 → ⊥) → take k bytes ≡ take m bytes → AfterRead {E = E} (Ok m) bytes room s (Ok flow) (state_of p line total)
+      by zero z f = absurd (z refl)
+      by (suc m) z f = (going ∙ not_stopped p line total, λ h. t h ∙ ap (λ (l : List ℕ). take_bytes s l) f)
 
   module _ (s : State) (w v : Option (List ℕ)) (whole : Bool) where
     pub wrote_so-many : (k : ℕ) → k ≡ min n (length bytes) → (line_room ≤ room → Wrote w v whole (bytes_text s (take k bytes))) → PassWrites got bytes room s w v whole

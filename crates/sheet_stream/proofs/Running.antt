@@ -8,18 +8,15 @@ use native.Mathlib.Omega.{arith}
 use borrow.Author.Tests.{not-true, not-false}
 use lib.ListN.{length, take, length-append}
 use Rattle.std.specs.Prelude.{Option, Some, None, IfSome, Result, Ok, Err, IsErr, is_ok}
-use Rattle.std.specs.Io.KnownBytes.{Keeps, Appends, Consumes, IsAtEnd, ReadConsumes}
+use Rattle.std.specs.Io.KnownBytes.{Appends, Consumes, IsAtEnd, ReadConsumes}
 use Rattle.std.proofs.KnownBytes.{Appends-nil, Appends-trans, Appends-kept, Consumes-nil, Consumes-trans}
 use Rattle.transcript_spec.specs.Texts.{end_text, line_room}
 use Rattle.sheet_spec.specs.Printed.{output, Progress, read_text, closing_text}
 use Rattle.accumulator_spec.specs.Totals.{reading}
 use Rattle.sheet_spec.specs.States.{State, begin, full, end_line, extend, take_byte, byte_text, take_bytes, bytes_text, last_text, last_line, close_text}
 use Rattle.sheet_spec.proofs.Bytes.{byte-by-byte, nothing-after-stop, states-join, texts-join}
-use Rattle.sheet_spec.specs.Positions.{state_of}
-use Rattle.sheet_spec.specs.declared.Position.{Position}
 use Rattle.std.specs.declared.ops.ControlFlow.{ControlFlow}
 use Rattle.std.specs.declared.ops.ControlFlow.TheVariants.{Continue, Break}
-use Rattle.sheet_stream.specs.declared.NotWhole.{NotWhole}
 use Rattle.sheet_stream.specs.Inner.{AfterRead}
 use Rattle.sheet_stream.specs.Written.{AppendsPart, Wrote, PassWrites, RunWrites}
 use Rattle.sheet_stream.proofs.Writing.{part-of_more, part-of_all, part-after, wrote_more, wrote_at, wrote_part}
@@ -125,9 +122,6 @@ map-some : (o : Option (List ℕ)) (P Q : List ℕ → Type 0) → ((x : List �
 map-some None P Q m h = tt
 map-some (Some x) P Q m h = m x h
 
-part-kept : (w v u : Option (List ℕ)) (text : List ℕ) → AppendsPart w v text → Keeps v u → AppendsPart w u text
-part-kept w v u text (part, left, split, some, appended) kept = (part, left, split, some, Appends-kept w v u part appended kept)
-
 nothing-left : (r : Option (List ℕ)) (rest : List ℕ) (s : State) → r ≡ Some rest → IsAtEnd r ⊎ (s.stopped ≡ true) → left_text s rest ≡ close_text s
 unfolding bytes_text take_bytes
 nothing-left None rest s e last = absurd (no e)
@@ -162,11 +156,7 @@ pub endless : (r₀ r w₀ w : Option (List ℕ)) (s : State) → Sofar r₀ r w
 endless r₀ r w₀ w s f = let (bytes, read, state, written) = f.whole in cut r₀ w₀ w (unfinished r₀ r w₀ w s bytes read state f.going written)
 
 -- ---- one read, and what is done with its answer
-module _ (r₀ r r' w₀ w w' : Option (List ℕ)) (p : Position) (line total line' total' buffer : List ℕ) (room : ℕ) (f : Sofar r₀ r w₀ w (state_of p line total))
-    (some : 0 < length buffer) (enough : line_room ≤ room) where
-  abbrev s : State
-  s = state_of p line total
-
+module _ (r₀ r r' w₀ w w' : Option (List ℕ)) (s after : State) (buffer : List ℕ) (room : ℕ) (f : Sofar r₀ r w₀ w s) (some : 0 < length buffer) (enough : line_room ≤ room) where
   -- a read or a write that failed
   pub failed : {E : Type 0} (got : Result ℕ E) → ReadConsumes r r' got buffer → PassWrites got buffer room s w w' false → RunWrites r₀ w₀ w' false
   failed (Err why) kept kept' =
@@ -177,9 +167,9 @@ module _ (r₀ r r' w₀ w w' : Option (List ℕ)) (p : Position) (line total li
       let all : Consumes r₀ r' (bytes ++ take n buffer) = Consumes-trans r₀ r r' bytes (take n buffer) read consumed.0 in
       cut r₀ w₀ w' (in-part r₀ r' w₀ w w' s bytes (take n buffer) all state written ((wrote enough).part refl))
 
-  answered : (n : ℕ) → Consumes r r' (take n buffer) → (after : State) → after ≡ take_bytes s (take n buffer) → Wrote w w' true (bytes_text s (take n buffer))
+  answered : (n : ℕ) → Consumes r r' (take n buffer) → after ≡ take_bytes s (take n buffer) → Wrote w w' true (bytes_text s (take n buffer))
       → (bytes : List ℕ) × Consumes r₀ r' bytes × (after ≡ take_bytes begin bytes) × Appends w₀ w' (bytes_text begin bytes)
-  answered n consumed after is wrote =
+  answered n consumed is wrote =
       let (bytes, read, state, written) = f.whole in
       let more : List ℕ = take n buffer in
       let joined : take_bytes s more ≡ take_bytes begin (bytes ++ more) = ap (λ (v : State). take_bytes v more) state ∙ sym (states-join bytes more begin) in
@@ -191,44 +181,35 @@ module _ (r₀ r r' w₀ w w' : Option (List ℕ)) (p : Position) (line total li
         subst (λ (l : List ℕ). Appends w₀ w' l) text (Appends-trans w₀ w w' (bytes_text begin bytes) (bytes_text s more) written (wrote.all refl)),
       )
 
-  none-taken : (t : State) → t ≡ s → t ≡ take_bytes s (take 0 buffer)
+  none-taken : after ≡ s → after ≡ take_bytes s (take 0 buffer)
   unfolding take_bytes
-  none-taken t e = e
+  none-taken e = e
 
-  goes-on-at : {E : Type 0} (got : Result ℕ E) (q : Position) → ReadConsumes r r' got buffer → AfterRead got buffer room p line total (Ok (Continue q)) line' total'
-      → PassWrites got buffer room s w w' true → Sofar r₀ r' w₀ w' (state_of q line' total')
-  goes-on-at (Err why) q c a wrote = cc (a.0)
-  goes-on-at (Ok zero) q c a wrote = cc (a.0)
-  goes-on-at (Ok (suc k)) q c a wrote = record {
-    whole = answered (suc k) c.0 (state_of q line' total') (a.1 enough) (wrote enough);
-    going = not-true _ (sym a.0);
-  }
+  stops : (bytes : List ℕ) × Consumes r₀ r' bytes × (after ≡ take_bytes begin bytes) × Appends w₀ w' (bytes_text begin bytes)
+      → IsAtEnd r' ⊎ (after.stopped ≡ true) → (v : Option (List ℕ)) (whole : Bool) → Wrote w' v whole (close_text after) → RunWrites r₀ w₀ v whole
+  stops so_far last v whole wrote =
+      let (bytes, read, state, written) = so_far in finished w₀ w' v after bytes state written r₀ r' read last whole wrote
 
-  stops : (q : Position) → (bytes : List ℕ) × Consumes r₀ r' bytes × (state_of q line' total' ≡ take_bytes begin bytes) × Appends w₀ w' (bytes_text begin bytes)
-      → IsAtEnd r' ⊎ ((state_of q line' total').stopped ≡ true) → (v : Option (List ℕ)) (whole : Bool) → Wrote w' v whole (close_text (state_of q line' total')) → RunWrites r₀ w₀ v whole
-  stops q so_far last v whole wrote =
-      let (bytes, read, state, written) = so_far in finished w₀ w' v (state_of q line' total') bytes state written r₀ r' read last whole wrote
+  module _ {E : Type 0} (A B : Type 0) where
+    goes-on-at : (got : Result ℕ E) (q : B) → ReadConsumes r r' got buffer → AfterRead {A = A} got buffer room s (Ok (Continue q)) after
+        → PassWrites got buffer room s w w' true → Sofar r₀ r' w₀ w' after
+    goes-on-at (Err why) q c a wrote = cc (a.0)
+    goes-on-at (Ok zero) q c a wrote = cc (a.0.1)
+    goes-on-at (Ok (suc k)) q c a wrote = record { whole = answered (suc k) c.0 (a.1 enough) (wrote enough); going = not-true _ (sym a.0) }
 
-  closes-at : {E : Type 0} (got : Result ℕ E) (q : Position) → ReadConsumes r r' got buffer
-      → AfterRead got buffer room p line total (Ok (Break q)) line' total' → PassWrites got buffer room s w w' true
-      → (v : Option (List ℕ)) (whole : Bool) → Wrote w' v whole (close_text (state_of q line' total')) → RunWrites r₀ w₀ v whole
-  closes-at (Err why) q c a wrote v whole last = cc (a.0)
-  closes-at (Ok zero) q c a wrote v whole last =
-      let same : state_of q line' total' ≡ s = ap (λ (k : Position). state_of k line' total') (the-same q a.0) ∙ a.1 in
-      stops q (answered 0 c.0 (state_of q line' total') (none-taken _ same) (wrote enough)) (inl (c.1 refl some)) v whole last
-    where
-      the-same : (q : Position) → ◌≡◌ {A = Result (ControlFlow Position Position) NotWhole} (Ok (Break q)) (Ok (Break p)) → q ≡ p
-      the-same q e = cc
-  closes-at (Ok (suc k)) q c a wrote v whole last =
-      stops q (answered (suc k) c.0 (state_of q line' total') (a.1 enough) (wrote enough)) (inr (not-false _ (sym a.0))) v whole last
+    closes-at : (got : Result ℕ E) (q : A) → ReadConsumes r r' got buffer → AfterRead {B = B} got buffer room s (Ok (Break q)) after → PassWrites got buffer room s w w' true
+        → (v : Option (List ℕ)) (whole : Bool) → Wrote w' v whole (close_text after) → RunWrites r₀ w₀ v whole
+    closes-at (Err why) q c a wrote v whole last = cc (a.0)
+    closes-at (Ok zero) q c a wrote v whole last = stops (answered 0 c.0 (none-taken a.1) (wrote enough)) (inl (c.1 refl some)) v whole last
+    closes-at (Ok (suc k)) q c a wrote v whole last = stops (answered (suc k) c.0 (a.1 enough) (wrote enough)) (inr (not-false _ (sym a.0))) v whole last
 
-  module _ {E : Type 0} (got : Result ℕ E) (flow : ControlFlow Position Position) (q : Position) (c : ReadConsumes r r' got buffer)
-      (a : AfterRead got buffer room p line total (Ok flow) line' total') (wrote : PassWrites got buffer room s w w' true) where
-    at-flow : (f : ControlFlow Position Position) → flow ≡ f → AfterRead got buffer room p line total (Ok f) line' total'
-    at-flow f e = subst (λ (f : ControlFlow Position Position). AfterRead got buffer room p line total (Ok f) line' total') e a
+    module _ (got : Result ℕ E) (flow : ControlFlow A B) (c : ReadConsumes r r' got buffer) (a : AfterRead got buffer room s (Ok flow) after)
+        (wrote : PassWrites got buffer room s w w' true) where
+      at-flow : (f : ControlFlow A B) → flow ≡ f → AfterRead got buffer room s (Ok f) after
+      at-flow f e = subst (λ (f : ControlFlow A B). AfterRead got buffer room s (Ok f) after) e a
 
-    pub goes-on : flow ≡ Continue q → Sofar r₀ r' w₀ w' (state_of q line' total')
-    goes-on e = goes-on-at got q c (at-flow (Continue q) e) wrote
+      pub goes-on : (q : B) → flow ≡ Continue q → Sofar r₀ r' w₀ w' after
+      goes-on q e = goes-on-at got q c (at-flow (Continue q) e) wrote
 
-    pub closes : flow ≡ Break q → (v : Option (List ℕ)) (whole : Bool) → Wrote w' v whole (close_text (state_of q line' total')) → RunWrites r₀ w₀ v whole
-    closes e v whole last = closes-at got q c (at-flow (Break q) e) wrote v whole last
+      pub closes : (q : A) → flow ≡ Break q → (v : Option (List ℕ)) (whole : Bool) → Wrote w' v whole (close_text after) → RunWrites r₀ w₀ v whole
+      closes q e v whole last = closes-at got q c (at-flow (Break q) e) wrote v whole last

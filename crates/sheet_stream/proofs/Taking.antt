@@ -39,9 +39,6 @@ module _ (bytes : List ℕ) (s : State) (at : ℕ) where
   pub all-after-stop : (p : Position) (line total : List ℕ) → state_of p line total ≡ take_bytes s (take at bytes) → p.stopped ≡ true → state_of p line total ≡ take_bytes s bytes
   all-after-stop p line total e h = rest-after-stop (state_of p line total) e (halted p line total (has-stopped p h))
 
-  pub all-taken : (t : State) → t ≡ take_bytes s (take at bytes) → length bytes ≤ at → t ≡ take_bytes s bytes
-  all-taken t e h = e ∙ ap (take_bytes s) (take_all at bytes h)
-
   -- what is printed so far, and what of the rest
   text-split : bytes_text s bytes ≡ bytes_text s (take at bytes) ++ bytes_text (take_bytes s (take at bytes)) (drop at bytes)
   text-split = ap (bytes_text s) (sym (take-append-drop at bytes)) ∙ texts-join (take at bytes) (drop at bytes) s

@@ -1,15 +1,15 @@
 -- Texts that are written one after another, all of each or a part.
 use mathlib.Core.Path.{◌≡◌, refl, sym, ap, ◌∙◌, subst}
 use mathlib.Core.Bool.{true≢false, Bool, true, false}
-use mathlib.Core.List.{List, [], ◌++◌, append_assoc, append-nil}
+use mathlib.Core.List.{List, [], ◌++◌, append_assoc}
 use Prim.Native.Nat.{ℕ, ◌+◌, ◌-◌, ◌≤◌, ◌<◌}
 use native.Mathlib.Omega.{arith}
-use lib.ListN.{length, take, drop, take-append-drop, length-drop, length-append}
-use lib.Seq.{take-add, take_all}
+use lib.ListN.{length, take, drop, length-drop, length-append}
+use lib.Seq.{take-add}
 use Rattle.std.specs.Prelude.{Option, Result, Ok, Err, IsErr, is_ok}
-use Rattle.std.specs.Io.KnownBytes.{Keeps, Appends}
+use Rattle.std.specs.Io.KnownBytes.{Appends}
 use Rattle.std.proofs.lemmas.List.{take_rest}
-use Rattle.std.proofs.KnownBytes.{Appends-nil, Appends-trans, Appends-kept}
+use Rattle.std.proofs.KnownBytes.{Appends-nil, Appends-trans}
 use Rattle.sheet_stream.specs.Written.{AppendsPart, Wrote}
 
 -- ---- a part of a text
@@ -71,24 +71,3 @@ module _ (text : List ℕ) (w v u : Option (List ℕ)) (done : ℕ) (so_far : Ap
   more-written n next =
       let rest = subst (λ (l : List ℕ). Appends v u (take n l)) (take_rest text done) next in
       subst (λ (l : List ℕ). Appends w u l) (sym (take-add done n text)) (Appends-trans w v u (take done text) (take n (drop done text)) so_far rest)
-
-  -- a write that takes none leaves a part
-  pub stopped-at : Keeps v u → done < length text → AppendsPart w u text
-  stopped-at kept inside = (
-    take done text,
-    drop done text,
-    sym (take-append-drop done text),
-    omega (arith, inside, length-drop done text),
-    Appends-kept w v u (take done text) so_far kept,
-  )
-
-pub kept-none : (v u : Option (List ℕ)) (text : List ℕ) (n : ℕ) → n ≡ 0 → Appends v u (take n text) → Keeps v u
-kept-none v u text n e h = by v u (subst (λ (k : ℕ). Appends v u (take k text)) e h)
-  where
-    by : (a b : Option (List ℕ)) → Appends a b [] → Keeps a b
-    by Option.None b p = tt
-    by (Option.Some x) Option.None p = p
-    by (Option.Some x) (Option.Some y) p = p ∙ append-nil x
-
-pub all-written : (text : List ℕ) (w v : Option (List ℕ)) (done : ℕ) → Appends w v (take done text) → length text ≤ done → Appends w v text
-all-written text w v done so_far h = subst (λ (l : List ℕ). Appends w v l) (take_all done text h) so_far

@@ -2,7 +2,7 @@
 // sheet_feed's.
 // Where a reader says which bytes it has left, and a writer which bytes it holds, as those in memory do, `run`'s contract says what was
 // written. Of a file, a pipe or a terminal no contract can say what a call read or wrote. What is done next, `pass` says of any read's
-// answer, and `closing` of the input's end.
+// answer, and `close` of the input's end.
 // A read or a write that fails is said on standard error, and nothing more is printed (R9.12): a text without its last lines is not taken
 // for a whole one.
 #![tactic(auto)]
@@ -13,9 +13,8 @@ ghost use Rattle.std.specs.Prelude.{◌≡◌, ◌≤◌, true, is_ok, length, I
 ghost use Rattle.std.specs.Io.KnownBytes.{Keeps, Appends};
 ghost use Rattle.transcript_spec.specs.Texts.{line_room};
 ghost use Rattle.sheet_spec.specs.States.{bytes_text, take_bytes, close_text};
-ghost use Rattle.sheet_spec.specs.Positions.{state_of};
 ghost use Rattle.sheet_spec.specs.Calls.{last_room};
-ghost use Rattle.sheet_stream.specs.Inner.{AfterRead};
+ghost use Rattle.sheet_stream.specs.Inner.{AfterRead, state_in};
 ghost use Rattle.sheet_stream.specs.Written.{AppendsPart, Wrote, PassWrites, RunWrites};
 
 use accumulator_spec::TOTAL_SIZE;
@@ -59,98 +58,101 @@ fn write_sheets<R: Read, W: Write>(input: &mut R, output: &mut W) -> Result<(), 
 {
     let mut bytes = [0u8; BUFFER_SIZE];
     let mut out = [0u8; BUFFER_SIZE];
-    let mut line = [0u8; KEPT_BYTES];
-    let mut total = [0u32; TOTAL_SIZE];
-    let mut here = position::begin();
+    let mut here = Standing {
+        position: position::begin(),
+        line: [0; KEPT_BYTES],
+        total: [0; TOTAL_SIZE],
+    };
     for _ in 0..u64::MAX {
         let got = input.read(&mut bytes);
-        match pass(got, output, &bytes, here, &mut line, &mut total, &mut out)? {
-            ControlFlow::Continue(position) => here = position,
-            ControlFlow::Break(position) => {
-                return close(output, position, &line, &mut total, &mut out);
-            }
+        match here.pass(got, output, &bytes, &mut out)? {
+            ControlFlow::Continue(()) => {}
+            ControlFlow::Break(()) => return here.close(output, &mut out),
         }
     }
     Err(NotWhole::Endless)
 }
 
-// From what a read answered to what is done next: it failed, or it read so many bytes, and 0 is the input's end. Another read follows from
-// the position that goes on, and the last lines, at the input's end and after `stop`, from the one that breaks.
-fn pass<W: Write>(
-    got: io::Result<usize>,
-    output: &mut W,
-    bytes: &[u8],
+// Where a run stands, with the open line's bytes and the total.
+#[derive(Drop)]
+struct Standing {
     position: Position,
-    line: &mut [u8; KEPT_BYTES],
-    total: &mut [u32],
-    out: &mut [u8],
-) -> Result<ControlFlow<Position, Position>, NotWhole>
-    ensures next { AfterRead got bytes.now (length out.old) position line.old total.old result line.new
-        total.new }
-    ensures writes { PassWrites got bytes.now (length out.old) (state_of position line.old total.old)
-        (W.contents output.old) (W.contents output.new) (is_ok result) }
-{
-    let got = match got {
-        Ok(got) => got,
-        Err(why) => return Err(NotWhole::Unread(why)),
-    };
-    if got == 0 {
-        return Ok(ControlFlow::Break(position));
-    }
-    let n = got.min(bytes.len());
-    let position = take(output, &bytes[..n], position, line, total, out)?;
-    if position::goes_on(position) {
-        Ok(ControlFlow::Continue(position))
-    } else {
-        Ok(ControlFlow::Break(position))
-    }
+    line: [u8; KEPT_BYTES],
+    total: [u32; TOTAL_SIZE],
 }
 
-// Takes all the bytes. What they print is written whenever the buffer is full, and at the last byte. A write that fails ends the run at
-// once, and so does `stop`. How many bytes are taken at once `feed` says, so that the place of the next is counted by hand.
-fn take<W: Write>(
-    output: &mut W,
-    bytes: &[u8],
-    position: Position,
-    line: &mut [u8; KEPT_BYTES],
-    total: &mut [u32],
-    out: &mut [u8],
-) -> Result<Position, NotWhole>
-    ensures takes { line_room ≤ length out.old → IfOk result (λ p. state_of p line.new total.new ≡ take_bytes
-        (state_of position line.old total.old) bytes.now) }
-    ensures writes { line_room ≤ length out.old → Wrote (W.contents output.old) (W.contents output.new)
-        (is_ok result) (bytes_text (state_of position line.old total.old) bytes.now) }
-{
-    let mut here = position;
-    let mut at: usize = 0;
-    while at < bytes.len() && !here.stopped {
-        let fed = sheet_feed::feed(&bytes[at..], here, line, total, out);
-        let taken = fed.taken;
-        let n = fed.written;
-        here = fed.position;
-        wrote_all(output, &out[..n])?;
-        let none = taken == 0;
-        if none {
-            return Ok(here);
+impl Standing {
+    // From what a read answered to what is done next: it failed, or it read so many bytes, and 0 is the input's end. Another read follows
+    // where the run goes on, and the last lines, at the input's end and after `stop`, where it breaks.
+    fn pass<W: Write>(
+        &mut self,
+        got: io::Result<usize>,
+        output: &mut W,
+        bytes: &[u8],
+        out: &mut [u8],
+    ) -> Result<ControlFlow<()>, NotWhole>
+        ensures next { AfterRead got bytes.now (length out.old) (state_in self.old) result (state_in self.new) }
+        ensures writes { PassWrites got bytes.now (length out.old) (state_in self.old)
+            (W.contents output.old) (W.contents output.new) (is_ok result) }
+    {
+        let got = match got {
+            Ok(got) => got,
+            Err(why) => return Err(NotWhole::Unread(why)),
+        };
+        if got == 0 {
+            return Ok(ControlFlow::Break(()));
         }
-        at += taken;
+        let n = got.min(bytes.len());
+        self.take(output, &bytes[..n], out)?;
+        if position::goes_on(self.position) {
+            Ok(ControlFlow::Continue(()))
+        } else {
+            Ok(ControlFlow::Break(()))
+        }
     }
-    Ok(here)
-}
 
-// What the input's end prints, after `stop` nothing.
-fn close<W: Write>(
-    output: &mut W,
-    position: Position,
-    line: &[u8; KEPT_BYTES],
-    total: &mut [u32],
-    out: &mut [u8],
-) -> Result<(), NotWhole>
-    ensures { last_room ≤ length out.old → Wrote (W.contents output.old) (W.contents output.new)
-        (is_ok result) (close_text (state_of position line.now total.old)) }
-{
-    let n = sheet_feed::finish(position, line, total, out);
-    wrote_all(output, &out[..n])
+    // Takes all the bytes. What they print is written whenever the buffer is full, and at the last byte. A write that fails ends the run at
+    // once, and so does `stop`. How many bytes are taken at once `feed` says, so that the place of the next is counted by hand.
+    fn take<W: Write>(
+        &mut self,
+        output: &mut W,
+        bytes: &[u8],
+        out: &mut [u8],
+    ) -> Result<(), NotWhole>
+        ensures takes { line_room ≤ length out.old → IfOk result (λ u. state_in self.new
+            ≡ take_bytes (state_in self.old) bytes.now) }
+        ensures writes { line_room ≤ length out.old → Wrote (W.contents output.old) (W.contents output.new)
+            (is_ok result) (bytes_text (state_in self.old) bytes.now) }
+    {
+        let mut at: usize = 0;
+        while at < bytes.len() && !self.position.stopped {
+            let fed = sheet_feed::feed(
+                &bytes[at..],
+                self.position,
+                &mut self.line,
+                &mut self.total,
+                out,
+            );
+            let taken = fed.taken;
+            let n = fed.written;
+            self.position = fed.position;
+            wrote_all(output, &out[..n])?;
+            if taken == 0 {
+                return Ok(());
+            }
+            at += taken;
+        }
+        Ok(())
+    }
+
+    // What the input's end prints, after `stop` nothing.
+    fn close<W: Write>(&mut self, output: &mut W, out: &mut [u8]) -> Result<(), NotWhole>
+        ensures { last_room ≤ length out.old → Wrote (W.contents output.old) (W.contents output.new)
+            (is_ok result) (close_text (state_in self.old)) }
+    {
+        let n = sheet_feed::finish(self.position, &self.line, &mut self.total, out);
+        wrote_all(output, &out[..n])
+    }
 }
 
 // All of the text is written, or it is said why not.

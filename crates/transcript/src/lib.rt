@@ -4,48 +4,66 @@
 
 mod notices;
 
-ghost use Rattle.std.specs.Prelude.{◌≡◌, min};
+ghost use Rattle.std.specs.Prelude.{◌≡◌, ◌≤◌, ℕ, List, length, min};
 ghost use Rattle.worksheet_spec.specs.Lines.{most_lines};
 ghost use Rattle.transcript_spec.specs.Texts.{ask_text, step_text, pair_text, answered_text};
 ghost use Rattle.transcript_spec.specs.Buffers.{Writes};
+ghost use Rattle.transcript_fields.specs.Writers.{Wrote};
+ghost use Rattle.transcript.specs.Inner.{AtStart};
 
 use augmented_spec::Pair;
 pub use notices::{bad, end, stop, total};
+use transcript_fields::letters::step_of;
 use transcript_fields::writer::Writer;
 use transcript_lines::{lengths, put_answered, put_ask, put_pair, put_step};
 use worksheet_spec::{LINE_SIZE, MOST_LINES, SHEET_SIZE};
 
-pub fn ask(out: &mut [u8], number: u32, operation: u32, x: u32, y: u32) -> usize
-    ensures { Writes out.old (ask_text number operation x y) result out.new }
+// Writes at the start of the buffer by `put`, where so many bytes have room, and answers their length; elsewhere 0, and nothing is written.
+// What is promised holds of each text that is as long and that `put` is known to write.
+pub(crate) fn written<F: FnOnce(&mut Writer<'_>)>(out: &mut [u8], need: usize, put: F) -> usize
+    requires room { (w : _) → AtStart out.old w.now → need ≤ length out.old → F.pre put w }
+    requires same { (w : _) (after : _) → F.post put w tt after → after.now.out.ghost_name ≡ w.now.out.ghost_name }
+    ensures { (text : List ℕ)
+        → length text ≡ need
+        → ((w : _) (after : _) → AtStart out.old w.now → F.post put w tt after → Wrote w.now text after.now)
+        → Writes out.old text result out.new }
 {
-    if out.len() < 27 + lengths::decimal(number) {
+    if out.len() < need {
         return 0;
     }
     let mut writer = Writer { out, at: 0 };
-    put_ask(&mut writer, number, operation, x, y);
+    put(&mut writer);
     writer.at
+}
+
+pub fn ask(out: &mut [u8], number: u32, operation: u32, x: u32, y: u32) -> usize
+    ensures { Writes out.old (ask_text number operation x y) result out.new }
+{
+    written(
+        out,
+        27 + lengths::decimal(number),
+        |to| put_ask(to, number, operation, x, y),
+    )
 }
 
 pub fn step(out: &mut [u8], number: u32, line: [u32; LINE_SIZE]) -> usize
     ensures { Writes out.old (step_text number line) result out.new }
 {
-    if out.len() < lengths::step(number, line[0]) {
-        return 0;
-    }
-    let mut writer = Writer { out, at: 0 };
-    put_step(&mut writer, number, &line);
-    writer.at
+    written(
+        out,
+        lengths::step(number, step_of(line[0])),
+        |to| put_step(to, number, &line),
+    )
 }
 
 pub fn pair(out: &mut [u8], pair: Pair) -> usize
     ensures { Writes out.old (pair_text pair) result out.new }
 {
-    if out.len() < 24 + lengths::flags(pair.flags) {
-        return 0;
-    }
-    let mut writer = Writer { out, at: 0 };
-    put_pair(&mut writer, pair);
-    writer.at
+    written(
+        out,
+        24 + lengths::flags(pair.flags),
+        |to| put_pair(to, pair),
+    )
 }
 
 // No more lines than a sheet has.
@@ -69,10 +87,9 @@ pub fn answered(
     ensures { Writes out.old (answered_text number operation x y words.now lines pair) result out.new }
 {
     let shown = shown(lines);
-    if out.len() < lengths::answered(number, words, shown, pair.flags) {
-        return 0;
-    }
-    let mut writer = Writer { out, at: 0 };
-    put_answered(&mut writer, number, operation, x, y, words, shown, pair);
-    writer.at
+    written(
+        out,
+        lengths::answered(number, words, shown, pair.flags),
+        |to| put_answered(to, number, operation, x, y, words, shown, pair),
+    )
 }

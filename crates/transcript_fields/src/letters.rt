@@ -3,7 +3,7 @@ ghost use Rattle.std.specs.Prelude.{◌≡◌, ◌∷◌};
 ghost use Rattle.question_spec.specs.Ascii.{tab};
 ghost use Rattle.augmented_spec.specs.Operations.{operation_of};
 ghost use Rattle.question_spec.specs.Questions.{operation_letters, operation_letters_by_number};
-ghost use Rattle.transcript_spec.specs.Texts.{step_of, step_letters, step_letters_by_number};
+ghost use Rattle.transcript_spec.specs.Texts.{step_of, step_letters};
 ghost use Rattle.transcript_fields.specs.Writers.{HasRoom, Wrote};
 
 use crate::writer::Writer;
@@ -17,7 +17,7 @@ fn operation_of(number: u32) -> Operation
     Operation::try_from(number).unwrap_or(Operation::Product)
 }
 
-pub(crate) fn step_of(number: u32) -> Step
+pub fn step_of(number: u32) -> Step
     ensures { result ≡ step_of number }
 {
     Step::try_from(number).unwrap_or(Step::Fused)
@@ -33,7 +33,7 @@ fn question(operation: Operation) -> [u8; 4]
     }
 }
 
-fn step(step: Step) -> [u8; 4]
+fn of_step(step: Step) -> [u8; 4]
     ensures { result ≡ tab ∷ step_letters step }
 {
     match step {
@@ -52,10 +52,10 @@ impl Writer<'_> {
         self.bytes(&question(operation_of(operation)));
     }
 
-    pub fn step_letters(&mut self, operation: u32)
-        requires { HasRoom self.old (tab ∷ step_letters_by_number operation) }
-        ensures { Wrote self.old (tab ∷ step_letters_by_number operation) self.new }
+    pub fn step_letters(&mut self, step: Step)
+        requires { HasRoom self.old (tab ∷ step_letters step) }
+        ensures { Wrote self.old (tab ∷ step_letters step) self.new }
     {
-        self.bytes(&step(step_of(operation)));
+        self.bytes(&of_step(step));
     }
 }

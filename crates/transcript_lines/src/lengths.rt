@@ -1,12 +1,13 @@
 // How long the texts are, known before the first byte is written: where one has no room the buffer stays as it was (R8.14).
 ghost use Rattle.std.specs.Prelude.{◌≡◌, List, ℕ, ◌+◌, ◌*◌, ◌≤◌, length, get_or};
 ghost use Rattle.worksheet_spec.specs.Lines.{most_lines};
-ghost use Rattle.transcript_spec.specs.Texts.{decimal, flags_text, step_text, steps_text};
+ghost use Rattle.transcript_spec.specs.Texts.{decimal, step_of, flags_text, step_text, steps_text};
 ghost use Rattle.transcript_spec.specs.Inner.{answered_length};
 
 use augmented_spec::Flags;
+use transcript_fields::letters::step_of;
 use transcript_fields::patterns::takes_two;
-use worksheet_spec::{LINE_SIZE, SHEET_SIZE};
+use worksheet_spec::{LINE_SIZE, SHEET_SIZE, Step};
 
 pub fn decimal(n: u32) -> usize
     ensures { (result ≡ length (decimal n)) × (result ≤ 10) }
@@ -20,20 +21,17 @@ pub fn decimal(n: u32) -> usize
 pub fn flags(flags: Flags) -> usize
     ensures { (result ≡ length (flags_text flags)) × (result ≤ 4) }
 {
-    let n = (flags.invalid as usize)
-        + (flags.overflow as usize)
-        + (flags.underflow as usize)
-        + (flags.inexact as usize);
-    if n == 0 {
-        return 1;
-    }
-    n
+    let n = usize::from(flags.invalid)
+        + usize::from(flags.overflow)
+        + usize::from(flags.underflow)
+        + usize::from(flags.inexact);
+    n.max(1)
 }
 
-pub fn step(number: u32, operation: u32) -> usize
-    ensures { ((words : List ℕ) → get_or words 0 0 ≡ operation → result ≡ length (step_text number words)) × (result ≤ 58) }
+pub fn step(number: u32, step: Step) -> usize
+    ensures { ((words : List ℕ) → step_of (get_or words 0 0) ≡ step → result ≡ length (step_text number words)) × (result ≤ 58) }
 {
-    if takes_two(operation) {
+    if takes_two(step) {
         return 41 + decimal(number);
     }
     48 + decimal(number)
@@ -46,7 +44,7 @@ fn steps(words: &[u32; SHEET_SIZE], lines: usize) -> usize
     let (sheet, _) = words.as_chunks::<LINE_SIZE>();
     let mut n = 0;
     for (k, line) in sheet[..lines].iter().enumerate() {
-        n += step(k as u32 + 1, line[0]);
+        n += step(k as u32 + 1, step_of(line[0]));
     }
     n
 }

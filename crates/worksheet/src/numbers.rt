@@ -1,8 +1,7 @@
 // Filling a sheet with the answer as numbers, for callers that hand it on.
 ghost use Rattle.std.specs.Prelude.{◌≡◌};
-ghost use Rattle.worksheet_spec.specs.Filling.{no_sheet, FillsNumbered};
+ghost use Rattle.worksheet_spec.specs.Filling.{FillsNumbered};
 
-use augmented_spec::Flags;
 use worksheet_spec::FilledNumbers;
 
 pub fn fill(operation: u32, x: u32, y: u32, words: &mut [u32]) -> FilledNumbers
@@ -16,18 +15,6 @@ pub fn fill(operation: u32, x: u32, y: u32, words: &mut [u32]) -> FilledNumbers
             second: filled.pair.second,
             flags: filled.pair.flags,
         },
-        Err(refusal) => refused(u32::from(refusal)),
-    }
-}
-
-fn refused(refusal: u32) -> FilledNumbers
-    ensures { result ≡ no_sheet refusal }
-{
-    FilledNumbers {
-        refusal,
-        lines: 0,
-        first: 0,
-        second: 0,
-        flags: Flags::default(),
+        Err(refusal) => FilledNumbers::from(refusal),
     }
 }

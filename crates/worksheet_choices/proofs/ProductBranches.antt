@@ -9,7 +9,9 @@ use Rattle.rounding_spec.specs.Format.{binary32, infinity}
 use Rattle.rounding_spec.specs.Value.{magnitude, unsigned, decode}
 use Rattle.rounding_spec.proofs.Codec.{unsigned-finite, unsigned-infinite, unsigned-nan}
 use Rattle.worksheet_spec.specs.Lines.{value}
-use Rattle.worksheet_spec.specs.Sheets.{Branch, when_nan, when_infinite, when_zero, when_tiny, when_middle, otherwise, branch_of}
+use Rattle.worksheet_spec.specs.declared.Branch.{Branch}
+use Rattle.worksheet_spec.specs.declared.Branch.TheVariants.{NotANumber as when_nan, Infinite as when_infinite, Zero as when_zero, Tiny as when_tiny, Middle as when_middle, Other as otherwise}
+use Rattle.worksheet_spec.specs.Sheets.{branch_of}
 use Rattle.rounding_spec.proofs.Orders.{magnitude-none, magnitude-leb, magnitude-ltb}
 
 -- ---- the bounds, in units of u

@@ -4,21 +4,10 @@
 ghost use Rattle.std.specs.Prelude.{◌≡◌};
 ghost use Rattle.worksheet_spec.specs.Lines.{value, equal};
 ghost use Rattle.worksheet_spec.specs.Sheets.{swaps, at_edge, overflows, tiny_tie, rest_tie, branch_of};
-ghost use Rattle.worksheet_choices.specs.Inner.{branch_case};
 
 use choose::choose;
 use pattern::{copy_sign, flipped, is_infinite, is_zero};
-
-// How a product goes on, by its first line.
-#[derive(Clone, Copy)]
-pub enum Branch {
-    NotANumber,
-    Infinite,
-    Zero,
-    Tiny,
-    Middle,
-    Other,
-}
+use worksheet_spec::Branch;
 
 // What results are compared with: 2^127, 2^102, 2^-102 and 2^-126.
 const TWO_TO_127: u32 = 0x7f00_0000;
@@ -79,7 +68,7 @@ pub fn rest_tie(beta: u32, r: u32) -> bool
 
 // The bits below the sign are in the order of magnitudes: 2^-125 is 0x0100_0000.
 pub fn branch_of(a: u32) -> Branch
-    ensures { branch_case result ≡ branch_of (value a) }
+    ensures { result ≡ branch_of (value a) }
 {
     match a % 0x8000_0000 {
         0 => Branch::Zero,

@@ -100,10 +100,7 @@ impl Lines {
         requires { sheet_size ≤ length words.old }
         ensures { words.new ≡ flat (padded self.now) ++ drop sheet_size words.old }
     {
-        for (i, row) in self.rows.iter().enumerate() {
-            let at = i * LINE_SIZE;
-            copy_line(row, &mut words[at..at + LINE_SIZE]);
-        }
+        copy_out(&self.rows, words);
     }
 
     fn put(&mut self, step: Step, x: u32, y: u32, z: u32, outcome: Outcome) -> u32
@@ -114,6 +111,17 @@ impl Lines {
         self.rows[self.used] = [u32::from(step), x, y, z, outcome.result, outcome.mark];
         self.used += 1;
         outcome.result
+    }
+}
+
+// Rows, one after the other.
+pub fn copy_out(rows: &[[u32; LINE_SIZE]; MOST_LINES], words: &mut [u32])
+    requires { sheet_size ≤ length words.old }
+    ensures { words.new ≡ flat rows.now ++ drop sheet_size words.old }
+{
+    for (i, row) in rows.iter().enumerate() {
+        let at = i * LINE_SIZE;
+        copy_line(row, &mut words[at..at + LINE_SIZE]);
     }
 }
 

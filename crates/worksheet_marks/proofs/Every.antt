@@ -15,7 +15,8 @@ use Rattle.binary32_spec.proofs.Theorems.{add-finite, mul-finite}
 use Rattle.errorfree_spec.proofs.NoNumber.{not-both, number-of, both_of}
 use Rattle.augmented_spec.specs.declared.Operation.TheVariants.{Sum as sum, Difference as difference, Product as product}
 use Rattle.worksheet_spec.specs.Lines.{Line, value, minus, is_zero_pattern}
-use Rattle.worksheet_spec.specs.Sheets.{Branch, branch_of, sheet_of}
+use Rattle.worksheet_spec.specs.declared.Branch.{Branch}
+use Rattle.worksheet_spec.specs.Sheets.{branch_of, sheet_of}
 use Rattle.worksheet_spec.proofs.Branches.{branch-zero, branch-tiny, branch-middle, branch-other}
 use Rattle.worksheet_marks.specs.Theorems.{SumTable, SpecialSumTable, EverySum, ProductTable, SpecialProductTable, EveryProduct}
 use Rattle.worksheet_marks.proofs.Sums.{finite-sum}

@@ -32,7 +32,8 @@ use Rattle.errorfree_spec.proofs.Split.{Split0}
 use Rattle.errorfree_spec.proofs.Steps.{to_even, to_zero, even-at}
 use Rattle.worksheet_spec.specs.Constants.{two_to_24, two_to_minus_24, two_to_minus_126}
 use Rattle.worksheet_spec.specs.Lines.{value, is_zero_pattern, equal}
-use Rattle.worksheet_spec.specs.Sheets.{recomposition, zero_finish, lowering, rest_tie, scaled_down, middle_product, when_middle, branch_of, product_by, sheet_of}
+use Rattle.worksheet_spec.specs.declared.Branch.TheVariants.{Middle as when_middle}
+use Rattle.worksheet_spec.specs.Sheets.{recomposition, zero_finish, lowering, rest_tie, scaled_down, middle_product, branch_of, product_by, sheet_of}
 use Rattle.worksheet_spec.proofs.Entries.{◌&◌}
 use Rattle.worksheet_spec.proofs.Branches.{branch-middle}
 use Rattle.worksheet_spec.proofs.Constants.{up-value, down-value, lowest-value}

@@ -18,7 +18,8 @@ use Rattle.errorfree_spec.proofs.NoNumber.{both_of, negate-none}
 use Rattle.errorfree_spec.proofs.Steps.{to_even, over-of}
 use Rattle.worksheet_spec.specs.Constants.{half}
 use Rattle.worksheet_spec.specs.Lines.{value, minus, is_zero_pattern}
-use Rattle.worksheet_spec.specs.Sheets.{when_infinite, infinite_product, branch_of, product_by, sheet_of}
+use Rattle.worksheet_spec.specs.declared.Branch.TheVariants.{Infinite as when_infinite}
+use Rattle.worksheet_spec.specs.Sheets.{infinite_product, branch_of, product_by, sheet_of}
 use Rattle.worksheet_spec.proofs.Entries.{◌&◌}
 use Rattle.worksheet_spec.proofs.FiniteProduct.{Factors}
 use Rattle.worksheet_spec.proofs.Patterns.{mul-width, minus-value, number_at}

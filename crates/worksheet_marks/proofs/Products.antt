@@ -19,7 +19,8 @@ use Rattle.errorfree_spec.proofs.ProductSplit.{whole, product-split}
 use Rattle.errorfree_spec.proofs.Split.{Split}
 use Rattle.errorfree_spec.proofs.Steps.{to_even}
 use Rattle.worksheet_spec.specs.Lines.{value, minus, is_zero_pattern}
-use Rattle.worksheet_spec.specs.Sheets.{when_zero, otherwise, other_product, branch_of, product_by, sheet_of}
+use Rattle.worksheet_spec.specs.declared.Branch.TheVariants.{Zero as when_zero, Other as otherwise}
+use Rattle.worksheet_spec.specs.Sheets.{other_product, branch_of, product_by, sheet_of}
 use Rattle.worksheet_spec.proofs.Entries.{◌&◌}
 use Rattle.worksheet_spec.proofs.Branches.{branch-zero, branch-other}
 use Rattle.worksheet_spec.proofs.FiniteProduct.{Factors, factors-of}

@@ -16,7 +16,8 @@ use Rattle.binary32_spec.proofs.Theorems.{add-decodes, sub-decodes, mul-decodes}
 use Rattle.errorfree_spec.proofs.NoNumber.{not-both, one_of, add_none, add_left, sub-left, mul_right, mul-none}
 use Rattle.worksheet_spec.specs.Constants.{half}
 use Rattle.worksheet_spec.specs.Lines.{Line, Sheet, marks, value, minus}
-use Rattle.worksheet_spec.specs.Sheets.{when_infinite, halved_sum, sum_in_order, infinite_product, branch_of, product_by, product_sheet, sheet_of}
+use Rattle.worksheet_spec.specs.declared.Branch.TheVariants.{Infinite as when_infinite}
+use Rattle.worksheet_spec.specs.Sheets.{halved_sum, sum_in_order, infinite_product, branch_of, product_by, product_sheet, sheet_of}
 use Rattle.worksheet_spec.proofs.Entries.{◌&◌}
 use Rattle.worksheet_spec.proofs.InfiniteLines.{infinite-sum-lines}
 use Rattle.worksheet_spec.proofs.ProductSheet.{product-ends}

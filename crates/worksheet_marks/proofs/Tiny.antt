@@ -23,7 +23,8 @@ use Rattle.errorfree_spec.proofs.TinyTest as test
 use Rattle.worksheet_spec.specs.Constants.{two_to_24, two_to_48, plus_zero}
 use Rattle.worksheet_spec.specs.declared.Step.TheVariants.{Multiply as multiply}
 use Rattle.worksheet_spec.specs.Lines.{line, value, minus, is_zero_pattern, equal}
-use Rattle.worksheet_spec.specs.Sheets.{lowered, lowering, tiny_product, when_tiny, branch_of, product_by, sheet_of}
+use Rattle.worksheet_spec.specs.declared.Branch.TheVariants.{Tiny as when_tiny}
+use Rattle.worksheet_spec.specs.Sheets.{lowered, lowering, tiny_product, branch_of, product_by, sheet_of}
 use Rattle.worksheet_spec.proofs.Entries.{◌&◌}
 use Rattle.worksheet_spec.proofs.Branches.{branch-tiny}
 use Rattle.worksheet_spec.proofs.Constants.{up-value, up-up-value}

@@ -15,7 +15,10 @@ use Rattle.pattern_spec.specs.Classes.{both_finite}
 use Rattle.augmented_spec.specs.declared.Operation.TheVariants.{Sum as sum, Difference as difference, Product as product}
 use Rattle.worksheet_spec.specs.Constants.{psi, half}
 use Rattle.worksheet_spec.specs.Lines.{Line, value, minus, equal, is_zero_pattern, marks}
-use Rattle.worksheet_spec.specs.Sheets.{Branch, when_nan, when_infinite, when_zero, when_tiny, when_middle, otherwise, branch_of, sheet_of}
+use Rattle.worksheet_spec.specs.declared.Branch.{Branch}
+use Rattle.worksheet_spec.specs.declared.Branch.TheVariants.{NotANumber as when_nan, Infinite as when_infinite, Zero as when_zero}
+use Rattle.worksheet_spec.specs.declared.Branch.TheVariants.{Tiny as when_tiny, Middle as when_middle, Other as otherwise}
+use Rattle.worksheet_spec.specs.Sheets.{branch_of, sheet_of}
 use Rattle.worksheet_marks.specs.Tables.{Entry, any, exact, rounded, special, exact_where, EntryHolds, MarkTable, WholeTable, result_at}
 
 -- ---- sums. Above an entry stands the name that the rules give its line, and above the end the lines that can follow, which have mark 0.

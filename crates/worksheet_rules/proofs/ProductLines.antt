@@ -11,7 +11,8 @@ use Rattle.worksheet_spec.specs.declared.Step.TheVariants.{Add as add, Subtract 
 use Rattle.worksheet_spec.specs.Lines.{most_lines, line, fused_line, value, minus}
 use Rattle.worksheet_spec.specs.Sheets.{recomposition, zero_finish, recomposed_finished, edge_finish, infinite_product, lowered, lowering, tiny_tie, tiny_product, rest_tie, scaled_down}
 use Rattle.worksheet_spec.specs.Sheets.{middle_product}
-use Rattle.worksheet_spec.specs.Sheets.{other_product, Branch, branch_of, product_by, product_sheet}
+use Rattle.worksheet_spec.specs.declared.Branch.{Branch}
+use Rattle.worksheet_spec.specs.Sheets.{other_product, branch_of, product_by, product_sheet}
 use Rattle.worksheet_lines.specs.Inner.{Written, Follows}
 use Rattle.worksheet_lines.specs.declared.Foot.{Foot}
 use Rattle.worksheet_lines.proofs.Rows.{Rows, Standing, none_yet, foot-follows, then-line, then_lines, then-sheet}

@@ -5,9 +5,8 @@ ghost use Rattle.worksheet_spec.specs.Sheets.{infinite_product, tiny_product, sc
 ghost use Rattle.worksheet_lines.specs.Inner.{Follows};
 
 use pattern::flipped;
-use worksheet_choices::Branch;
 use worksheet_lines::{Foot, Lines, blocks};
-use worksheet_spec::{HALF, PLUS_ZERO, SMALLEST, TWO_TO_24, TWO_TO_48, TWO_TO_MINUS_24};
+use worksheet_spec::{Branch, HALF, PLUS_ZERO, SMALLEST, TWO_TO_24, TWO_TO_48, TWO_TO_MINUS_24};
 
 // Earlier lines go: a sheet begins with the first one.
 pub fn product(lines: &mut Lines, x: u32, y: u32) -> Foot

@@ -5,7 +5,8 @@ use Prim.Native.Nat.{ℕ, ◌^◌, ◌≤◌, ◌<◌}
 use native.Mathlib.Omega.{arith}
 use borrow.Author.Tests.{eq-eqb, ne_eqb, lt-ltb, le-ltb, le-leb, lt-leb}
 use Rattle.rounding_spec.specs.Value.{finite}
-use Rattle.worksheet_spec.specs.Sheets.{when_zero, when_tiny, when_middle, otherwise, branch_of}
+use Rattle.worksheet_spec.specs.declared.Branch.TheVariants.{Zero as when_zero, Tiny as when_tiny, Middle as when_middle, Other as otherwise}
+use Rattle.worksheet_spec.specs.Sheets.{branch_of}
 
 module _ (s : Bool) (m : ℕ) where
   pub branch-zero : m ≡ 0 → branch_of (finite s m) ≡ when_zero

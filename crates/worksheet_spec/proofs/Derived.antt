@@ -12,7 +12,9 @@ use Rattle.worksheet_spec.specs.Constants.{half, two_to_24, two_to_48, two_to_mi
 use Rattle.pattern_spec.specs.Classes.{copy_sign}
 use Rattle.worksheet_spec.specs.declared.Step.TheVariants.{Multiply as multiply}
 use Rattle.worksheet_spec.specs.Lines.{line, Sheet, before, ends, value, minus}
-use Rattle.worksheet_spec.specs.Sheets.{Branch, when_nan, when_infinite, when_zero, when_tiny, when_middle, otherwise, recomposition, zero_finish, recomposed_finished, halved_sum, overflows, sum_from}
+use Rattle.worksheet_spec.specs.declared.Branch.{Branch}
+use Rattle.worksheet_spec.specs.declared.Branch.TheVariants.{NotANumber as when_nan, Infinite as when_infinite, Zero as when_zero, Tiny as when_tiny, Middle as when_middle, Other as otherwise}
+use Rattle.worksheet_spec.specs.Sheets.{recomposition, zero_finish, recomposed_finished, halved_sum, overflows, sum_from}
 use Rattle.worksheet_spec.specs.Sheets.{sum_in_order, swaps}
 use Rattle.worksheet_spec.specs.Sheets.{sum_sheet, infinite_product, lowered, lowering, tiny_product, rest_tie, scaled_down, middle_product, other_product, branch_of, product_by, product_sheet}
 use Rattle.worksheet_spec.specs.Sheets.{sheet_of}

@@ -10,7 +10,9 @@ use Rattle.pattern_spec.specs.Classes.{copy_sign}
 use Rattle.worksheet_spec.specs.declared.Step.TheVariants.{Add as add, Subtract as subtract, Multiply as multiply}
 use Rattle.worksheet_spec.specs.Lines.{Line, line, fused_line, Sheet, before, ends, value, minus, is_zero_pattern}
 use Rattle.worksheet_spec.specs.Constants.{psi, two, minus_two, half, kappa, two_to_24, two_to_48, two_to_minus_24, plus_zero, smallest}
-use Rattle.worksheet_spec.specs.Sheets.{Branch, when_nan, when_infinite, when_zero, when_tiny, when_middle, otherwise, recomposition, zero_finish, recomposed_finished, at_edge, edge_finish}
+use Rattle.worksheet_spec.specs.declared.Branch.{Branch}
+use Rattle.worksheet_spec.specs.declared.Branch.TheVariants.{NotANumber as when_nan, Infinite as when_infinite, Zero as when_zero, Tiny as when_tiny, Middle as when_middle, Other as otherwise}
+use Rattle.worksheet_spec.specs.Sheets.{recomposition, zero_finish, recomposed_finished, at_edge, edge_finish}
 use Rattle.worksheet_spec.specs.Sheets.{halved_sum}
 use Rattle.worksheet_spec.specs.Sheets.{overflows}
 use Rattle.worksheet_spec.specs.Sheets.{sum_from, sum_in_order, swaps, sum_sheet, infinite_product, lowered, lowering, tiny_product, rest_tie, scaled_down, middle_product, other_product, branch_of}

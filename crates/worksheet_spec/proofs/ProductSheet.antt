@@ -21,7 +21,8 @@ use Rattle.errorfree_spec.proofs.Steps.{to_even}
 use Rattle.worksheet_spec.specs.Constants.{half}
 use Rattle.worksheet_spec.specs.declared.Step.TheVariants.{Multiply as multiply}
 use Rattle.worksheet_spec.specs.Lines.{line, Sheet, before, ends, value, minus}
-use Rattle.worksheet_spec.specs.Sheets.{Branch, infinite_product, branch_of, product_by, product_sheet}
+use Rattle.worksheet_spec.specs.declared.Branch.{Branch}
+use Rattle.worksheet_spec.specs.Sheets.{infinite_product, branch_of, product_by, product_sheet}
 use Rattle.worksheet_spec.proofs.Patterns.{number_at}
 use Rattle.worksheet_spec.proofs.Foots.{Foots, foots-infinite}
 use Rattle.worksheet_spec.proofs.Blocks.{edge_none}

@@ -22,7 +22,9 @@ use Rattle.pattern_spec.specs.Classes.{copy_sign}
 use Rattle.worksheet_spec.specs.declared.Step.{Step}
 use Rattle.worksheet_spec.specs.declared.Step.TheVariants.{Subtract as subtract, Multiply as multiply, Fused as fused}
 use Rattle.worksheet_spec.specs.Lines.{Line, line, Sheet, before, value, minus, equal, is_zero_pattern}
-use Rattle.worksheet_spec.specs.Sheets.{Branch, when_nan, when_infinite, when_zero, when_tiny, when_middle, otherwise, recomposition, zero_finish, infinite_product, lowered, lowering, tiny_product}
+use Rattle.worksheet_spec.specs.declared.Branch.{Branch}
+use Rattle.worksheet_spec.specs.declared.Branch.TheVariants.{NotANumber as when_nan, Infinite as when_infinite, Zero as when_zero, Tiny as when_tiny, Middle as when_middle, Other as otherwise}
+use Rattle.worksheet_spec.specs.Sheets.{recomposition, zero_finish, infinite_product, lowered, lowering, tiny_product}
 use Rattle.worksheet_spec.specs.Sheets.{scaled_down}
 use Rattle.worksheet_spec.specs.Sheets.{middle_product, other_product, branch_of, product_by, product_sheet}
 use Rattle.worksheet_spec.specs.Theorems.{steps_of, recomposition_steps, finish_step, edge_steps, tiny_steps, middle_steps, ProductSteps}

@@ -10,6 +10,9 @@ use Rattle.pattern_spec.specs.Comparisons.{less_magnitude}
 use Rattle.worksheet_spec.specs.Constants.{psi, two, minus_two, half, kappa, two_to_24, two_to_48, two_to_minus_24, plus_zero, smallest}
 use Rattle.worksheet_spec.specs.Constants.{two_to_127, two_to_102, two_to_minus_102, two_to_minus_126}
 use Rattle.worksheet_spec.specs.declared.Step.TheVariants.{Add as add, Subtract as subtract, Multiply as multiply}
+use Rattle.worksheet_spec.specs.declared.Branch.{Branch}
+use Rattle.worksheet_spec.specs.declared.Branch.TheVariants.{NotANumber as when_nan, Infinite as when_infinite, Zero as when_zero}
+use Rattle.worksheet_spec.specs.declared.Branch.TheVariants.{Tiny as when_tiny, Middle as when_middle, Other as otherwise}
 use Rattle.worksheet_spec.specs.Lines.{Line, line, fused_line, Sheet, before, ends}
 use Rattle.pattern_spec.specs.Classes.{copy_sign}
 use Rattle.worksheet_spec.specs.Lines.{value, minus, equal, is_zero_pattern}
@@ -155,16 +158,7 @@ other_product x y a =
     let b = fma_step x y (minus a) in
     before (fused_line x y (minus a) b ∷ []) (recomposed_finished a b)
 
--- the six branches (R5.12)
-pub data Branch : Type 0 where
-  when_nan : Branch
-  when_infinite : Branch
-  when_zero : Branch
-  when_tiny : Branch
-  when_middle : Branch
-  otherwise : Branch
-
--- Magnitudes count u: 2^-125 is 2 ^ 24 of them, and 2^-102 is 2 ^ 47.
+-- which of the six branches, by the value (R5.12). Magnitudes count u: 2^-125 is 2 ^ 24 of them, and 2^-102 is 2 ^ 47.
 unfoldable pub branch_of : Value → Branch
 branch_of nan = when_nan
 branch_of (infinite s) = when_infinite

@@ -1,10 +1,11 @@
-// The step sheet of a question as definitions and theorems, its sizes, numbers and constants, and what filling answers as
-// numbers. No function is here: the code that fills a sheet stands above.
+// The step sheet of a question as definitions and theorems, its sizes, steps, branches and constants, and what filling answers. The code
+// that fills a sheet stands above.
 #![tactic(auto)]
 
 ghost use Rattle.std.specs.Prelude.{◌≡◌};
 ghost use Rattle.worksheet_spec.specs.Steps.{Numbers, step_number};
 ghost use Rattle.worksheet_spec.specs.Refusals.{refusal_number};
+ghost use Rattle.worksheet_spec.specs.Filling.{no_sheet};
 
 use augmented_spec::{Flags, Pair};
 
@@ -58,6 +59,17 @@ impl From<Step> for u32 {
     }
 }
 
+// How a product goes on, by its first line (R5.12).
+#[derive(Clone, Copy)]
+pub enum Branch {
+    NotANumber,
+    Infinite,
+    Zero,
+    Tiny,
+    Middle,
+    Other,
+}
+
 // The constants of the step sheet (R5.1): first factors (R5.2), and u, which is taken away. PSI is 1 - 2^-24.
 pub const PSI: u32 = 0x3f7f_ffff;
 
@@ -107,7 +119,7 @@ impl From<NotFilled> for u32 {
     }
 }
 
-// What filling answers, as numbers: the refusal's and zeros; or 0, the line count, and the pair at the foot with its flags.
+// What filling answers, as numbers for C: the refusal's and zeros; or 0, the line count, and the pair at the foot with its flags.
 #[repr(C)]
 #[derive(Clone, Copy)]
 pub struct FilledNumbers {
@@ -116,4 +128,19 @@ pub struct FilledNumbers {
     pub first: u32,
     pub second: u32,
     pub flags: Flags,
+}
+
+// A refused call has no line, no pair and no flag.
+impl From<NotFilled> for FilledNumbers {
+    ghost from_gives = { λ refusal numbers. numbers ≡ no_sheet (refusal_number refusal) };
+
+    fn from(refusal: NotFilled) -> FilledNumbers {
+        FilledNumbers {
+            refusal: u32::from(refusal),
+            lines: 0,
+            first: 0,
+            second: 0,
+            flags: Flags::default(),
+        }
+    }
 }

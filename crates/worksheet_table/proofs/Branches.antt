@@ -7,7 +7,9 @@ use Rattle.rounding_spec.specs.Format.{binary32}
 use Rattle.rounding_spec.specs.Value.{Value, nan, infinite, finite, decode, is_nan, is_infinite, is_finite, is_zero}
 use Rattle.pattern_spec.specs.Comparisons.{less_magnitude}
 use Rattle.errorfree_spec.proofs.NoNumber.{not-both, none-zero}
-use Rattle.worksheet_spec.specs.Sheets.{Branch, when_nan, when_infinite, when_zero, when_tiny, when_middle, otherwise, branch_of}
+use Rattle.worksheet_spec.specs.declared.Branch.{Branch}
+use Rattle.worksheet_spec.specs.declared.Branch.TheVariants.{NotANumber as when_nan, Infinite as when_infinite, Zero as when_zero, Tiny as when_tiny, Middle as when_middle, Other as otherwise}
+use Rattle.worksheet_spec.specs.Sheets.{branch_of}
 use Rattle.worksheet_table.specs.Programs.{not_above}
 use Rattle.worksheet_table.proofs.Alone.{nan-alone, infinite-alone, finite-by}
 

@@ -5,7 +5,8 @@ use mathlib.Core.Bool.{true, false}
 use Rattle.binary32_spec.specs.Steps.{mul_step}
 use Rattle.pattern_spec.specs.Comparisons.{less_magnitude}
 use Rattle.worksheet_spec.specs.Lines.{value}
-use Rattle.worksheet_spec.specs.Sheets.{when_nan, when_infinite, when_zero, when_tiny, when_middle, otherwise, recomposition, zero_finish, recomposed_finished, at_edge, edge_finish, infinite_product}
+use Rattle.worksheet_spec.specs.declared.Branch.TheVariants.{NotANumber as when_nan, Infinite as when_infinite, Zero as when_zero, Tiny as when_tiny, Middle as when_middle, Other as otherwise}
+use Rattle.worksheet_spec.specs.Sheets.{recomposition, zero_finish, recomposed_finished, at_edge, edge_finish, infinite_product}
 use Rattle.worksheet_spec.specs.Sheets.{lowered, lowering, tiny_tie, tiny_product, rest_tie, scaled_down, middle_product, other_product, product_by, product_sheet}
 use Rattle.worksheet_spec.proofs.Products.{tie}
 use Rattle.worksheet_spec.proofs.ProductSteps.{sheet-by}

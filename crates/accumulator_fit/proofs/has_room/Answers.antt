@@ -16,22 +16,19 @@ returns-then-total-ne1 c e = absurd (true≢false (sym e))
 
 pub overflow_mul-upper : goal.overflow_mul-upper
 overflow_mul-upper c =
-    let w = (c.shared_slice_known-5-1.given 19).fits in
-    omega (arith, w, c.wide-2.ensures)
+    omega (arith, (c.type_inv.total 19).fits, c.from-2.ensures)
 
 pub overflow_add-upper : goal.overflow_add-upper
 overflow_add-upper c =
-    let v = (c.shared_slice_known-4-1.given 18).fits in
-    let w = (c.shared_slice_known-5-1.given 19).fits in
-    omega (arith, v, w, c.wide.ensures, c.wide-2.ensures)
+    omega (arith, (c.type_inv.total 18).fits, (c.type_inv.total 19).fits, c.from.ensures, c.from-2.ensures)
 
 pub returns-then-wrapping_add_u64-gt1 : goal.returns-then-wrapping_add_u64-gt1
 returns-then-wrapping_add_u64-gt1 c e = absurd (true≢false (sym e))
 
 pub returns : goal.returns
 returns c e =
-    let t = c.args.total.now in let words : Words t = λ i. (c.shared_slice_known-1.given i).fits in
-    let full = c.if-total-ne-TOTAL_SIZE.false in let top = c.wrapping_add_u64.ensures.value ∙ ap₂ (λ (x y : ℕ). (x + y * 4294967296 + 1) % 2 ^ 64) c.wide.ensures c.wide-2.ensures in
+    let t = c.args.total.now in let words : Words t = λ i. (c.type_inv.total i).fits in
+    let full = c.if-total-ne-TOTAL_SIZE.false in let top = c.wrapping_add_u64.ensures.value ∙ ap₂ (λ (x y : ℕ). (x + y * 4294967296 + 1) % 2 ^ 64) c.from.ensures c.from-2.ensures in
     let less = ltb-true _ _ e in
     let in-limits = sym (well-within t (omega (arith, full)) words (omega (arith, c.if-n-ge-MOST_TERMS.false)) (le_trans (le_of_eq (sym top)) c.if-wrapping_add_u64-gt1.false) less) in
     (no-fault t full (fit-with-terms t in-limits c.if-total-ne1.false (omega (arith, less))), omega (arith, c.if-n-ge-MOST_TERMS.false), c.if-total-ne1.false)

@@ -11,12 +11,12 @@ returns-then-is_infinite-x c =
 
 pub returns-then-is_infinite-is_finite : goal.returns-then-is_infinite-is_finite
 returns-then-is_infinite-is_finite c =
-    let a = c.args in let second = ap₂ ◌&&◌ c.is_infinite-2.ensures c.is_finite-2.ensures in
+    let a = c.args in let second = ap₂ ◌&&◌ c.is_infinite-else-is_infinite-x.ensures c.is_finite-else-is_infinite-x.ensures in
     (unrounded-sum a.x a.y c.ranges.x.fits c.ranges.y.fits c.requires).1 (sym second ∙ c.if-is_infinite-is_finite.true)
 
-pub returns : goal.returns
-returns c =
+pub returns-else-is_infinite-is_finite : goal.returns-else-is_infinite-is_finite
+returns-else-is_infinite-is_finite c =
     let a = c.args in let first = ap₂ (λ (k l : Bool). k && (eqb a.x a.y || l)) c.is_infinite.ensures c.is_finite.ensures in
-    let second = ap₂ ◌&&◌ c.is_infinite-2.ensures c.is_finite-2.ensures in
+    let second = ap₂ ◌&&◌ c.is_infinite-else-is_infinite-x.ensures c.is_finite-else-is_infinite-x.ensures in
     c.nan_of.ensures
     ∙ (unrounded-sum a.x a.y c.ranges.x.fits c.ranges.y.fits c.requires).2 (sym first ∙ c.if-is_infinite-x.false) (sym second ∙ c.if-is_infinite-is_finite.false)

@@ -13,7 +13,7 @@ returns-then-n-gt9223372036854775808 c =
     let a = c.args in let e : 64 ≡ a.shift = omega arith in
     far-up a.ties a.n c.ranges.n.fits c.if-n-gt9223372036854775808.true ∙ ap (λ (s : ℕ). keep a.ties s a.n) e
 
-pub returns : goal.returns
-returns c =
+pub returns-else-n-gt9223372036854775808 : goal.returns-else-n-gt9223372036854775808
+returns-else-n-gt9223372036854775808 c =
     let a = c.args in let e : 64 ≡ a.shift = omega arith in
     far-down a.ties a.n c.ranges.n.fits c.if-n-gt9223372036854775808.false ∙ ap (λ (s : ℕ). keep a.ties s a.n) e

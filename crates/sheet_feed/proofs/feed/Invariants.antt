@@ -1,7 +1,9 @@
-use Rattle.sheet_spec.specs.Positions.{state_of}
+use Rattle.sheet_feed.specs.Inner.{state_in, SameLent}
 use Rattle.sheet_feed.proofs.Feeding.{Taken}
 use Rattle.sheet_feed.proofs.feed.Given as goal
 
 abbrev pub invariant-loop-taken : goal.invariant-loop-taken
-invariant-loop-taken l =
-    Taken l.bytes (state_of l.initial.position l.initial.line l.initial.total) l.initial.out l.taken l.written (state_of l.position l.line l.total) l.out
+invariant-loop-taken l = record {
+  taken : Taken l.bytes (state_in l.initial.run) l.initial.out l.taken l.written (state_in l.run) l.out;
+  lent : SameLent l.initial.run l.run;
+}

@@ -27,12 +27,12 @@ loop-i-preserved-then-sig-lt4294967296 c =
     let w = k (l.i - 1) in (
       omega arith,
       omega arith,
-      taken_in ws l.i c.wide-w.result (omega arith) (omega arith) c.wide-w.ensures k l.sig l.exp c.if-sig-lt4294967296.true l.invariant.2,
+      taken_in ws l.i c.from-w.result (omega arith) (omega arith) c.from-w.ensures k l.sig l.exp c.if-sig-lt4294967296.true l.invariant.2,
     )
 
 pub loop-i-preserved : goal.loop-i-preserved
 loop-i-preserved c =
-    let l = c.loop-i in let w = c.wide-w in let ws = c.args.words in let e = array-length number_size ws _ c.well_formed.0 in
+    let l = c.loop-i in let w = c.from-w in let ws = c.args.words in let e = array-length number_size ws _ c.well_formed.0 in
     let k = array-words number_size ws _ c.well_formed.0 in (
       omega arith,
       rw c.choose-sig.ensures (omega (arith, sticky-half w.result l.sig)),

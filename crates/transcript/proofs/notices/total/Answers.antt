@@ -1,19 +1,14 @@
 use Rattle.std.proofs.Common.{rules}
+use Rattle.std.proofs.iter.Serving.{serving}
+use native.Mathlib.Omega.{arith}
 use mathlib.Core.Path.{refl}
 use Rattle.transcript_spec.specs.Texts.{total_text}
-use Rattle.transcript_fields.proofs.Writing.{whole_text}
-use Rattle.transcript_spec.proofs.Buffers.{too_short}
-use native.Mathlib.Omega.{arith}
 use Rattle.transcript.proofs.notices.total.Goals as goal
 
-pub returns-then-out-lt24 : goal.returns-then-out-lt24
+pub written-requires-clause-room : goal.written-requires-clause-room
 unfolding total_text
-returns-then-out-lt24 c =
-    too_short c.args.out.now (total_text c.args.first c.args.second) (omega arith)
-
-pub put_total-requires : goal.put_total-requires
-unfolding total_text
-put_total-requires c = omega arith
+written-requires-clause-room c = grind (serving, arith)
 
 pub returns : goal.returns
-returns c = whole_text c.put_total.ensures refl (search (rules, c.put_total.ensures.same_buffer))
+unfolding total_text
+returns c = let a = c.args in c.written.ensures (total_text a.first a.second) refl (search rules)

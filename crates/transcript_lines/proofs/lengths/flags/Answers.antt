@@ -1,6 +1,9 @@
 use Rattle.transcript_spec.proofs.FieldLaws.{byte-most, flag-letters-count, no-flags, some-flags, flags-most}
 use lib.ListN.{length}
-use mathlib.Core.Path.{ap}
+use Prim.Native.Nat.{ℕ, zero, suc, max}
+use mathlib.Core.Path.{◌≡◌, refl, ap}
+use Rattle.augmented_spec.specs.declared.Flags.{Flags}
+use Rattle.transcript_spec.specs.Texts.{flag_letters, flags_text}
 use native.Mathlib.Omega.{arith}
 use Rattle.transcript_lines.proofs.lengths.flags.Goals as goal
 
@@ -15,10 +18,11 @@ pub overflow_add-n-3 : goal.overflow_add-n-3
 overflow_add-n-3 c =
     let a = c.args in omega (arith, byte-most a.flags.invalid, byte-most a.flags.overflow, byte-most a.flags.underflow, byte-most a.flags.inexact)
 
-pub returns-then-n-eq0 : goal.returns-then-n-eq0
-returns-then-n-eq0 c =
-    let f = c.args.flags in omega (arith, ap length (no-flags f (omega (arith, flag-letters-count f))))
+-- a dash where there are none
+one_or_more : (f : Flags) (n : ℕ) → length (flag_letters f) ≡ n → length (flags_text f) ≡ max n 1
+one_or_more f zero e = omega (arith, ap length (no-flags f e))
+one_or_more f (suc n) e = omega (arith, e, ap length (some-flags f (λ z. omega (arith, z, e))))
 
 pub returns : goal.returns
 returns c =
-    let f = c.args.flags in omega (arith, flag-letters-count f, ap length (some-flags f (λ z. c.if-n-eq0.false (omega (arith, flag-letters-count f, z)))), flags-most f)
+    let f = c.args.flags in omega (arith, flag-letters-count f, one_or_more f (length (flag_letters f)) refl, flags-most f)

@@ -24,5 +24,5 @@ returns-in-Ok c =
 
 pub returns-in-Err : goal.returns-in-Err
 returns-in-Err c =
-    let a = c.args in let r = c.in-Err.ensures in let n = c.refused.ensures ∙ ap no_sheet c.from.ensures in
+    let a = c.args in let r = c.in-Err.ensures in let n = c.from.ensures in
     (n ∙ ap filled_numbers r.0, r.1, no-pair a.operation a.x a.y c.in-Err.refusal _ n)

@@ -7,7 +7,7 @@ use lib.ListN.{length, get_or, length-take, length-drop}
 use Rattle.worksheet_spec.specs.Lines.{line_size}
 use Rattle.worksheet_lines.specs.Inner.{flat}
 use Rattle.worksheet_lines.proofs.Copied.{one_more}
-use Rattle.worksheet_lines.proofs.Lines.copy_out.Goals as goal
+use Rattle.worksheet_lines.proofs.copy_out.Goals as goal
 
 pub loop-i-init : goal.loop-i-init
 unfolding flat
@@ -15,7 +15,7 @@ loop-i-init c = (refl, refl, refl)
 
 pub loop-i-preserved : goal.loop-i-preserved
 loop-i-preserved c =
-    let l = c.loop-i in let i = l.i in let rows = c.self.inside.rows in
+    let l = c.loop-i in let i = l.i in let rows = c.args.rows.now in
     let line = c.copy_line.new.words in let kept = c.copy_line.auto.words in
     let long : length line ≡ line_size = kept ∙ simp (length-take, length-drop) (omega arith) in
     let is : line ≡ get_or rows i [] = c.copy_line.ensures in

@@ -3,7 +3,7 @@
 
 pub mod numbers;
 
-ghost use Rattle.std.specs.Prelude.{◌≡◌, ◌≤◌, [], length};
+ghost use Rattle.std.specs.Prelude.{◌≡◌, ◌≤◌, length};
 ghost use Rattle.rounding_spec.specs.Format.{binary32};
 ghost use Rattle.augmented_spec.specs.Direct.{direct_pair};
 ghost use Rattle.augmented_spec.specs.Operations.{operation_number};
@@ -11,7 +11,7 @@ ghost use Rattle.worksheet_spec.specs.Lines.{sheet_size};
 ghost use Rattle.worksheet_spec.specs.Sheets.{sheet_of};
 ghost use Rattle.worksheet_spec.specs.Filling.{filled, Fills};
 ghost use Rattle.worksheet.specs.Answers.{answer_filled};
-ghost use Rattle.worksheet_lines.specs.Inner.{Follows};
+ghost use Rattle.worksheet_lines.specs.Inner.{from_first, Follows};
 
 use augmented_spec::{Flags, Operation, Pair};
 use pattern::flipped;
@@ -53,7 +53,7 @@ fn written(operation: Operation, x: u32, y: u32, words: &mut [u32]) -> Filled
 
 #[tactic(auto, unfolding(worksheet_spec::specs::Sheets::sheet_of))]
 fn sheet(lines: &mut Lines, operation: Operation, x: u32, y: u32) -> Foot
-    ensures { Follows [] lines.new (sheet_of operation x y) result }
+    ensures { Follows (from_first lines.old) lines.new (sheet_of operation x y) result }
 {
     match operation {
         Operation::Sum => sums::sum(lines, x, y),

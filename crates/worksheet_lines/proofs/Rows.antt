@@ -1,45 +1,56 @@
--- The rows of a sheet's lines, and lines after others.
-use mathlib.Core.Path.{◌≡◌, refl, sym}
-use mathlib.Core.List.{List, [], ◌∷◌, ◌++◌, map, map-append, append_assoc, append-nil}
+-- Lines in rows, one after the other, and the lines of a sheet after others.
+use mathlib.Core.Path.{◌≡◌, refl, ap, ◌∙◌}
+use mathlib.Core.List.{List, [], ◌∷◌, ◌++◌}
 use Prim.Native.Nat.{ℕ, ◌+◌}
 use native.Mathlib.Omega.{arith}
-use lib.ListN.{length, length-append, length-map}
+use lib.ListN.{length, length-append}
 use Rattle.worksheet_spec.specs.Lines.{Line, Sheet, before, ends}
-use Rattle.worksheet_spec.specs.Filling.{line_words}
-use Rattle.worksheet_lines.specs.Inner.{Written, Follows}
+use Rattle.worksheet_lines.specs.Inner.{Written, rows_with, Follows}
 use Rattle.worksheet_lines.specs.declared.Foot.{Foot}
+use Rattle.worksheet_lines.specs.declared.Lines.{Lines}
 
 abbrev pub Rows : Type 0
 Rows = List (List ℕ)
 
--- lines were added
-pub record Standing (start here : Rows) (ls : List Line) : Type 0 where
-  pub rows : here ≡ start ++ map line_words ls
+-- lines stand from the next row on
+pub record Standing (start here : Lines) (ls : List Line) : Type 0 where
+  pub rows : here.rows ≡ rows_with start.rows start.used ls
+  pub next : here.used ≡ start.used + length ls
 
-counted : (start here : Rows) (ls : List Line) → here ≡ start ++ map line_words ls → length here ≡ length start + length ls
-counted start here ls e = rw (e, length-append start (map line_words ls), length-map ls line_words)
+rows_with-append : (rows : Rows) (n : ℕ) (ls ms : List Line) → rows_with rows n (ls ++ ms) ≡ rows_with (rows_with rows n ls) (n + length ls) ms
+unfolding rows_with
+rows_with-append rows n [] ms = ap (λ (m : ℕ). rows_with rows m ms) (omega arith)
+rows_with-append rows n (l ∷ ls) ms =
+    let k : n + 1 + length ls ≡ n + length (l ∷ ls) = omega arith in
+    rows_with-append _ (n + 1) ls ms ∙ ap (λ (m : ℕ). rows_with (rows_with rows n (l ∷ ls)) m ms) k
 
-joined : (start here there : Rows) (ls ms : List Line) → here ≡ start ++ map line_words ls → there ≡ here ++ map line_words ms → there ≡ start ++ map line_words (ls ++ ms)
-joined start here there ls ms e f = rw (f, e, map-append line_words ls ms, append_assoc)
-
-pub none_yet : (start : Rows) → Standing start start []
-none_yet start = record { rows = sym (append-nil start) }
+pub none_yet : (start : Lines) → Standing start start []
+unfolding rows_with
+none_yet start = record { rows = refl; next = omega arith }
 
 -- a foot to which no more lines lead
-pub foot-follows : (start : Rows) (first second : ℕ) → Follows start start (ends first second) (record { first = first; second = second })
-foot-follows start first second = record { first = refl; second = refl; rows = sym (append-nil start); count = omega arith }
+pub foot-follows : (start : Lines) (first second : ℕ) → Follows start start (ends first second) (record { first = first; second = second })
+unfolding rows_with
+foot-follows start first second = record { first = refl; second = refl; rows = refl; next = omega arith }
 
-module _ {start here there : Rows} {ls : List Line} (h : Standing start here ls) where
+module _ {start here there : Lines} {ls : List Line} (h : Standing start here ls) where
   -- a line more
   pub then-line : {l : Line} → Written here there l → Standing start there (ls ++ (l ∷ []))
-  then-line {l} w = record { rows = joined start here there ls (l ∷ []) h.rows w.rows }
+  unfolding rows_with
+  then-line {l} w =
+      record {
+        rows = rw (rows_with-append start.rows start.used ls (l ∷ []), w.rows, h.rows, h.next);
+        next = omega (arith, w.next, h.next, length-append ls (l ∷ []));
+      }
 
   -- the lines of a sheet, which others follow
   pub then_lines : {s : Sheet} {foot : Foot} → Follows here there s foot → Standing start there (ls ++ s.lines)
-  then_lines {s} f = record { rows = joined start here there ls s.lines h.rows f.rows }
+  then_lines {s} f =
+      record {
+        rows = rw (rows_with-append start.rows start.used ls s.lines, f.rows, h.rows, h.next);
+        next = omega (arith, f.next, h.next, length-append ls s.lines);
+      }
 
   -- a sheet
   pub then-sheet : {s : Sheet} {foot : Foot} → Follows here there s foot → Follows start there (before ls s) foot
-  then-sheet {s} f =
-      let e = joined start here there ls s.lines h.rows f.rows in
-      record { first = f.first; second = f.second; rows = e; count = counted start there (ls ++ s.lines) e }
+  then-sheet {s} f = let k = then_lines f in record { first = f.first; second = f.second; rows = k.rows; next = k.next }

@@ -11,16 +11,17 @@ use Rattle.worksheet_spec.specs.Lines.{most_lines, line, minus, equal, is_zero_p
 use Rattle.worksheet_spec.specs.Sheets.{recomposition, zero_finish, recomposed_finished, at_edge, edge_finish}
 use Rattle.worksheet_lines.specs.Inner.{Written, Follows}
 use Rattle.worksheet_lines.specs.declared.Foot.{Foot}
-use Rattle.worksheet_lines.proofs.Rows.{Rows, Standing, none_yet, foot-follows, then-line, then_lines, then-sheet}
+use Rattle.worksheet_lines.specs.declared.Lines.{Lines}
+use Rattle.worksheet_lines.proofs.Rows.{Standing, none_yet, foot-follows, then-line, then_lines, then-sheet}
 
 -- ---- zero finish
 module _ (first second : ℕ) where
-  pub zero-finished : {start here : Rows} {nought : ℕ} → is_zero_pattern second ≡ true → Written start here (line multiply plus_zero first nought)
+  pub zero-finished : {start here : Lines} {nought : ℕ} → is_zero_pattern second ≡ true → Written start here (line multiply plus_zero first nought)
       → Follows start here (zero_finish first second) (record { first = first; second = nought })
   unfolding zero_finish
   zero-finished {start} {here} e w = rw (e, ← w.gives.0) (then-sheet (then-line (none_yet start) w) (foot-follows here _ _))
 
-  pub not-zero-finished : (start : Rows) → is_zero_pattern second ≡ false → Follows start start (zero_finish first second) (record { first = first; second = second })
+  pub not-zero-finished : (start : Lines) → is_zero_pattern second ≡ false → Follows start start (zero_finish first second) (record { first = first; second = second })
   unfolding zero_finish
   not-zero-finished start e = rw e (foot-follows start first second)
 
@@ -29,7 +30,7 @@ pub recomposition-length : (a b : ℕ) → length (recomposition a b).lines ≡ 
 unfolding recomposition
 recomposition-length a b = refl
 
-module _ (a b : ℕ) {start here there end : Rows} {z d e : ℕ} (p : Written start here (line multiply psi a z)) (q : Written here there (line subtract z a d))
+module _ (a b : ℕ) {start here there end : Lines} {z d e : ℕ} (p : Written start here (line multiply psi a z)) (q : Written here there (line subtract z a d))
     (r : Written there end (line multiply two b e)) where
   three-lines : Standing start end (line multiply psi a z ∷ line subtract z a d ∷ line multiply two b e ∷ [])
   three-lines = then-line (then-line (then-line (none_yet start) p) q) r
@@ -43,21 +44,21 @@ module _ (a b : ℕ) {start here there end : Rows} {z d e : ℕ} (p : Written st
   kept h = rw (← p.gives.0, ← q.gives.0, ← r.gives.0, h) (then-sheet three-lines (foot-follows end _ _))
 
 -- ---- both
-module _ (a b : ℕ) {start here : Rows} {pair : Foot} (p : Follows start here (recomposition a b) pair) where
-  pub room-to-finish : length start + 3 < most_lines → length here < most_lines
-  room-to-finish h = omega (arith, p.count, recomposition-length a b)
+module _ (a b : ℕ) {start here : Lines} {pair : Foot} (p : Follows start here (recomposition a b) pair) where
+  pub room-to-finish : start.used + 3 < most_lines → here.used < most_lines
+  room-to-finish h = omega (arith, p.next, recomposition-length a b)
 
-  pub recomposed-and-finished : {end : Rows} {foot : Foot} → Follows here end (zero_finish pair.first pair.second) foot → Follows start end (recomposed_finished a b) foot
+  pub recomposed-and-finished : {end : Lines} {foot : Foot} → Follows here end (zero_finish pair.first pair.second) foot → Follows start end (recomposed_finished a b) foot
   unfolding recomposed_finished
   recomposed-and-finished q = rw (← p.first, ← p.second) (then-sheet (then_lines (none_yet start) p) q)
 
 -- ---- the edge
 module _ (a half rest : ℕ) where
-  pub at_edge_lem : {start here end : Rows} {first second : ℕ} → at_edge half rest ≡ true → Written start here (line multiply kappa half first)
+  pub at_edge_lem : {start here end : Lines} {first second : ℕ} → at_edge half rest ≡ true → Written start here (line multiply kappa half first)
       → Written here end (line multiply minus_two rest second) → Follows start end (edge_finish a half rest) (record { first = first; second = second })
   unfolding edge_finish
   at_edge_lem {start} {here} {end} e p q = rw (e, ← p.gives.0, ← q.gives.0) (then-sheet (then-line (then-line (none_yet start) p) q) (foot-follows end _ _))
 
-  pub not-at-edge : (start : Rows) → at_edge half rest ≡ false → Follows start start (edge_finish a half rest) (record { first = a; second = a })
+  pub not-at-edge : (start : Lines) → at_edge half rest ≡ false → Follows start start (edge_finish a half rest) (record { first = a; second = a })
   unfolding edge_finish
   not-at-edge start e = rw e (foot-follows start a a)

@@ -1,26 +1,35 @@
--- What the makers of lines promise each other: lines after those of a sheet so far, as rows of words (R11.10), and the foot that they
--- reach.
-use Rattle.std.specs.Prelude.{ℕ, ◌+◌, ◌-◌, ◌≡◌, List, [], ◌∷◌, ◌++◌, length, map, replicate}
+-- What the makers of lines promise each other: lines from a row of a sheet on, as rows of words (R11.10), and the foot that they reach.
+use Rattle.std.specs.Prelude.{ℕ, ◌+◌, ◌≡◌, List, [], ◌∷◌, ◌++◌, length, replicate, set}
 use Rattle.worksheet_spec.specs.Lines.{line_size, most_lines, Line, Gives, Sheet}
 use Rattle.worksheet_spec.specs.Filling.{line_words}
 use Rattle.worksheet_lines.specs.declared.Foot.{Foot}
+use Rattle.worksheet_lines.specs.declared.Lines.{Lines}
 
--- A line was added. Its result and its mark are the step's on its operands.
-pub record Written (before after : List (List ℕ)) (l : Line) : Type 0 where
+-- rows of zeros, and the next line goes into the first
+abbrev pub no_lines : Lines
+no_lines = record { rows = replicate most_lines (replicate line_size 0); used = 0 }
+
+-- the same rows, and the next line goes into the first
+abbrev pub from_first : Lines → Lines
+from_first lines = record { rows = lines.rows; used = 0 }
+
+-- A line went into the next row. Its result and its mark are the step's on its operands.
+pub record Written (before after : Lines) (l : Line) : Type 0 where
   pub gives : Gives l.step l.x l.y l.z l.result l.mark
-  pub rows : after ≡ before ++ line_words l ∷ []
-  pub count : length after ≡ length before + 1
+  pub rows : after.rows ≡ set before.rows before.used (line_words l)
+  pub next : after.used ≡ before.used + 1
 
--- A sheet's lines were added; its foot came back.
-pub record Follows (before after : List (List ℕ)) (s : Sheet) (foot : Foot) : Type 0 where
+-- rows with lines in them from the nth on
+unfoldable pub rows_with : List (List ℕ) → ℕ → List Line → List (List ℕ)
+rows_with rows n [] = rows
+rows_with rows n (l ∷ ls) = rows_with (set rows n (line_words l)) (n + 1) ls
+
+-- A sheet's lines went into the next rows, and all others stayed; its foot came back.
+pub record Follows (before after : Lines) (s : Sheet) (foot : Foot) : Type 0 where
   pub first : foot.first ≡ s.first
   pub second : foot.second ≡ s.second
-  pub rows : after ≡ before ++ map line_words s.lines
-  pub count : length after ≡ length before + length s.lines
-
--- all rows: those of lines, and unused ones
-unfoldable pub padded : List (List ℕ) → List (List ℕ)
-padded rows = rows ++ replicate (most_lines - length rows) (replicate line_size 0)
+  pub rows : after.rows ≡ rows_with before.rows before.used s.lines
+  pub next : after.used ≡ before.used + length s.lines
 
 -- the words of all rows
 unfoldable pub flat : List (List ℕ) → List ℕ

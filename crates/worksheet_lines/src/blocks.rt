@@ -1,7 +1,8 @@
 // What the lines of sums and products share.
-ghost use Rattle.std.specs.Prelude.{List, ℕ, ◌+◌, ◌<◌, ◌≤◌, length};
+ghost use Rattle.std.specs.Prelude.{◌+◌, ◌<◌, ◌≤◌};
 ghost use Rattle.worksheet_spec.specs.Lines.{most_lines, ends};
 ghost use Rattle.worksheet_spec.specs.Sheets.{recomposition, zero_finish, recomposed_finished, edge_finish};
+ghost use Rattle.worksheet_lines.specs.declared.Lines.{Lines};
 ghost use Rattle.worksheet_lines.specs.Inner.{Follows};
 
 use crate::{Foot, Lines};
@@ -10,7 +11,7 @@ use worksheet_spec::{KAPPA, MINUS_TWO, PLUS_ZERO, PSI, TWO};
 
 // A foot to which no more lines lead: one result, twice.
 pub fn first_line(a: u32) -> Foot
-    ensures { (rows : List (List ℕ)) → Follows rows rows (ends a a) result }
+    ensures { (lines : Lines) → Follows lines lines (ends a a) result }
 {
     Foot {
         first: a,
@@ -20,7 +21,7 @@ pub fn first_line(a: u32) -> Foot
 
 #[inline(always)]
 pub fn recomposition(lines: &mut Lines, a: u32, b: u32) -> Foot
-    requires { length lines.old + 3 ≤ most_lines }
+    requires { lines.old.used + 3 ≤ most_lines }
     ensures { Follows lines.old lines.new (recomposition a b) result }
 {
     let z = lines.mul(PSI, a);
@@ -40,7 +41,7 @@ pub fn recomposition(lines: &mut Lines, a: u32, b: u32) -> Foot
 
 // A second that is zero gets the sign that first has (R5.6).
 pub fn zero_finish(lines: &mut Lines, first: u32, second: u32) -> Foot
-    requires { length lines.old < most_lines }
+    requires { lines.old.used < most_lines }
     ensures { Follows lines.old lines.new (zero_finish first second) result }
 {
     if pattern::is_zero(second) {
@@ -55,7 +56,7 @@ pub fn zero_finish(lines: &mut Lines, first: u32, second: u32) -> Foot
 
 #[inline(always)]
 pub fn recomposed_finished(lines: &mut Lines, a: u32, b: u32) -> Foot
-    requires { length lines.old + 3 < most_lines }
+    requires { lines.old.used + 3 < most_lines }
     ensures { Follows lines.old lines.new (recomposed_finished a b) result }
 {
     let pair = recomposition(lines, a, b);
@@ -64,7 +65,7 @@ pub fn recomposed_finished(lines: &mut Lines, a: u32, b: u32) -> Foot
 
 // An infinite a stands for a pair at the edge, or for itself twice.
 pub fn edge_finish(lines: &mut Lines, a: u32, half: u32, rest: u32) -> Foot
-    requires { length lines.old + 1 < most_lines }
+    requires { lines.old.used + 1 < most_lines }
     ensures { Follows lines.old lines.new (edge_finish a half rest) result }
 {
     if worksheet_choices::at_edge(half, rest) {

@@ -17,10 +17,11 @@ use Rattle.worksheet_spec.proofs.Sums.{b-none}
 use Rattle.worksheet_spec.proofs.SumSteps.{recomposed-none-steps}
 use Rattle.worksheet_lines.specs.Inner.{Written, Follows}
 use Rattle.worksheet_lines.specs.declared.Foot.{Foot}
-use Rattle.worksheet_lines.proofs.Rows.{Rows, Standing, none_yet, foot-follows, then-line, then_lines, then-sheet}
+use Rattle.worksheet_lines.specs.declared.Lines.{Lines}
+use Rattle.worksheet_lines.proofs.Rows.{Standing, none_yet, foot-follows, then-line, then_lines, then-sheet}
 
 -- ---- half the operands
-module _ (x y a : ℕ) {l₀ l₁ l₂ l₃ l₄ l₅ l₆ : Rows} {p q s v r : ℕ} {foot : Foot} where
+module _ (x y a : ℕ) {l₀ l₁ l₂ l₃ l₄ l₅ l₆ : Lines} {p q s v r : ℕ} {foot : Foot} where
   pub halved : Written l₀ l₁ (line multiply half x p) → Written l₁ l₂ (line multiply half y q) → Written l₂ l₃ (line add p q s)
       → Written l₃ l₄ (line subtract s p v) → Written l₄ l₅ (line subtract q v r) → Follows l₅ l₆ (edge_finish a s r) foot → Follows l₀ l₆ (halved_sum x y a) foot
   unfolding halved_sum
@@ -46,7 +47,7 @@ not-finished x y a s e =
     sym (steps-length (recomposed_finished a b).lines) ∙ ap length (recomposed-none-steps a b n (none-zero (value b) (b-none x y a n)))
 
 -- ---- behind the line of a
-module _ (x y a : ℕ) {l₀ l₁ l₂ l₃ : Rows} {v b : ℕ} {pair : Foot} (q : Written l₀ l₁ (line subtract a x v)) (r : Written l₁ l₂ (line subtract y v b))
+module _ (x y a : ℕ) {l₀ l₁ l₂ l₃ : Lines} {v b : ℕ} {pair : Foot} (q : Written l₀ l₁ (line subtract a x v)) (r : Written l₁ l₂ (line subtract y v b))
     (f : Follows l₂ l₃ (recomposed_finished a b) pair) where
   standing : Standing l₀ l₃ (line subtract a x v ∷ line subtract y v b ∷ (recomposed_finished a b).lines)
   standing = then_lines (then-line (then-line (none_yet l₀) q) r) f
@@ -58,28 +59,28 @@ module _ (x y a : ℕ) {l₀ l₁ l₂ l₃ : Rows} {v b : ℕ} {pair : Foot} (q
   rows-used : overflows pair.second a ≡ true → length (recomposed_finished a b).lines ≡ 3
   rows-used e = rw (r.gives.0, q.gives.0) (not-finished x y a pair.second e)
 
-  pub room-to-halve : overflows pair.second a ≡ true → length l₀ + 12 ≤ most_lines → length l₃ + 7 ≤ most_lines
-  room-to-halve e h = omega (arith, q.count, r.count, f.count, rows-used e)
+  pub room-to-halve : overflows pair.second a ≡ true → l₀.used + 12 ≤ most_lines → l₃.used + 7 ≤ most_lines
+  room-to-halve e h = omega (arith, q.next, r.next, f.next, rows-used e)
 
-  pub with-halved : {l₄ : Rows} {foot : Foot} → overflows pair.second a ≡ true → Follows l₃ l₄ (halved_sum x y a) foot → Follows l₀ l₄ (sum_from x y a) foot
+  pub with-halved : {l₄ : Lines} {foot : Foot} → overflows pair.second a ≡ true → Follows l₃ l₄ (halved_sum x y a) foot → Follows l₀ l₄ (sum_from x y a) foot
   unfolding sum_from
   with-halved e g = rw (← q.gives.0, ← r.gives.0, ← f.second, e) (then-sheet standing g)
 
 -- ---- operands in order
-module _ (x y : ℕ) {l₀ l₁ : Rows} {a : ℕ} (p : Written l₀ l₁ (line add x y a)) where
+module _ (x y : ℕ) {l₀ l₁ : Lines} {a : ℕ} (p : Written l₀ l₁ (line add x y a)) where
   pub ended : {foot : Foot} → is_nan (value a) ≡ true → Follows l₁ l₁ (ends a a) foot → Follows l₀ l₁ (sum_in_order x y) foot
   unfolding sum_in_order
   ended n f = rw (← p.gives.0, n) (then-sheet (then-line (none_yet l₀) p) f)
 
-  pub gone-on : {l₂ : Rows} {foot : Foot} → is_nan (value a) ≡ false → Follows l₁ l₂ (sum_from x y a) foot → Follows l₀ l₂ (sum_in_order x y) foot
+  pub gone-on : {l₂ : Lines} {foot : Foot} → is_nan (value a) ≡ false → Follows l₁ l₂ (sum_from x y a) foot → Follows l₀ l₂ (sum_in_order x y) foot
   unfolding sum_in_order
   gone-on n f = rw (← p.gives.0, n) (then-sheet (then-line (none_yet l₀) p) f)
 
 -- ---- either order
-pub ordered : (x y p q : ℕ) {start end : Rows} {foot : Foot} (b : Bool) → start ≡ [] → b ≡ swaps x y → p ≡ cond b y x → q ≡ cond b x y
-    → Follows start end (sum_in_order p q) foot → Follows [] end (sum_sheet x y) foot
+pub ordered : (x y p q : ℕ) {start end : Lines} {foot : Foot} (b : Bool) → b ≡ swaps x y → p ≡ cond b y x → q ≡ cond b x y
+    → Follows start end (sum_in_order p q) foot → Follows start end (sum_sheet x y) foot
 unfolding sum_sheet
-ordered x y p q {start} {end} {foot} b n e f g h = rw (← n, ← e) (by b f g)
+ordered x y p q {start} {end} {foot} b e f g h = rw (← e) (by b f g)
   where
     by : (c : Bool) → p ≡ cond c y x → q ≡ cond c x y → Follows start end (cond c (sum_in_order y x) (sum_in_order x y)) foot
     by true f g = rw (← f, ← g) h

@@ -1,18 +1,18 @@
 // The lines of a product. The first one decides on the others.
-ghost use Rattle.std.specs.Prelude.{◌+◌, ◌≤◌, [], length};
+ghost use Rattle.std.specs.Prelude.{◌+◌, ◌≤◌};
 ghost use Rattle.worksheet_spec.specs.Lines.{most_lines};
 ghost use Rattle.worksheet_spec.specs.Sheets.{infinite_product, tiny_product, scaled_down, middle_product, other_product, product_sheet};
-ghost use Rattle.worksheet_lines.specs.Inner.{Follows};
+ghost use Rattle.worksheet_lines.specs.Inner.{from_first, Follows};
 
 use pattern::flipped;
 use worksheet_lines::{Foot, Lines, blocks};
 use worksheet_spec::{Branch, HALF, PLUS_ZERO, SMALLEST, TWO_TO_24, TWO_TO_48, TWO_TO_MINUS_24};
 
-// Earlier lines go: a sheet begins with the first one.
+// A sheet begins in the first row, and the rows behind it stay as they were.
 pub fn product(lines: &mut Lines, x: u32, y: u32) -> Foot
-    ensures { Follows [] lines.new (product_sheet x y) result }
+    ensures { Follows (from_first lines.old) lines.new (product_sheet x y) result }
 {
-    lines.clear();
+    lines.used = 0;
     let a = lines.mul(x, y);
     match worksheet_choices::branch_of(a) {
         Branch::NotANumber => blocks::first_line(a),
@@ -26,7 +26,7 @@ pub fn product(lines: &mut Lines, x: u32, y: u32) -> Foot
 
 // Half an operand has a finite product.
 fn infinite(lines: &mut Lines, x: u32, y: u32, a: u32) -> Foot
-    requires { length lines.old + 5 ≤ most_lines }
+    requires { lines.old.used + 5 ≤ most_lines }
     ensures { Follows lines.old lines.new (infinite_product x y a) result }
 {
     let h = lines.mul(HALF, x);
@@ -37,7 +37,7 @@ fn infinite(lines: &mut Lines, x: u32, y: u32, a: u32) -> Foot
 
 // The rest is lost, but tells a tie.
 fn tiny(lines: &mut Lines, x: u32, y: u32, a: u32) -> Foot
-    requires { length lines.old + 10 ≤ most_lines }
+    requires { lines.old.used + 10 ≤ most_lines }
     ensures { Follows lines.old lines.new (tiny_product x y a) result }
 {
     let m = lines.mul(TWO_TO_24, x);
@@ -59,7 +59,7 @@ fn tiny(lines: &mut Lines, x: u32, y: u32, a: u32) -> Foot
 
 // The pair is found 2^24 times as large.
 fn middle(lines: &mut Lines, x: u32, y: u32) -> Foot
-    requires { length lines.old + 12 ≤ most_lines }
+    requires { lines.old.used + 12 ≤ most_lines }
     ensures { Follows lines.old lines.new (middle_product x y) result }
 {
     let m = lines.mul(TWO_TO_24, x);
@@ -71,7 +71,7 @@ fn middle(lines: &mut Lines, x: u32, y: u32) -> Foot
 
 // A rest that was a tie is rounded again, toward zero.
 fn scaled_down(lines: &mut Lines, a: u32, b: u32) -> Foot
-    requires { length lines.old + 6 ≤ most_lines }
+    requires { lines.old.used + 6 ≤ most_lines }
     ensures { Follows lines.old lines.new (scaled_down a b) result }
 {
     let first = lines.mul(TWO_TO_MINUS_24, a);
@@ -86,7 +86,7 @@ fn scaled_down(lines: &mut Lines, a: u32, b: u32) -> Foot
 }
 
 fn other(lines: &mut Lines, x: u32, y: u32, a: u32) -> Foot
-    requires { length lines.old + 5 ≤ most_lines }
+    requires { lines.old.used + 5 ≤ most_lines }
     ensures { Follows lines.old lines.new (other_product x y a) result }
 {
     let b = lines.fused(x, y, flipped(a));

@@ -9,8 +9,9 @@ ghost use Rattle.accumulator_spec.specs.Joins.{Joins};
 ghost use Rattle.accumulator_spec.specs.Carrying.{Carries};
 ghost use Rattle.accumulator_spec.specs.Answers.{answer_of, answer_read};
 
-use accumulator_spec::{NotDone, TOTAL_SIZE};
-use augmented_spec::Halves;
+pub use accumulator_spec::NotDone;
+use accumulator_spec::TOTAL_SIZE;
+pub use augmented_spec::Halves;
 
 // Whatever the words are: a total that is damaged can be cleared.
 pub fn clear(total: &mut [u32]) -> Result<(), NotDone>

@@ -11,7 +11,7 @@ ghost use Rattle.conservation.specs.Answers.{answer_replayed};
 ghost use Rattle.conservation.specs.Inner.{asking, lent, Equal};
 ghost use Rattle.conservation_spec.specs.Replay.{after_asking, all_within, Replays};
 
-use conservation_spec::NotReplayed;
+pub use conservation_spec::NotReplayed;
 use questions::Questions;
 
 // The ith question has the ith operation number and patterns, and the first counts[i] of the lent words to fill. Every misfit is found

@@ -11,7 +11,8 @@ ghost use Rattle.marking.specs.Answers.{answer_marked};
 
 use augmented_spec::Operation;
 use marking_lines::{allowed, is_true};
-use marking_spec::{Claim, FEWEST_MARKED, MOST_MARKED, NotMarked};
+pub use marking_spec::NotMarked;
+use marking_spec::{Claim, FEWEST_MARKED, MOST_MARKED};
 use worksheet_spec::LINE_SIZE;
 
 // Whether the lines are right. The operation comes as a number, since any may come, and R8.18 says what one that is no operation's is told.

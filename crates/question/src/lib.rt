@@ -8,7 +8,8 @@ ghost use Rattle.std.specs.Prelude.{◌≡◌};
 ghost use Rattle.question_spec.specs.Questions.{read_question};
 ghost use Rattle.question_spec.specs.Answers.{answer_question};
 
-use question_spec::{NotAsked, QUESTION_SIZE, Question};
+use question_spec::QUESTION_SIZE;
+pub use question_spec::{NotAsked, Question};
 
 pub fn read(line: &[u8]) -> Result<Question, NotAsked>
     ensures { answer_question result ≡ read_question line.now }

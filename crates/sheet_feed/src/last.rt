@@ -8,7 +8,7 @@ ghost use Rattle.sheet_spec.specs.Positions.{goes_on, state_of, progress_of};
 ghost use Rattle.sheet_spec.specs.Calls.{closing_room};
 ghost use Rattle.sheet_feed.specs.Inner.{LastLine};
 
-use augmented_spec::Halves;
+use accumulator::Halves;
 use sheet_spec::{KEPT_BYTES, Position, Progressed};
 
 // A line without newline counts, if it has a byte. `finish` is lent the line only to read, which a `Run` holds to change: its parts come

@@ -17,7 +17,8 @@ use augmented_spec::{Flags, Operation, Pair};
 use pattern::flipped;
 use worksheet_lines::{Foot, Lines};
 use worksheet_rules::{products, sums};
-use worksheet_spec::{Filled, NotFilled, SHEET_SIZE};
+use worksheet_spec::SHEET_SIZE;
+pub use worksheet_spec::{Filled, NotFilled};
 
 // The pair is the one that the lines reach. The flags are the direct pair's. The operation comes as a number, since any may come, and R8.5
 // says what one that is no operation's is told.

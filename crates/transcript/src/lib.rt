@@ -13,7 +13,6 @@ ghost use Rattle.transcript.specs.Inner.{AtStart};
 
 use augmented_spec::Pair;
 pub use notices::{bad, end, stop, total};
-use transcript_fields::letters::step_of;
 use transcript_fields::writer::Writer;
 use transcript_lines::{lengths, put_answered, put_ask, put_pair, put_step};
 use worksheet_spec::{LINE_SIZE, MOST_LINES, SHEET_SIZE};
@@ -51,7 +50,7 @@ pub fn step(out: &mut [u8], number: u32, line: [u32; LINE_SIZE]) -> usize
 {
     written(
         out,
-        lengths::step(number, step_of(line[0])),
+        lengths::step(number, line[0]),
         |to| put_step(to, number, &line),
     )
 }

@@ -3,7 +3,7 @@ ghost use Rattle.std.specs.Prelude.{◌≡◌, ◌∷◌};
 ghost use Rattle.question_spec.specs.Ascii.{tab};
 ghost use Rattle.augmented_spec.specs.Operations.{operation_of};
 ghost use Rattle.question_spec.specs.Questions.{operation_letters, operation_letters_by_number};
-ghost use Rattle.transcript_spec.specs.Texts.{step_of, step_letters};
+ghost use Rattle.transcript_spec.specs.Texts.{step_of, step_letters, step_letters_by_number};
 ghost use Rattle.transcript_fields.specs.Writers.{HasRoom, Wrote};
 
 use crate::writer::Writer;
@@ -23,24 +23,24 @@ pub fn step_of(number: u32) -> Step
     Step::try_from(number).unwrap_or(Step::Fused)
 }
 
-fn question(operation: Operation) -> [u8; 4]
-    ensures { result ≡ tab ∷ operation_letters operation }
+fn question(operation: Operation) -> [u8; 3]
+    ensures { result ≡ operation_letters operation }
 {
     match operation {
-        Operation::Sum => *b"\tsum",
-        Operation::Difference => *b"\tdif",
-        Operation::Product => *b"\tmul",
+        Operation::Sum => *b"sum",
+        Operation::Difference => *b"dif",
+        Operation::Product => *b"mul",
     }
 }
 
-fn of_step(step: Step) -> [u8; 4]
-    ensures { result ≡ tab ∷ step_letters step }
+fn of_step(step: Step) -> [u8; 3]
+    ensures { result ≡ step_letters step }
 {
     match step {
-        Step::Add => *b"\tadd",
-        Step::Subtract => *b"\tsub",
-        Step::Multiply => *b"\tmul",
-        Step::Fused => *b"\tfma",
+        Step::Add => *b"add",
+        Step::Subtract => *b"sub",
+        Step::Multiply => *b"mul",
+        Step::Fused => *b"fma",
     }
 }
 
@@ -49,13 +49,15 @@ impl Writer<'_> {
         requires { HasRoom self.old (tab ∷ operation_letters_by_number operation) }
         ensures { Wrote self.old (tab ∷ operation_letters_by_number operation) self.new }
     {
+        self.byte(b'\t');
         self.bytes(&question(operation_of(operation)));
     }
 
-    pub fn step_letters(&mut self, step: Step)
-        requires { HasRoom self.old (tab ∷ step_letters step) }
-        ensures { Wrote self.old (tab ∷ step_letters step) self.new }
+    pub fn step_letters(&mut self, operation: u32)
+        requires { HasRoom self.old (tab ∷ step_letters_by_number operation) }
+        ensures { Wrote self.old (tab ∷ step_letters_by_number operation) self.new }
     {
-        self.bytes(&of_step(step));
+        self.byte(b'\t');
+        self.bytes(&of_step(step_of(operation)));
     }
 }

@@ -2,11 +2,11 @@
 ghost use Rattle.std.specs.Prelude.{◌≡◌, ◌∷◌, ◌++◌, ◌%◌};
 ghost use Rattle.question_spec.specs.Ascii.{tab};
 ghost use Rattle.question_spec.specs.Questions.{digit, pattern_text};
-ghost use Rattle.transcript_spec.specs.Texts.{takes_two};
+ghost use Rattle.transcript_spec.specs.Texts.{step_of, takes_two, third_text};
 ghost use Rattle.transcript_spec.specs.Inner.{half_text};
-ghost use Rattle.transcript_fields.specs.Inner.{third_of};
 ghost use Rattle.transcript_fields.specs.Writers.{HasRoom, Wrote};
 
+use crate::letters::step_of;
 use crate::writer::Writer;
 use worksheet_spec::Step;
 
@@ -21,10 +21,13 @@ fn hexadecimal(x: u32) -> u8
 }
 
 // Whether a step's third operand is unused.
-pub fn takes_two(step: Step) -> bool
-    ensures { result ≡ takes_two step }
+pub fn takes_two(operation: u32) -> bool
+    ensures { result ≡ takes_two (step_of operation) }
 {
-    step != Step::Fused
+    match step_of(operation) {
+        Step::Add | Step::Subtract | Step::Multiply => true,
+        Step::Fused => false,
+    }
 }
 
 impl Writer<'_> {
@@ -56,11 +59,11 @@ impl Writer<'_> {
         self.pattern(y);
     }
 
-    pub fn third(&mut self, step: Step, z: u32)
-        requires { HasRoom self.old (tab ∷ third_of step z) }
-        ensures { Wrote self.old (tab ∷ third_of step z) self.new }
+    pub fn third(&mut self, operation: u32, z: u32)
+        requires { HasRoom self.old (tab ∷ third_text operation z) }
+        ensures { Wrote self.old (tab ∷ third_text operation z) self.new }
     {
-        if takes_two(step) {
+        if takes_two(operation) {
             self.bytes(b"\t-");
             return;
         }

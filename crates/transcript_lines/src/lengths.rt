@@ -1,13 +1,12 @@
 // How long the texts are, known before the first byte is written: where one has no room the buffer stays as it was (R8.14).
 ghost use Rattle.std.specs.Prelude.{◌≡◌, List, ℕ, ◌+◌, ◌*◌, ◌≤◌, length, get_or};
 ghost use Rattle.worksheet_spec.specs.Lines.{most_lines};
-ghost use Rattle.transcript_spec.specs.Texts.{decimal, step_of, flags_text, step_text, steps_text};
+ghost use Rattle.transcript_spec.specs.Texts.{decimal, flags_text, step_text, steps_text};
 ghost use Rattle.transcript_spec.specs.Inner.{answered_length};
 
 use augmented_spec::Flags;
-use transcript_fields::letters::step_of;
 use transcript_fields::patterns::takes_two;
-use worksheet_spec::{LINE_SIZE, SHEET_SIZE, Step};
+use worksheet_spec::{LINE_SIZE, SHEET_SIZE};
 
 pub fn decimal(n: u32) -> usize
     ensures { (result ≡ length (decimal n)) × (result ≤ 10) }
@@ -28,10 +27,10 @@ pub fn flags(flags: Flags) -> usize
     n.max(1)
 }
 
-pub fn step(number: u32, step: Step) -> usize
-    ensures { ((words : List ℕ) → step_of (get_or words 0 0) ≡ step → result ≡ length (step_text number words)) × (result ≤ 58) }
+pub fn step(number: u32, operation: u32) -> usize
+    ensures { ((words : List ℕ) → get_or words 0 0 ≡ operation → result ≡ length (step_text number words)) × (result ≤ 58) }
 {
-    if takes_two(step) {
+    if takes_two(operation) {
         return 41 + decimal(number);
     }
     48 + decimal(number)
@@ -44,7 +43,7 @@ fn steps(words: &[u32; SHEET_SIZE], lines: usize) -> usize
     let (sheet, _) = words.as_chunks::<LINE_SIZE>();
     let mut n = 0;
     for (k, line) in sheet[..lines].iter().enumerate() {
-        n += step(k as u32 + 1, step_of(line[0]));
+        n += step(k as u32 + 1, line[0]);
     }
     n
 }

@@ -7,15 +7,13 @@ ghost use Rattle.std.specs.Prelude.{[], ◌∷◌, ◌++◌, ◌≤◌, length};
 ghost use Rattle.worksheet_spec.specs.Lines.{most_lines};
 ghost use Rattle.question_spec.specs.Ascii.{ascii, tab};
 ghost use Rattle.question_spec.specs.Questions.{pattern_text};
-ghost use Rattle.transcript_spec.specs.Texts.{decimal, mark_text, line_of};
+ghost use Rattle.transcript_spec.specs.Texts.{decimal, third_text, mark_text, line_of};
 ghost use Rattle.transcript_spec.specs.Texts.{ask_text, step_text, pair_text, total_text, steps_text, shown_text};
-ghost use Rattle.transcript_fields.specs.Inner.{third_of};
 ghost use Rattle.transcript_fields.specs.Writers.{HasRoom, Wrote};
 
 use augmented_spec::Pair;
-use transcript_fields::letters::step_of;
 use transcript_fields::writer::Writer;
-use worksheet_spec::{LINE_SIZE, SHEET_SIZE, Step};
+use worksheet_spec::{LINE_SIZE, SHEET_SIZE};
 
 pub fn put_ask(to: &mut Writer<'_>, number: u32, operation: u32, x: u32, y: u32)
     requires { HasRoom to.old (ask_text number operation x y) }
@@ -29,11 +27,11 @@ pub fn put_ask(to: &mut Writer<'_>, number: u32, operation: u32, x: u32, y: u32)
 }
 
 // What a `step` ends with, from its third operand on.
-fn put_rest(to: &mut Writer<'_>, step: Step, z: u32, res: u32, mark: u32)
-    requires { HasRoom to.old (tab ∷ line_of (third_of step z ∷ pattern_text res ∷ mark_text mark ∷ [])) }
-    ensures { Wrote to.old (tab ∷ line_of (third_of step z ∷ pattern_text res ∷ mark_text mark ∷ [])) to.new }
+fn put_rest(to: &mut Writer<'_>, operation: u32, z: u32, res: u32, mark: u32)
+    requires { HasRoom to.old (tab ∷ line_of (third_text operation z ∷ pattern_text res ∷ mark_text mark ∷ [])) }
+    ensures { Wrote to.old (tab ∷ line_of (third_text operation z ∷ pattern_text res ∷ mark_text mark ∷ [])) to.new }
 {
-    to.third(step, z);
+    to.third(operation, z);
     to.pattern(res);
     to.mark(mark);
 }
@@ -42,13 +40,12 @@ pub fn put_step(to: &mut Writer<'_>, number: u32, line: &[u32; LINE_SIZE])
     requires { HasRoom to.old (step_text number line.now) }
     ensures { Wrote to.old (step_text number line.now) to.new }
 {
-    let step = step_of(line[0]);
-    let [_, x, y, z, result, mark] = *line;
+    let [operation, x, y, z, result, mark] = *line;
     to.bytes(b"step\t");
     to.decimal(number);
-    to.step_letters(step);
+    to.step_letters(operation);
     to.patterns(x, y);
-    put_rest(to, step, z, result, mark);
+    put_rest(to, operation, z, result, mark);
 }
 
 pub fn put_pair(to: &mut Writer<'_>, pair: Pair)

@@ -3,17 +3,18 @@ use Prim.Native.Nat.{ℕ, ◌+◌, ◌/◌, ◌≤◌}
 use Prim.Native.Char.{code}
 use mathlib.Core.Path.{◌≡◌, refl, sym, ◌∙◌}
 use mathlib.Core.Logic.{◌≢◌}
-use mathlib.Core.Bool.{Bool, true, false, cond}
+use mathlib.Core.Bool.{Bool, true, false, cond, ◌||◌}
 use mathlib.Core.List.{List, [], ◌∷◌, ◌++◌}
 use native.Mathlib.Omega.{arith}
 use borrow.Author.Tests.{eq-eqb, ne_eqb, eqb-true, eqb-false}
 use mir.Val.{bool_byte}
 use lib.Dec.{eqb}
-use lib.ListN.{length, length-append}
+use lib.ListN.{length, get_or, length-append}
 use Rattle.augmented_spec.specs.declared.Flags.{Flags}
 use Rattle.augmented_spec.specs.Operations.{operation_of}
 use Rattle.worksheet_spec.specs.declared.Step.{Step}
 use Rattle.worksheet_spec.specs.declared.Step.TheVariants.{Add as add, Subtract as subtract, Multiply as multiply, Fused as fused}
+use Rattle.worksheet_spec.specs.Steps.{step_number}
 use Rattle.question_spec.specs.Ascii.{ascii}
 use Rattle.question_spec.specs.Questions.{operation_letters_by_number, pattern_text}
 use Rattle.question_spec.proofs.ThreeLetters.{three-letters}
@@ -34,6 +35,14 @@ pub step-letters-length : (o : ℕ) → length (step_letters_by_number o) ≡ 3
 unfolding step_letters_by_number
 step-letters-length o = step-letters (step_of o)
 
+-- three letters, one by one
+pub by-letters : (t l : List ℕ) → t ≡ l → length l ≡ 3 → (get_or t 0 0 ∷ get_or t 1 0 ∷ get_or t 2 0 ∷ []) ≡ l
+by-letters t (a ∷ b ∷ c ∷ []) e h = rw e
+by-letters t [] e h = absurd (omega arith)
+by-letters t (a ∷ []) e h = absurd (omega arith)
+by-letters t (a ∷ b ∷ []) e h = absurd (omega arith)
+by-letters t (a ∷ b ∷ c ∷ d ∷ l) e h = absurd (omega arith)
+
 -- ---- patterns
 pub halves : (x : ℕ) → half_text (x / 65536) ++ half_text x ≡ pattern_text x
 halves x =
@@ -43,6 +52,37 @@ halves x =
     rw (a, b, c)
 
 -- ---- the third operand
+of-step : (a b c : Bool) → takes_two (cond a add (cond b subtract (cond c multiply fused))) ≡ (a || (b || c))
+of-step true b c = refl
+of-step false true c = refl
+of-step false false true = refl
+of-step false false false = refl
+
+abbrev one_of_two : ℕ → Bool
+one_of_two o = eqb o (step_number add) || (eqb o (step_number subtract) || eqb o (step_number multiply))
+
+by_number : (o : ℕ) → takes_two (step_of o) ≡ one_of_two o
+by_number o = of-step (eqb o (step_number add)) (eqb o (step_number subtract)) (eqb o (step_number multiply))
+
+any_of : (a b c : Bool) (o : ℕ) → (a ≡ false → o ≢ step_number add) → (b ≡ false → o ≢ step_number subtract) → (c ≡ false → o ≢ step_number multiply)
+    → step_number add ≤ o → o ≤ step_number multiply → true ≡ (a || (b || c))
+any_of true b c o p q r h k = refl
+any_of false true c o p q r h k = refl
+any_of false false true o p q r h k = refl
+any_of false false false o p q r h k = absurd (omega (arith, p refl, q refl, r refl))
+
+pub takes_two_lem : (o : ℕ) → step_number add ≤ o → o ≤ step_number multiply → true ≡ takes_two (step_of o)
+takes_two_lem o h k =
+    any_of (eqb o (step_number add)) (eqb o (step_number subtract)) (eqb o (step_number multiply)) o (eqb-false o (step_number add)) (eqb-false o (step_number subtract))
+    (eqb-false o (step_number multiply)) h k ∙ sym (by_number o)
+
+pub takes-three : (o : ℕ) → (step_number add ≤ o → o ≤ step_number multiply → ⊥) → false ≡ takes_two (step_of o)
+takes-three o n =
+    let a : o ≢ step_number add = λ e. n (omega arith) (omega arith) in
+    let b : o ≢ step_number subtract = λ e. n (omega arith) (omega arith) in
+    let c : o ≢ step_number multiply = λ e. n (omega arith) (omega arith) in
+    rw (ne_eqb o (step_number add) a, ne_eqb o (step_number subtract) b, ne_eqb o (step_number multiply) c)
+
 pub third-unused : (o z : ℕ) (two : Bool) → two ≡ true → two ≡ takes_two (step_of o) → third_text o z ≡ ascii "-"
 unfolding third_text
 third-unused o z two t e = rw (sym e ∙ t)

@@ -14,10 +14,10 @@ returns-in_err-take-clause-writes g c =
 
 pub returns-then-goes_on-clause-next : goal.returns-then-goes_on-clause-next
 returns-then-goes_on-clause-next g c =
-    taken c.args.got c.in-Ok.got c.in-Ok.is c.args.bytes.now _ _ _ _ _ c.min-n.result c.min-n.ensures c.if-got-eq0.false (Continue _) (sym c.if-goes_on.true ∙ c.goes_on.ensures)
-    c.in_ok-take.ensures.takes
+    let flow = taken c.args.got c.in-Ok.got c.in-Ok.is c.args.bytes.now _ _ _ _ _ c.min-n.result c.min-n.ensures c.if-got-eq0.false in
+    flow (Continue _) (sym c.if-goes_on.true ∙ c.goes_on.ensures) c.in_ok-take.ensures.takes
 
 pub returns-else-goes_on-clause-next : goal.returns-else-goes_on-clause-next
 returns-else-goes_on-clause-next g c =
-    taken c.args.got c.in-Ok.got c.in-Ok.is c.args.bytes.now _ _ _ _ _ c.min-n.result c.min-n.ensures c.if-got-eq0.false (Break _) (sym c.if-goes_on.false ∙ c.goes_on.ensures)
-    c.in_ok-take.ensures.takes
+    let flow = taken c.args.got c.in-Ok.got c.in-Ok.is c.args.bytes.now _ _ _ _ _ c.min-n.result c.min-n.ensures c.if-got-eq0.false in
+    flow (Break _) (sym c.if-goes_on.false ∙ c.goes_on.ensures) c.in_ok-take.ensures.takes

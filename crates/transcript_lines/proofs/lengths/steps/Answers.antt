@@ -5,7 +5,7 @@ use native.Mathlib.Omega.{arith}
 use lib.ListN.{get_or, drop}
 use Rattle.std.proofs.lemmas.List.{get_or-take}
 use Rattle.worksheet_spec.specs.Lines.{line_size}
-use Rattle.transcript_spec.specs.Texts.{step_of, steps_text}
+use Rattle.transcript_spec.specs.Texts.{steps_text}
 use Rattle.transcript_spec.proofs.WholeSteps.{more-length}
 use Rattle.transcript_lines.proofs.SheetLines.{line_at}
 use Rattle.transcript_lines.proofs.lengths.steps.Goals as goal
@@ -20,4 +20,4 @@ loop-k-preserved c =
     let line = line_at l.k c.args.lines words c.as_chunks.result.0.now (omega arith) (omega arith) (omega arith) c.as_chunks.ensures.front in
     let its = drop (line_size * l.k) words in
     let first = sym (ap (λ (w : List ℕ). get_or w 0 0) line ∙ get_or-take line_size its 0 0 (omega arith)) in
-    (omega (arith, more-length l.k words, c.step-n.ensures.0 its (ap step_of first ∙ sym c.step_of.ensures)), omega arith)
+    (omega (arith, more-length l.k words, c.step-n.ensures.0 its first), omega arith)

@@ -1,15 +1,17 @@
 use mathlib.Core.Path.{ap, ◌∙◌}
-use mathlib.Core.List.{◌∷◌}
 use native.Mathlib.Omega.{arith}
 use lib.ListN.{length}
-use Rattle.question_spec.specs.Ascii.{tab}
 use Rattle.question_spec.specs.Questions.{operation_letters, operation_letters_by_number}
+use Rattle.transcript_fields.proofs.Writing.{and_then}
 use Rattle.transcript_fields.proofs.writer.Writer.letters.Goals as goal
+
+pub byte-requires : goal.byte-requires
+byte-requires c = omega (arith, c.requires)
 
 pub bytes-requires : goal.bytes-requires
 unfolding operation_letters_by_number
-bytes-requires c = omega (arith, c.requires, ap length (c.question.ensures ∙ ap (λ o. tab ∷ operation_letters o) c.operation_of.ensures))
+bytes-requires c = omega (arith, c.requires, ap length (c.question.ensures ∙ ap operation_letters c.operation_of.ensures))
 
 pub returns : goal.returns
 unfolding operation_letters_by_number
-returns c = rw (c.question.ensures ∙ ap (λ o. tab ∷ operation_letters o) c.operation_of.ensures) at c.bytes.ensures
+returns c = and_then c.byte.ensures (rw (c.question.ensures ∙ ap operation_letters c.operation_of.ensures) at c.bytes.ensures)

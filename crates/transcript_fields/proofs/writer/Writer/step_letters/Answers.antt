@@ -1,10 +1,17 @@
-use mathlib.Core.Path.{ap}
+use mathlib.Core.Path.{ap, ◌∙◌}
 use native.Mathlib.Omega.{arith}
 use lib.ListN.{length}
+use Rattle.transcript_spec.specs.Texts.{step_letters, step_letters_by_number}
+use Rattle.transcript_fields.proofs.Writing.{and_then}
 use Rattle.transcript_fields.proofs.writer.Writer.step_letters.Goals as goal
 
+pub byte-requires : goal.byte-requires
+byte-requires c = omega (arith, c.requires)
+
 pub bytes-requires : goal.bytes-requires
-bytes-requires c = omega (arith, c.requires, ap length c.of_step.ensures)
+unfolding step_letters_by_number
+bytes-requires c = omega (arith, c.requires, ap length (c.of_step.ensures ∙ ap step_letters c.step_of.ensures))
 
 pub returns : goal.returns
-returns c = rw c.of_step.ensures at c.bytes.ensures
+unfolding step_letters_by_number
+returns c = and_then c.byte.ensures (rw (c.of_step.ensures ∙ ap step_letters c.step_of.ensures) at c.bytes.ensures)

@@ -11,6 +11,7 @@ pub mod Fitness
 pub mod Zeros
 pub mod TermAdded
 pub mod Answers
+pub mod Told
 pub mod Terms
 pub mod LeadingDigits
 pub mod Rest

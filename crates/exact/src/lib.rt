@@ -51,9 +51,12 @@ pub fn signed_sum(s: bool, a: u64, t: bool, b: u64) -> Signed
 pub fn product(x: u32, y: u32) -> Class
     ensures { ProductIs (times (decode binary32 x) (decode binary32 y)) result }
 {
-    match classify(x) {
+    // Both are classed first.
+    let a = classify(x);
+    let b = classify(y);
+    match a {
         Class::NotANumber => Class::NotANumber,
-        Class::Infinite(s) => infinite_times(s, classify(y)),
-        Class::Finite(m) => finite_times(m, classify(y)),
+        Class::Infinite(s) => infinite_times(s, b),
+        Class::Finite(m) => finite_times(m, b),
     }
 }

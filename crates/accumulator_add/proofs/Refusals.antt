@@ -1,5 +1,5 @@
 -- The refusals of an adding call, but for an operand that is not finite.
-use Rattle.std.proofs.Common.{◌≡◌, ℕ, true, List, Ok, Err, sym, ap, ◌∙◌}
+use Rattle.std.proofs.Common.{◌≡◌, ℕ, true, List, Err, ap, ◌∙◌}
 use Rattle.pattern_spec.specs.Answer.{refused}
 use Rattle.accumulator_spec.specs.declared.NotDone.{NotDone}
 use Rattle.accumulator_spec.specs.Totals.{most_terms, count, Term, finite_operands, Adds}

@@ -23,9 +23,10 @@ use Rattle.rounding_spec.proofs.Multiple.{digits-zero}
 use Rattle.accumulator_spec.proofs.Terms.{term-finite, special}
 use Rattle.accumulator_words.specs.Inner.{after_placed}
 use Rattle.accumulator_words.specs.declared.Placed.{Placed}
-use Rattle.std.proofs.Common.{Ok, inl, inr, eq-or-lt_of_le}
+use Rattle.std.proofs.Common.{Ok, Err, inl, inr, eq-or-lt_of_le}
 use Rattle.accumulator_fit.specs.Inner.{fault}
-use Rattle.accumulator_fit.proofs.Lent.{Sound, Takes, sound}
+use Rattle.accumulator_spec.specs.declared.NotDone.TheVariants as not-done
+use Rattle.accumulator_fit.proofs.Lent.{Length, Unfit, Sound, Full, Takes, by_fault, sound}
 use Rattle.accumulator_words.proofs.Placing.{same-integer}
 use Rattle.accumulator_spec.proofs.Adding.{fit-bounds}
 use Rattle.accumulator_add.specs.Inner.{noted}
@@ -50,9 +51,15 @@ module _ (t : List ℕ) (full : length t ≡ total_size) (term : Placed) (new : 
 pub refused-term : (t : List ℕ) (x : Term) → Sound t → is_finite (exact_term x) ≡ false → Adds t x (refused 7) t
 refused-term t x k o = special t x k.0 k.1 o
 
+-- one of the four, of a total that a term is to go into
+pub to-add : {G : Type 0} (t : List ℕ) → (Length t → fault t ≡ Err not-done.Length → G) → (Unfit t → fault t ≡ Err not-done.Unfit → G) → (Full t → fault t ≡ Ok tt → G)
+    → (Takes t → fault t ≡ Ok tt → G) → G
+to-add t five six eight none =
+    by_fault t five six (λ h n. elim (eq-or-lt_of_le (fit-bounds t h.1).few) [ inl k ↦ eight (h, k) n | inr k ↦ none (h, k) n ])
+
 -- a sound total that is not full,
 pub takes : (t : List ℕ) → fault t ≡ Ok tt → (count t ≡ most_terms → ⊥) → Takes t
-takes t h n = let k = sound t h in let few = (fit-bounds t k.1).few in (k, elim (eq-or-lt_of_le few) [ inl e ↦ absurd (n e) | inr l ↦ l ])
+takes t h n = to-add t (λ l e. absurd cc) (λ u e. absurd cc) (λ f e. absurd (n f.1)) (λ k e. k)
 
 -- and what is told of one with room
 pub has-takes : (t : List ℕ) → (fault t ≡ Ok tt) × (count t < most_terms) × (sign_word t ≡ 1) → Takes t

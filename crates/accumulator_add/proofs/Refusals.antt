@@ -1,12 +1,16 @@
 -- The refusals of an adding call, but for an operand that is not finite.
-use Rattle.std.proofs.Common.{◌≡◌, ℕ, true, List, Ok, Err, sym, ap, ◌∙◌}
-use Rattle.pattern_spec.specs.Answer.{refused}
+use Rattle.std.proofs.Common.{◌≡◌, ℕ, true, List, Err, ap, ◌∙◌}
+use Rattle.pattern_spec.specs.Answer.{Answer, refused, refusal_of}
 use Rattle.accumulator_spec.specs.declared.NotDone.{NotDone}
 use Rattle.accumulator_spec.specs.Totals.{most_terms, count, Term, finite_operands, Adds}
 use Rattle.accumulator_spec.specs.Answers.{answer_of}
 use Rattle.accumulator_spec.proofs.Answers.{adding-length, adding-unfit, adding-full, refuses}
 use Rattle.accumulator_fit.specs.Inner.{fault}
 use Rattle.accumulator_fit.proofs.Lent.{Sound, by_fault}
+
+-- an answer by its number
+pub by-refusal : {P : Type 0} {n : ℕ} {b : Answer (Unit {0})} (a : Answer (Unit {0})) → n ≡ refusal_of a → (a ≡ b) × P → (n ≡ refusal_of b) × P
+by-refusal a e r = (e ∙ ap (refusal_of {A = Unit {0}}) r.0, r.1)
 
 module _ (t : List ℕ) (x : Term) where
   pub fault-adds : (e : NotDone) → Err e ≡ fault t → Adds t x (answer_of (Err e)) t

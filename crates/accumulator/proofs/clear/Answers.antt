@@ -1,5 +1,4 @@
 use Rattle.std.proofs.Common.{ℕ, replicate, ap, ◌∙◌}
-use Rattle.accumulator_spec.specs.Totals.{total_size}
 use Rattle.accumulator_spec.proofs.Answers.{clearing-length, clearing-done}
 use Rattle.accumulator.proofs.clear.Goals as goal
 

@@ -1,6 +1,5 @@
-use mathlib.Core.Path.{ap, ◌∙◌}
-use Rattle.pattern_spec.specs.Answer.{refusal_of}
+use Rattle.accumulator_add.proofs.Refusals.{by-refusal}
 use Rattle.accumulator.proofs.numbers.clear.Goals as goal
 
 pub returns : goal.returns
-returns c = let e = c.clear.ensures in (c.number.ensures ∙ ap refusal_of e.0, e.1)
+returns c = by-refusal _ c.number.ensures c.clear.ensures

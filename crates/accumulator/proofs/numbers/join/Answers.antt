@@ -1,10 +1,9 @@
-use mathlib.Core.Path.{refl, ap, ◌∙◌}
-use Rattle.pattern_spec.specs.Answer.{refusal_of}
+use mathlib.Core.Path.{refl}
+use Rattle.accumulator_add.proofs.Refusals.{by-refusal}
 use Rattle.accumulator.proofs.numbers.join.Goals as goal
 
 pub returns : goal.returns
-returns c =
-    let e = c.join.ensures.joins in record {
-      joins_numbered = (c.number.ensures ∙ ap refusal_of e.0, e.1);
-      second_kept = refl;
-    }
+returns c = record {
+  joins_numbered = by-refusal _ c.number.ensures c.join.ensures.joins;
+  second_kept = refl;
+}

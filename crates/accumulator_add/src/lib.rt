@@ -14,7 +14,9 @@ use pattern::classify;
 use pattern_spec::Class;
 use rounding_spec::Number;
 
-// Nearly every total shows at once that nothing but the operand can be refused, and has the sign word 1, which stays.
+// Nearly every total shows at once that nothing but the operand can be refused, and has the sign word 1, which stays. Compiled into its
+// callers: as a call its Result is taken apart behind it, and a term took 1.28 of the time.
+#[inline(always)]
 pub fn add_pattern(total: &mut [u32], x: u32) -> Result<(), NotDone>
     ensures { Adds total.old (of_pattern x) (answer_of result) total.new }
 {

@@ -46,12 +46,12 @@ pub fn signed_sum(s: bool, a: u64, t: bool, b: u64) -> Signed
 }
 
 // The product of two patterns, in units of 2^-298. How significand and exponent share it is free within the bounds of `Product`. Inlined
-// always: as a call it comes back through memory, and `mul` takes 154 instructions in the place of 90.
+// always: as a call it comes back through memory, and `mul` took 64 instructions more.
 #[inline(always)]
 pub fn product(x: u32, y: u32) -> Class
     ensures { ProductIs (times (decode binary32 x) (decode binary32 y)) result }
 {
-    // Both are classed first.
+    // Both are classed before anything is made of them (R11.7).
     let a = classify(x);
     let b = classify(y);
     match a {

@@ -63,7 +63,7 @@ fn sheet(lines: &mut Lines, operation: Operation, x: u32, y: u32) -> Foot
     }
 }
 
-// Of a product the flags alone take 78 instructions, and the pair 136.
+// Of a product the flags alone take 58 instructions fewer than the pair.
 #[tactic(auto, unfolding(augmented_spec::specs::Direct::direct_pair))]
 fn flags(operation: Operation, x: u32, y: u32) -> Flags
     ensures { result ≡ (direct_pair operation binary32 x y).flags }

@@ -31,6 +31,7 @@ pub fn is_cleared(total: &[u32]) -> bool
     total.len() == TOTAL_SIZE && accumulator_words::is_zero(total)
 }
 
+// Compiled into its callers, as accumulator_add's is.
 #[inline(always)]
 pub fn add_pattern(total: &mut [u32], x: u32) -> Result<(), NotDone>
     ensures { Adds total.old (of_pattern x) (answer_of result) total.new }

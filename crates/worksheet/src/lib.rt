@@ -21,7 +21,8 @@ use worksheet_spec::SHEET_SIZE;
 pub use worksheet_spec::{Filled, NotFilled};
 
 // The pair is the one that the lines reach. The flags are the direct pair's. The operation comes as a number, since any may come, and R8.5
-// says what one that is no operation's is told.
+// says what one that is no operation's is told. Compiled into its callers, so that what is refused costs no call: `written` is one.
+#[inline(always)]
 pub fn fill(operation: u32, x: u32, y: u32, words: &mut [u32]) -> Result<Filled, NotFilled>
     ensures { Fills operation x y words.old (answer_filled result) words.new }
 {

@@ -1,7 +1,7 @@
 -- A sheet's lines in rows of zeros are its words, and what filling answers then.
 use mathlib.Core.Path.{◌≡◌, refl, sym, ap, ◌∙◌, subst}
 use mathlib.Core.Bool.{true, false}
-use mathlib.Core.List.{List, [], ◌∷◌, ◌++◌, append_assoc}
+use mathlib.Core.List.{List, [], ◌∷◌, ◌++◌, map, append_assoc}
 use Prim.Native.Nat.{ℕ, zero, suc, ◌+◌, ◌*◌, ◌-◌, ◌≤◌, ◌<◌}
 use native.Mathlib.Omega.{arith}
 use lib.ListN.{length, drop, replicate, length-append}
@@ -18,10 +18,11 @@ use Rattle.worksheet_spec.specs.Sheets.{sheet_of}
 use Rattle.worksheet_spec.specs.Filling.{line_words, lines_words, sheet_words, filled, sheet_answer, filling, HasDirectPair, Fills}
 use Rattle.worksheet_spec.proofs.Filling.{unknown-operation, short-words, fills, refused-words, filled-words}
 use Rattle.worksheet_spec.proofs.Theorems.{line-count, filled-pair}
-use Rattle.worksheet_lines.specs.Inner.{no_lines, from_first, rows_with, Follows, flat}
+use Rattle.worksheet_lines.specs.Inner.{no_lines, from_first, padded, rows_with, Follows, flat}
 use Rattle.worksheet_lines.specs.declared.Foot.{Foot}
 use Rattle.worksheet_lines.specs.declared.Lines.{Lines}
 use Rattle.worksheet_lines.proofs.Rows.{Rows}
+use Rattle.worksheet_lines.proofs.Unused.{new-padded, lines-padded}
 use Rattle.worksheet_lines.proofs.Copied.{flat-snoc}
 
 -- ---- words
@@ -57,9 +58,17 @@ rows_with-words (l ∷ ls) full (suc k) h =
     ∙ rows_with-words ls (full ++ (w ∷ [])) k (omega arith)
     ∙ rw (flat-snoc full w, rest, append_assoc)
 
-pub sheet-words : (ls : List Line) → length ls ≤ most_lines → flat (rows_with (blank most_lines) 0 ls) ≡ sheet_words ls
+-- lines set in blank rows
+pub sheet-rows-words : (ls : List Line) → length ls ≤ most_lines → flat (rows_with (blank most_lines) 0 ls) ≡ sheet_words ls
 unfolding flat sheet_words
-sheet-words ls h = rows_with-words ls [] most_lines h
+sheet-rows-words ls h = rows_with-words ls [] most_lines h
+
+-- lines and unused rows
+pub sheet-words : (ls : List Line) → length ls ≤ most_lines → flat (padded (map line_words ls)) ≡ sheet_words ls
+sheet-words ls h =
+    let filled_rows : Lines = record { rows = rows_with (blank most_lines) 0 ls; used = length ls } in
+    let p = lines-padded no_lines filled_rows ls new-padded.0 (omega (arith, h)) refl (omega arith) in
+    ap (λ (rs : Rows). flat (padded rs)) (sym p.1) ∙ sym (ap flat p.0.zeros) ∙ sheet-rows-words ls h
 
 -- ---- answers
 number-of : (o : Operation) → (is_operation (operation_number o) ≡ true) × (operation_of (operation_number o) ≡ o)
@@ -95,7 +104,7 @@ module _ (o : Operation) (x y : ℕ) (words : List ℕ) where
     fills-words e w =
         let r = answers e in (
           r,
-          w ∙ ap (λ (ws : List ℕ). ws ++ drop sheet_size words) (ap flat rows_filled ∙ sheet-words (sheet_of o x y).lines (line-count o x y).1)
+          w ∙ ap (λ (ws : List ℕ). ws ++ drop sheet_size words) (ap flat rows_filled ∙ sheet-rows-words (sheet_of o x y).lines (line-count o x y).1)
               ∙ sym (filled-words n x y words _ _ (sym r) ∙ ap (λ (p : Operation). sheet_words (sheet_of p x y).lines ++ drop sheet_size words) (number-of o).1),
           subst (HasDirectPair n x y) (sym r) (filled-pair n x y words),
         )

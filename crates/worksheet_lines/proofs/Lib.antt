@@ -1,4 +1,5 @@
 pub mod Row
 pub mod Rows
+pub mod Unused
 pub mod SharedLines
 pub mod Copied

@@ -1,13 +1,13 @@
 -- The lines that sums and products share, as they are written.
 use mathlib.Core.Path.{◌≡◌, refl}
-use mathlib.Core.Bool.{true, false}
+use mathlib.Core.Bool.{Bool, true, false, cond}
 use mathlib.Core.List.{[], ◌∷◌}
-use Prim.Native.Nat.{ℕ, ◌+◌, ◌<◌}
+use Prim.Native.Nat.{ℕ, ◌+◌, ◌<◌, ◌≤◌}
 use native.Mathlib.Omega.{arith}
-use lib.ListN.{length}
+use lib.ListN.{length, length-append}
 use Rattle.worksheet_spec.specs.Constants.{psi, two, minus_two, kappa, plus_zero}
 use Rattle.worksheet_spec.specs.declared.Step.TheVariants.{Subtract as subtract, Multiply as multiply}
-use Rattle.worksheet_spec.specs.Lines.{most_lines, line, minus, equal, is_zero_pattern}
+use Rattle.worksheet_spec.specs.Lines.{most_lines, Line, Sheet, before, line, minus, equal, is_zero_pattern}
 use Rattle.worksheet_spec.specs.Sheets.{recomposition, zero_finish, recomposed_finished, at_edge, edge_finish}
 use Rattle.worksheet_lines.specs.Inner.{Written, Follows}
 use Rattle.worksheet_lines.specs.declared.Foot.{Foot}
@@ -24,6 +24,14 @@ module _ (first second : ℕ) where
   pub not-zero-finished : (start : Lines) → is_zero_pattern second ≡ false → Follows start start (zero_finish first second) (record { first = first; second = second })
   unfolding zero_finish
   not-zero-finished start e = rw e (foot-follows start first second)
+
+one_or_none : (b : Bool) (l : Line) (s t : Sheet) → s.lines ≡ [] → t.lines ≡ [] → length (cond b (before (l ∷ []) s) t).lines ≤ 1
+one_or_none true l s t e f = rw e (omega arith)
+one_or_none false l s t e f = rw f (omega arith)
+
+pub zero-finish-most : (first second : ℕ) → length (zero_finish first second).lines ≤ 1
+unfolding zero_finish
+zero-finish-most first second = one_or_none (is_zero_pattern second) _ _ _ refl refl
 
 -- ---- recomposition
 pub recomposition-length : (a b : ℕ) → length (recomposition a b).lines ≡ 3
@@ -52,7 +60,21 @@ module _ (a b : ℕ) {start here : Lines} {pair : Foot} (p : Follows start here 
   unfolding recomposed_finished
   recomposed-and-finished q = rw (← p.first, ← p.second) (then-sheet (then_lines (none_yet start) p) q)
 
+pub recomposed-finished-most : (a b : ℕ) → length (recomposed_finished a b).lines ≤ 4
+unfolding recomposed_finished
+recomposed-finished-most a b =
+    let r = recomposition a b in
+    omega (arith, length-append r.lines (zero_finish r.first r.second).lines, recomposition-length a b, zero-finish-most r.first r.second)
+
 -- ---- the edge
+two_or_none : (b : Bool) (k l : Line) (s t : Sheet) → s.lines ≡ [] → t.lines ≡ [] → length (cond b (before (k ∷ l ∷ []) s) t).lines ≤ 2
+two_or_none true k l s t e f = rw e (omega arith)
+two_or_none false k l s t e f = rw f (omega arith)
+
+pub edge-finish-most : (a half rest : ℕ) → length (edge_finish a half rest).lines ≤ 2
+unfolding edge_finish
+edge-finish-most a half rest = two_or_none (at_edge half rest) _ _ _ _ refl refl
+
 module _ (a half rest : ℕ) where
   pub at_edge_lem : {start here end : Lines} {first second : ℕ} → at_edge half rest ≡ true → Written start here (line multiply kappa half first)
       → Written here end (line multiply minus_two rest second) → Follows start end (edge_finish a half rest) (record { first = first; second = second })

@@ -1,5 +1,5 @@
 -- What the makers of lines promise each other: lines from a row of a sheet on, as rows of words (R11.10), and the foot that they reach.
-use Rattle.std.specs.Prelude.{ℕ, ◌+◌, ◌≡◌, List, [], ◌∷◌, ◌++◌, length, replicate, set}
+use Rattle.std.specs.Prelude.{ℕ, ◌+◌, ◌-◌, ◌≡◌, ◌≤◌, List, [], ◌∷◌, ◌++◌, length, replicate, set, take}
 use Rattle.worksheet_spec.specs.Lines.{line_size, most_lines, Line, Gives, Sheet}
 use Rattle.worksheet_spec.specs.Filling.{line_words}
 use Rattle.worksheet_lines.specs.declared.Foot.{Foot}
@@ -30,6 +30,19 @@ pub record Follows (before after : Lines) (s : Sheet) (foot : Foot) : Type 0 whe
   pub second : foot.second ≡ s.second
   pub rows : after.rows ≡ rows_with before.rows before.used s.lines
   pub next : after.used ≡ before.used + length s.lines
+
+-- the rows of the lines so far
+abbrev pub used_rows : Lines → List (List ℕ)
+used_rows lines = take lines.used lines.rows
+
+-- all rows: those of lines, and unused ones
+unfoldable pub padded : List (List ℕ) → List (List ℕ)
+padded rows = rows ++ replicate (most_lines - length rows) (replicate line_size 0)
+
+-- No more lines than rows, and the unused rows are zeros (R8.6): so `Lines::new` gives them, and so they stay.
+pub record Padded (lines : Lines) : Type 0 where
+  pub few : lines.used ≤ most_lines
+  pub zeros : lines.rows ≡ padded (used_rows lines)
 
 -- the words of all rows
 unfoldable pub flat : List (List ℕ) → List ℕ

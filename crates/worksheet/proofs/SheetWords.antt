@@ -67,7 +67,7 @@ sheet-rows-words ls h = rows_with-words ls [] most_lines h
 pub sheet-words : (ls : List Line) → length ls ≤ most_lines → flat (padded (map line_words ls)) ≡ sheet_words ls
 sheet-words ls h =
     let filled_rows : Lines = record { rows = rows_with (blank most_lines) 0 ls; used = length ls } in
-    let p = lines-padded no_lines filled_rows ls new-padded.0 (omega (arith, h)) refl (omega arith) in
+    let p = lines-padded no_lines filled_rows ls new-padded (omega (arith, h)) refl (omega arith) in
     ap (λ (rs : Rows). flat (padded rs)) (sym p.1) ∙ sym (ap flat p.0.zeros) ∙ sheet-rows-words ls h
 
 -- ---- answers

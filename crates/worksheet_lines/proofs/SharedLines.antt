@@ -1,7 +1,7 @@
 -- The lines that sums and products share, as they are written.
 use mathlib.Core.Path.{◌≡◌, refl}
 use mathlib.Core.Bool.{Bool, true, false, cond}
-use mathlib.Core.List.{[], ◌∷◌}
+use mathlib.Core.List.{List, [], ◌∷◌, append-nil}
 use Prim.Native.Nat.{ℕ, ◌+◌, ◌<◌, ◌≤◌}
 use native.Mathlib.Omega.{arith}
 use lib.ListN.{length, length-append}
@@ -25,13 +25,14 @@ module _ (first second : ℕ) where
   unfolding zero_finish
   not-zero-finished start e = rw e (foot-follows start first second)
 
-one_or_none : (b : Bool) (l : Line) (s t : Sheet) → s.lines ≡ [] → t.lines ≡ [] → length (cond b (before (l ∷ []) s) t).lines ≤ 1
-one_or_none true l s t e f = rw e (omega arith)
-one_or_none false l s t e f = rw f (omega arith)
+-- where a test tells whether lines lead to a foot, so many at most
+at-most : (b : Bool) (ls : List Line) (s t : Sheet) → s.lines ≡ [] → t.lines ≡ [] → length (cond b (before ls s) t).lines ≤ length ls
+at-most true ls s t e f = rw (e, append-nil ls) (omega arith)
+at-most false ls s t e f = rw f (omega arith)
 
 pub zero-finish-most : (first second : ℕ) → length (zero_finish first second).lines ≤ 1
 unfolding zero_finish
-zero-finish-most first second = one_or_none (is_zero_pattern second) _ _ _ refl refl
+zero-finish-most first second = at-most (is_zero_pattern second) (_ ∷ []) _ _ refl refl
 
 -- ---- recomposition
 pub recomposition-length : (a b : ℕ) → length (recomposition a b).lines ≡ 3
@@ -67,13 +68,9 @@ recomposed-finished-most a b =
     omega (arith, length-append r.lines (zero_finish r.first r.second).lines, recomposition-length a b, zero-finish-most r.first r.second)
 
 -- ---- the edge
-two_or_none : (b : Bool) (k l : Line) (s t : Sheet) → s.lines ≡ [] → t.lines ≡ [] → length (cond b (before (k ∷ l ∷ []) s) t).lines ≤ 2
-two_or_none true k l s t e f = rw e (omega arith)
-two_or_none false k l s t e f = rw f (omega arith)
-
 pub edge-finish-most : (a half rest : ℕ) → length (edge_finish a half rest).lines ≤ 2
 unfolding edge_finish
-edge-finish-most a half rest = two_or_none (at_edge half rest) _ _ _ _ refl refl
+edge-finish-most a half rest = at-most (at_edge half rest) (_ ∷ _ ∷ []) _ _ refl refl
 
 module _ (a half rest : ℕ) where
   pub at_edge_lem : {start here end : Lines} {first second : ℕ} → at_edge half rest ≡ true → Written start here (line multiply kappa half first)

@@ -1,5 +1,5 @@
--- Lines whose unused rows are zeros: new ones are so, and stay so with a line more and with the lines of a sheet more. Who keeps lines
--- of its own, and begins with new ones, has from these laws what is in its rows.
+-- Lines whose unused rows are zeros: new ones are so, and stay so with lines more, where there is room for them. A crate that keeps lines
+-- of its own, and begins with new ones, has from these laws what stands in its rows.
 use mathlib.Core.Path.{◌≡◌, refl, sym, ap, ◌∙◌}
 use mathlib.Core.List.{List, [], ◌∷◌, ◌++◌, map, append-nil}
 use Prim.Native.Nat.{ℕ, suc, ◌+◌, ◌-◌, ◌<◌, ◌≤◌}
@@ -9,7 +9,7 @@ use lib.ListN.{length, take, set, replicate, length-append, length-replicate, le
 use lib.Seq.{take-suc-set, length-take-le, set-append_seam, append_snoc}
 use Rattle.worksheet_spec.specs.Lines.{line_size, most_lines, Line, Sheet}
 use Rattle.worksheet_spec.specs.Filling.{line_words}
-use Rattle.worksheet_lines.specs.Inner.{no_lines, used_rows, padded, Padded, rows_with, Written, Follows}
+use Rattle.worksheet_lines.specs.Inner.{no_lines, from_first, used_rows, padded, Padded, rows_with, Written, Follows}
 use Rattle.worksheet_lines.specs.declared.Foot.{Foot}
 use Rattle.worksheet_lines.specs.declared.Lines.{Lines}
 use Rattle.worksheet_lines.proofs.Rows.{Rows}
@@ -45,25 +45,28 @@ module _ (rows : Rows) (n : ℕ) (row : List ℕ) (room : n < most_lines) (whole
       ∙ sym (ap padded row-added)
 
 -- ---- new lines
-pub new-padded : Padded no_lines × (used_rows no_lines ≡ [])
+pub new-padded : Padded no_lines
 unfolding padded
-new-padded = (record { few = omega arith; zeros = refl }, refl)
+new-padded = record { few = omega arith; zeros = refl }
 
--- ---- as many rows as there are, and as many used ones as `used` says
+pub new-unused : used_rows no_lines ≡ []
+new-unused = refl
+
+-- ---- `most_lines` rows in all, and `used` of them used
 module _ {lines : Lines} (p : Padded lines) where
   pub all-rows : length lines.rows ≡ most_lines
   unfolding padded
   all-rows =
       let used : Rows = used_rows lines in
-      let none : List ℕ = replicate line_size 0 in
-      let unused : Rows = replicate (most_lines - length used) none in
+      let blank : List ℕ = replicate line_size 0 in
+      let unused : Rows = replicate (most_lines - length used) blank in
       let front : length used ≤ lines.used = omega (arith, length-take lines.used lines.rows) in
-      ap length p.zeros ∙ length-append used unused ∙ omega (arith, p.few, front, length-replicate (most_lines - length used) none)
+      ap length p.zeros ∙ length-append used unused ∙ omega (arith, p.few, front, length-replicate (most_lines - length used) blank)
 
   pub used-length : length (used_rows lines) ≡ lines.used
   used-length = length-take-le lines.used lines.rows (omega (arith, p.few, all-rows))
 
--- ---- lines more
+-- ---- a line more
 module _ {before after : Lines} (p : Padded before) where
   row-kept : (row : List ℕ) → before.used < most_lines → after.rows ≡ set before.rows before.used row → after.used ≡ before.used + 1
       → Padded after × (used_rows after ≡ used_rows before ++ (row ∷ []))
@@ -75,7 +78,7 @@ module _ {before after : Lines} (p : Padded before) where
   pub written-padded : {l : Line} → before.used < most_lines → Written before after l → Padded after × (used_rows after ≡ used_rows before ++ (line_words l ∷ []))
   written-padded {l} room w = row-kept (line_words l) room w.rows w.next
 
--- ---- more lines than one
+-- ---- any number of lines more
 pub lines-padded : (before after : Lines) (ls : List Line) → Padded before → before.used + length ls ≤ most_lines → after.rows ≡ rows_with before.rows before.used ls
     → after.used ≡ before.used + length ls → Padded after × (used_rows after ≡ used_rows before ++ map line_words ls)
 unfolding rows_with
@@ -92,3 +95,10 @@ lines-padded before after (l ∷ ls) p room e k =
 pub follows-padded : {before after : Lines} {s : Sheet} {foot : Foot} → Padded before → before.used + length s.lines ≤ most_lines → Follows before after s foot
     → Padded after × (used_rows after ≡ used_rows before ++ map line_words s.lines)
 follows-padded {before} {after} {s} p room f = lines-padded before after s.lines p room f.rows f.next
+
+-- ---- a sheet in new lines
+pub new-follows-padded : {start after : Lines} {s : Sheet} {foot : Foot} → start ≡ no_lines → length s.lines ≤ most_lines → Follows (from_first start) after s foot
+    → Padded after × (used_rows after ≡ map line_words s.lines)
+new-follows-padded {start} {after} {s} {foot} new room f =
+    let g : Follows no_lines after s foot = rw (ap from_first (sym new)) f in
+    follows-padded {before = no_lines} {after = after} new-padded (omega (arith, room)) g

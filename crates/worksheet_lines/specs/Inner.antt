@@ -1,4 +1,5 @@
 -- What the makers of lines promise each other: lines from a row of a sheet on, as rows of words (R11.10), and the foot that they reach.
+-- And of lines that began with new ones: what stands in the rows behind them.
 use Rattle.std.specs.Prelude.{ℕ, ◌+◌, ◌-◌, ◌≡◌, ◌≤◌, List, [], ◌∷◌, ◌++◌, length, replicate, set, take}
 use Rattle.worksheet_spec.specs.Lines.{line_size, most_lines, Line, Gives, Sheet}
 use Rattle.worksheet_spec.specs.Filling.{line_words}
@@ -35,11 +36,12 @@ pub record Follows (before after : Lines) (s : Sheet) (foot : Foot) : Type 0 whe
 abbrev pub used_rows : Lines → List (List ℕ)
 used_rows lines = take lines.used lines.rows
 
--- all rows: those of lines, and unused ones
+-- all rows: those of lines, and zeros in the unused ones, so many as there are
 unfoldable pub padded : List (List ℕ) → List (List ℕ)
 padded rows = rows ++ replicate (most_lines - length rows) (replicate line_size 0)
 
--- No more lines than rows, and the unused rows are zeros (R8.6): so `Lines::new` gives them, and so they stay.
+-- No more lines than rows, and the unused rows are zeros (R8.6). So `Lines::new` gives them, and so they stay where lines with room go into
+-- the next rows; a sheet that begins in the first row, over earlier lines, leaves those behind it.
 pub record Padded (lines : Lines) : Type 0 where
   pub few : lines.used ≤ most_lines
   pub zeros : lines.rows ≡ padded (used_rows lines)

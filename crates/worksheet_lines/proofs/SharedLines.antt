@@ -25,7 +25,7 @@ module _ (first second : ℕ) where
   unfolding zero_finish
   not-zero-finished start e = rw e (foot-follows start first second)
 
--- where a test tells whether lines lead to a foot, so many at most
+-- lines that a test puts before a sheet of none: no more than those
 at-most : (b : Bool) (ls : List Line) (s t : Sheet) → s.lines ≡ [] → t.lines ≡ [] → length (cond b (before ls s) t).lines ≤ length ls
 at-most true ls s t e f = rw (e, append-nil ls) (omega arith)
 at-most false ls s t e f = rw f (omega arith)

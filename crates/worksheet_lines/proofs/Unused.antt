@@ -15,7 +15,7 @@ use Rattle.worksheet_lines.specs.declared.Lines.{Lines}
 use Rattle.worksheet_lines.proofs.Rows.{Rows}
 
 -- ---- a row more
-module _ (rows : Rows) (n : ℕ) (row : List ℕ) (room : n < most_lines) (whole : length rows ≡ most_lines) (unused : rows ≡ padded (take n rows)) where
+module _ (rows : List (List ℕ)) (n : ℕ) (row : List ℕ) (room : n < most_lines) (whole : length rows ≡ most_lines) (unused : rows ≡ padded (take n rows)) where
   abbrev blank : List ℕ
   blank = replicate line_size 0
 

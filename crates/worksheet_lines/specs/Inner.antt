@@ -36,12 +36,12 @@ pub record Follows (before after : Lines) (s : Sheet) (foot : Foot) : Type 0 whe
 abbrev pub used_rows : Lines → List (List ℕ)
 used_rows lines = take lines.used lines.rows
 
--- all rows: those of lines, and zeros in the unused ones, so many as there are
+-- rows of lines, and after them rows of zeros, up to `most_lines` rows
 unfoldable pub padded : List (List ℕ) → List (List ℕ)
 padded rows = rows ++ replicate (most_lines - length rows) (replicate line_size 0)
 
--- No more lines than rows, and the unused rows are zeros (R8.6). So `Lines::new` gives them, and so they stay where lines with room go into
--- the next rows; a sheet that begins in the first row, over earlier lines, leaves those behind it.
+-- No more lines than rows, and the unused rows are zeros (R8.6). So `Lines::new` gives them, and so they stay where further lines go into
+-- the next rows, with room for them. A sheet that begins in the first row, over earlier lines, leaves those behind it.
 pub record Padded (lines : Lines) : Type 0 where
   pub few : lines.used ≤ most_lines
   pub zeros : lines.rows ≡ padded (used_rows lines)
